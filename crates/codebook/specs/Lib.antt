@@ -1,0 +1,4 @@
+pub mod Refusals
+pub mod Book
+pub mod Loading
+pub mod Limits

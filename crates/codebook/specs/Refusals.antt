@@ -1,0 +1,40 @@
+-- The refusals' numbers and words: document 01, "Refusal table". Assumes nothing.
+use mathlib.Core.Bool.{Bool, true, false}
+use mathlib.Core.Option.{Option, some}
+use Prim.Native.Nat.{ℕ}
+use Prim.Native.String.{String}
+use Rattle.codebook.specs.declared.Refusal.{Refusal}
+use Rattle.codebook.specs.declared.Refusal.the-variants.{Truncated, Unknown, Misplaced, OutOfRange, TooManyTied, TooManyFree, Mismatch, BadSetting, BadValue, AboveLimit, Unreadable}
+
+-- a refusal's number
+unfoldable pub number : Refusal → ℕ
+number Truncated = 1
+number Unknown = 2
+number Misplaced = 3
+number OutOfRange = 4
+number TooManyTied = 5
+number TooManyFree = 6
+number Mismatch = 7
+number BadSetting = 8
+number BadValue = 9
+number AboveLimit = 10
+number Unreadable = 11
+
+-- the trade's word for it
+unfoldable pub word : Refusal → String
+word Truncated = "short"
+word Unknown = "strange"
+word Misplaced = "misplaced"
+word OutOfRange = "off range"
+word TooManyTied = "overtied"
+word TooManyFree = "heavy"
+word Mismatch = "misfit"
+word BadSetting = "bad setting"
+word BadValue = "bad value"
+word AboveLimit = "faint"
+word Unreadable = "unreadable"
+
+-- refusal r where the test fails, else what comes after it
+unfoldable pub unless : Bool → Refusal → Option Refusal → Option Refusal
+unless true r other = other
+unless false r other = some r

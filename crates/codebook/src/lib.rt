@@ -1,0 +1,58 @@
+// The types of the code book: its commands, the refusals, and what the load call answers.
+// specs/Refusals.antt gives document 01's number and word for each refusal; specs/Loading.antt says what loading is.
+
+// Why a call is refused: document 01, "Refusal table".
+pub enum Refusal {
+    // 1, short: the book ends in a command, or where one is due.
+    Truncated,
+    // 2, strange: a command byte that is not listed.
+    Unknown,
+    // 3, misplaced: a listed command where it may not stand, or bytes after the end.
+    Misplaced,
+    // 4, off range: an operand outside its range, a count of 0, or past n.
+    OutOfRange,
+    // 5, overtied: a 33rd tied index.
+    TooManyTied,
+    // 6, heavy: a block with over 8 free indices.
+    TooManyFree,
+    // 7, misfit: a lent length is wrong, or k is not 32 for a record.
+    Mismatch,
+    // 8, bad setting: L, D or T out of range.
+    BadSetting,
+    // 9, bad value: a soft value, a bit or a record's field out of range.
+    BadValue,
+    // 10, faint: the discrepancy is above T.
+    AboveLimit,
+    // 11, unreadable: a status of 5 to 7, or a spare bit that is 1.
+    Unreadable,
+}
+
+// Whether a call did what it is for.
+pub enum Outcome {
+    Done,
+    Refused(Refusal),
+}
+
+// A command of a code book with its operands: document 01, "The code book".
+pub enum Command {
+    // 10: the length is 2^m.
+    Length(u32),
+    // 01, 02: the next indices, as many as the count says, are free or zero.
+    Free(u32),
+    Zero(u32),
+    // 03, 04: the next index is tied to this one; one more term of that tie.
+    Tie(u32),
+    Term(u32),
+    // 05: the next block has length 2^j and this bias.
+    Block(u32, i32),
+    // 7F: the end.
+    End,
+}
+
+// What the load call answers: the length n, the number of free indices k, the number of blocks V; zeros where it is refused.
+pub struct Shape {
+    pub outcome: Outcome,
+    pub n: u32,
+    pub k: u32,
+    pub blocks: u32,
+}

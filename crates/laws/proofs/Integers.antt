@@ -1,0 +1,45 @@
+-- The order of the integers by its test, magnitudes of sums, and negated sums: by cases on the signs. Assumes nothing.
+use mathlib.Core.Path.{_≡_, refl, sym, ap, _∙_}
+use mathlib.Core.Bool.{Bool, true, false, cond, not}
+use Prim.Native.Nat.{ℕ, zero, suc, _+_, _-_, _≤_, _<_}
+use native.Mathlib.Nat.{le-antisymm, lt-irrefl}
+use native.Mathlib.Omega.{arith}
+use lib.IntN.{ℤ, pos, negsuc, negℤ, natAbs, subℕ, _+ℤ_, _-ℤ_}
+use lib.Signed.{ltZ}
+use lib.Dec.{T, ltb, ltb→lt, lt→ltb, nltb→le}
+use Rattle.laws.proofs.Tests.{cond-case}
+
+pub ltZ-irrefl : (a : ℤ) → T (ltZ a a) → ⊥
+ltZ-irrefl (pos a) t = lt-irrefl a (ltb→lt a a t)
+ltZ-irrefl (negsuc a) t = lt-irrefl a (ltb→lt a a t)
+
+pub ltZ-trans : (a b c : ℤ) → T (ltZ a b) → T (ltZ b c) → T (ltZ a c)
+ltZ-trans (pos a) (pos b) (pos c) h k = lt→ltb a c (omega (arith, ltb→lt a b h, ltb→lt b c k))
+ltZ-trans (pos a) (pos b) (negsuc c) h k = k
+ltZ-trans (pos a) (negsuc b) c h k = absurd h
+ltZ-trans (negsuc a) (pos b) (pos c) h k = tt
+ltZ-trans (negsuc a) (pos b) (negsuc c) h k = absurd k
+ltZ-trans (negsuc a) (negsuc b) (pos c) h k = tt
+ltZ-trans (negsuc a) (negsuc b) (negsuc c) h k = lt→ltb c a (omega (arith, ltb→lt b a h, ltb→lt c b k))
+
+pub ltZ-total : (a b : ℤ) → T (not (ltZ a b)) → T (not (ltZ b a)) → a ≡ b
+ltZ-total (pos a) (pos b) h k = ap pos (le-antisymm (nltb→le b a k) (nltb→le a b h))
+ltZ-total (pos a) (negsuc b) h k = absurd k
+ltZ-total (negsuc a) (pos b) h k = absurd h
+ltZ-total (negsuc a) (negsuc b) h k = ap negsuc (le-antisymm (nltb→le b a h) (nltb→le a b k))
+
+-- ---- magnitudes
+
+pub neg-abs : (z : ℤ) → natAbs (negℤ z) ≡ natAbs z
+neg-abs (pos zero) = refl
+neg-abs (pos (suc n)) = refl
+neg-abs (negsuc n) = refl
+
+sub-abs : (a b : ℕ) → natAbs (subℕ a b) ≤ a + b
+sub-abs a b = cond-case (λ (z : ℤ). natAbs z ≤ a + b) (ltb a b) (λ t. omega (arith, ltb→lt a b t)) (λ t. omega arith)
+
+pub add-abs : (a b : ℤ) → natAbs (a +ℤ b) ≤ natAbs a + natAbs b
+add-abs (pos a) (pos b) = omega arith
+add-abs (pos a) (negsuc b) = sub-abs a (suc b)
+add-abs (negsuc a) (pos b) = omega (arith, sub-abs b (suc a))
+add-abs (negsuc a) (negsuc b) = omega arith

@@ -1,0 +1,124 @@
+-- Laws of the notions on lists, and of lists cut and joined, each by induction on the list. Assumes nothing.
+use mathlib.Core.Path.{_≡_, refl, sym, ap, _∙_, subst}
+use mathlib.Core.Bool.{Bool, true, false, cond, not}
+use mathlib.Core.List.{List, [], _∷_, _++_, map, zipWith}
+use mathlib.Core.Logic.{_≢_}
+use Prim.Native.Nat.{ℕ, zero, suc, _+_, _-_, _*_, _≤_, _<_, min, zero-le}
+use native.Mathlib.Nat.{not-suc-le-zero, le-of-suc-le-suc, mul-suc, sub-zero, zero-sub, suc-sub-suc}
+use native.Mathlib.Omega.{arith}
+use lib.ListN.{length, getD, take, drop, set, replicate}
+use lib.Seq.{take-nil}
+use lib.Dec.{T}
+use Rattle.laws.specs.Lists.{All, keep, Distinct, sum}
+use Rattle.laws.proofs.Tests.{cond-case}
+
+module _ {A : Type 0} where
+  pub all-map : {P Q : A → Type 0} → ((x : A) → P x → Q x) → (xs : List A) → All P xs → All Q xs
+  unfolding All
+  all-map f [] h = tt
+  all-map f (x ∷ xs) h = (f x (h .0), all-map f xs (h .1))
+
+  pub all-any : {P : A → Type 0} → ((x : A) → P x) → (xs : List A) → All P xs
+  unfolding All
+  all-any f [] = tt
+  all-any f (x ∷ xs) = (f x, all-any f xs)
+
+  pub all-take : (P : A → Type 0) (n : ℕ) (xs : List A) → All P xs → All P (take n xs)
+  unfolding All
+  all-take P zero xs h = tt
+  all-take P (suc n) [] h = tt
+  all-take P (suc n) (x ∷ xs) h = (h .0, all-take P n xs (h .1))
+
+  pub all-drop : (P : A → Type 0) (n : ℕ) (xs : List A) → All P xs → All P (drop n xs)
+  unfolding All
+  all-drop P zero xs h = h
+  all-drop P (suc n) [] h = tt
+  all-drop P (suc n) (x ∷ xs) h = all-drop P n xs (h .1)
+
+  pub all-append : (P : A → Type 0) (xs ys : List A) → All P xs → All P ys → All P (xs ++ ys)
+  unfolding All
+  all-append P [] ys h k = k
+  all-append P (x ∷ xs) ys h k = (h .0, all-append P xs ys (h .1) k)
+
+  pub all-set : (P : A → Type 0) (xs : List A) (i : ℕ) (a : A) → P a → All P xs → All P (set xs i a)
+  unfolding All
+  all-set P [] i a p h = tt
+  all-set P (x ∷ xs) zero a p h = (p, h .1)
+  all-set P (x ∷ xs) (suc i) a p h = (h .0, all-set P xs i a p (h .1))
+
+  pub all-replicate : (P : A → Type 0) (n : ℕ) (a : A) → P a → All P (replicate n a)
+  unfolding All
+  all-replicate P zero a p = tt
+  all-replicate P (suc n) a p = (p, all-replicate P n a p)
+
+  pub all-at : (P : A → Type 0) (xs : List A) (i : ℕ) (d : A) → i < length xs → All P xs → P (getD xs i d)
+  unfolding All
+  all-at P [] i d l h = absurd (not-suc-le-zero l)
+  all-at P (x ∷ xs) zero d l h = h .0
+  all-at P (x ∷ xs) (suc i) d l h = all-at P xs i d (le-of-suc-le-suc l) (h .1)
+
+  pub all-keep : (P : A → Type 0) (f : A → Bool) (xs : List A) → All P xs → All (λ (x : A). P x × T (f x)) (keep f xs)
+  unfolding keep All
+  all-keep P f [] h = tt
+  all-keep P f (x ∷ xs) h =
+      cond-case (All (λ (x : A). P x × T (f x))) (f x) (λ t. ((h .0, t), all-keep P f xs (h .1))) (λ t. all-keep P f xs (h .1))
+
+  pub keep-length : (f : A → Bool) (xs : List A) → length (keep f xs) ≤ length xs
+  unfolding keep
+  keep-length f [] = zero-le
+  keep-length f (x ∷ xs) =
+      cond-case (λ (ys : List A). length ys ≤ suc (length xs)) (f x) (λ _. omega (arith, keep-length f xs)) (λ _. omega (arith, keep-length f xs))
+
+  pub drop-take : (h n : ℕ) (xs : List A) → drop h (take n xs) ≡ take (n - h) (drop h xs)
+  drop-take zero n xs = ap (λ k. take k xs) (sym (sub-zero n))
+  drop-take (suc h) zero xs = ap (λ k. take k (drop (suc h) xs)) (sym (zero-sub (suc h)))
+  drop-take (suc h) (suc n) [] = sym (take-nil (suc n - suc h))
+  drop-take (suc h) (suc n) (x ∷ xs) = drop-take h n xs ∙ ap (λ k. take k (drop h xs)) (sym (suc-sub-suc n h))
+
+-- ---- position by position
+
+module _ {A B C : Type 0} (f : A → B → C) where
+  pub length-zip : (xs : List A) (ys : List B) → length (zipWith f xs ys) ≡ min (length xs) (length ys)
+  unfolding zipWith
+  length-zip [] ys = omega arith
+  length-zip (x ∷ xs) [] = omega arith
+  length-zip (x ∷ xs) (y ∷ ys) = omega (arith, length-zip xs ys)
+
+  pub take-zip : (n : ℕ) (xs : List A) (ys : List B) → take n (zipWith f xs ys) ≡ zipWith f (take n xs) (take n ys)
+  unfolding zipWith
+  take-zip zero xs ys = refl
+  take-zip (suc n) [] ys = refl
+  take-zip (suc n) (x ∷ xs) [] = refl
+  take-zip (suc n) (x ∷ xs) (y ∷ ys) = ap (λ l. f x y ∷ l) (take-zip n xs ys)
+
+  zip-nil : (xs : List A) → zipWith f xs [] ≡ []
+  unfolding zipWith
+  zip-nil [] = refl
+  zip-nil (x ∷ xs) = refl
+
+  pub drop-zip : (n : ℕ) (xs : List A) (ys : List B) → drop n (zipWith f xs ys) ≡ zipWith f (drop n xs) (drop n ys)
+  unfolding zipWith
+  drop-zip zero xs ys = refl
+  drop-zip (suc n) [] ys = refl
+  drop-zip (suc n) (x ∷ xs) [] = sym (zip-nil (drop n xs))
+  drop-zip (suc n) (x ∷ xs) (y ∷ ys) = drop-zip n xs ys
+
+  pub zip-append : (xs zs : List A) (ys ws : List B) → length xs ≡ length ys → zipWith f (xs ++ zs) (ys ++ ws) ≡ zipWith f xs ys ++ zipWith f zs ws
+  unfolding zipWith
+  zip-append [] zs [] ws e = refl
+  zip-append [] zs (y ∷ ys) ws e = absurd (omega arith)
+  zip-append (x ∷ xs) zs [] ws e = absurd (omega arith)
+  zip-append (x ∷ xs) zs (y ∷ ys) ws e = ap (λ l. f x y ∷ l) (zip-append xs zs ys ws (omega arith))
+
+-- ---- sums
+
+pub sum-bump : (xs : List ℕ) (i : ℕ) → i < length xs → sum (set xs i (suc (getD xs i 0))) ≡ suc (sum xs)
+unfolding sum
+sum-bump [] i h = absurd (not-suc-le-zero h)
+sum-bump (x ∷ xs) zero h = omega arith
+sum-bump (x ∷ xs) (suc i) h = omega (arith, sum-bump xs i (le-of-suc-le-suc h))
+
+pub sum-le : (L : ℕ) (xs : List ℕ) → All (λ (x : ℕ). x ≤ L) xs → sum xs ≤ L * length xs
+unfolding sum All
+sum-le L [] h = omega arith
+sum-le L (x ∷ xs) h = omega (arith, sum-le L xs (h .1), mul-suc L (length xs), h .0)

@@ -1,0 +1,44 @@
+-- Choices by a test, and tests joined by and and or: by cases on the test. Assumes nothing.
+use mathlib.Core.Bool.{Bool, true, false, cond, not, _&&_, _||_}
+use mathlib.Core.Logic.{_⊎_, inl, inr}
+use Prim.Native.Nat.{ℕ, _≤_, _<_}
+use native.Mathlib.Decide.{decLt}
+use native.Mathlib.Omega.{arith}
+use lib.Dec.{T}
+
+-- what holds of both choices, each under its test's answer, holds of the choice
+pub cond-case : {A : Type 0} (P : A → Type 0) (b : Bool) {x y : A} → (T b → P x) → (T (not b) → P y) → P (cond b x y)
+cond-case P true f g = f tt
+cond-case P false f g = g tt
+
+pub and-left : (a b : Bool) → T (a && b) → T a
+and-left true b t = tt
+and-left false b t = t
+
+pub and-right : (a b : Bool) → T (a && b) → T b
+and-right true b t = t
+and-right false b t = absurd t
+
+pub and-in : (a b : Bool) → T a → T b → T (a && b)
+and-in true b t u = u
+and-in false b t u = absurd t
+
+pub or-left : (a b : Bool) → T a → T (a || b)
+or-left true b t = tt
+or-left false b t = absurd t
+
+pub or-right : (a b : Bool) → T b → T (a || b)
+or-right true b t = tt
+or-right false b t = t
+
+pub or-case : {X : Type 0} (a b : Bool) → T (a || b) → (T a → X) → (T (not a) → T b → X) → X
+or-case true b t f g = f tt
+or-case false b t f g = g tt t
+
+-- below, or not
+pub lt-or : (t h : ℕ) → (t < h) ⊎ (h ≤ t)
+lt-or t h = go (decLt t h)
+  where
+    go : Dec (t < h) → (t < h) ⊎ (h ≤ t)
+    go (yes l) = inl l
+    go (no l) = inr (omega arith)

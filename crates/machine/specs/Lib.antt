@@ -1,0 +1,4 @@
+pub mod Queue
+pub mod Words
+pub mod Machine
+pub mod Calls

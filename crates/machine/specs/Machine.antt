@@ -1,0 +1,136 @@
+-- The plain machine: document 01, "The marker's plain machine" and "The queue". Assumes nothing.
+use mathlib.Core.Bool.{Bool, cond}
+use mathlib.Core.List.{List, [], _∷_}
+use mathlib.Core.Option.{Option, none, some}
+use Prim.Native.Nat.{ℕ, zero, suc, _+_, _*_}
+use lib.ListN.{length, getD, replicate}
+use lib.IntN.{ℤ, pos, _-ℤ_}
+use lib.Dec.{eqb}
+use Rattle.polar.specs.Value.{R}
+use Rattle.codebook.specs.Book.{Book, blockAt}
+use Rattle.machine.specs.Queue.{Key, insert, ahead, behind, numbers, roomFor, crowdedOut, visit, Step}
+use Rattle.machine.specs.Words.{Ranked, nearest, nextAfter}
+
+-- ---- paths
+
+-- a path is its number, its blocks and its bits of u so far; its score is kept beside them
+pub record Path : Type 0 where
+  pub number : ℕ
+  pub blocks : ℕ
+  pub bits : List ℕ
+  pub score : ℤ
+
+-- what the queue goes by
+unfoldable pub keyOf : Path → Key
+keyOf p = record { score = p .score; blocks = p .blocks; number = p .number }
+
+-- the score of bits u over so many blocks: R less the bias of the last block, biases not being summed; the empty path scores 0
+unfoldable pub scoreOf : Book → List ℤ → ℕ → List ℕ → ℤ
+scoreOf B ys zero u = pos 0
+scoreOf B ys (suc b) u = R (B .m) ys u -ℤ blockAt B b .bias
+
+unfoldable pub path : Book → List ℤ → ℕ → ℕ → List ℕ → Path
+path B ys number blocks u = record { number = number; blocks = blocks; bits = u; score = scoreOf B ys blocks u }
+
+-- path 0 is empty
+unfoldable pub emptyPath : Path
+emptyPath = record { number = 0; blocks = 0; bits = []; score = pos 0 }
+
+-- ---- one extraction
+
+-- step 2: a copy of the path, numbered n, with the next word in its last block, if there is one; the empty path has none
+unfoldable pub copyWith : Book → List ℤ → ℕ → ℕ → Option Ranked → Option Path
+copyWith B ys n blocks none = none
+copyWith B ys n blocks (some x) = some (path B ys n blocks (x .bits))
+
+unfoldable pub copyOf : Book → List ℤ → ℕ → ℕ → List ℕ → Option Path
+copyOf B ys n zero u = none
+copyOf B ys n (suc b) u = copyWith B ys n (suc b) (nextAfter B ys u b)
+
+-- the queue after step 2, the next number, and the numbers crowded out
+pub record Cut : Type 0 where
+  pub queue : List Path
+  pub next : ℕ
+  pub crowded : List ℕ
+
+-- where there is no next word nothing is crowded out
+unfoldable pub cut : ℕ → List Path → ℕ → Option Path → Cut
+cut D qs n none = record { queue = qs; next = n; crowded = [] }
+cut D qs n (some copy) = record { queue = insert keyOf copy (roomFor D qs); next = suc n; crowded = numbers keyOf (crowdedOut D qs) }
+
+-- step 3: the path with the nearest word of its next block
+unfoldable pub advanceWith : Book → List ℤ → Path → Option Ranked → Path
+advanceWith B ys p none = p
+advanceWith B ys p (some x) = path B ys (p .number) (suc (p .blocks)) (x .bits)
+
+unfoldable pub advance : Book → List ℤ → Path → Path
+advance B ys p = advanceWith B ys p (nearest B ys (p .bits) (p .blocks))
+
+-- step 4: after the L-th visit to block b, the queued paths that stay, and those outrun
+unfoldable pub staying : ℕ → ℕ → List ℕ → List Path → List Path
+staying L b visits qs = cond (eqb (getD visits b 0) L) (ahead keyOf b qs) qs
+
+unfoldable pub outrunBy : ℕ → ℕ → List ℕ → List Path → List Path
+outrunBy L b visits qs = cond (eqb (getD visits b 0) L) (behind keyOf b qs) []
+
+-- what the machine holds: the queued paths in their order, the next number, the visits to each block
+pub record State : Type 0 where
+  pub queue : List Path
+  pub next : ℕ
+  pub visits : List ℕ
+
+pub record Extracted : Type 0 where
+  pub state : State
+  pub step : Step
+
+-- steps 2 to 4 for the path p, taken from before the queue qs
+unfoldable pub extract : Book → ℕ → ℕ → List ℤ → Path → List Path → ℕ → List ℕ → Extracted
+extract B L D ys p qs n visits =
+    let b = p .blocks in
+    let second = cut D qs n (copyOf B ys n b (p .bits)) in
+    let third = insert keyOf (advance B ys p) (second .queue) in
+    let visited = visit visits b in
+    record {
+      state = record { queue = staying L b visited third; next = second .next; visits = visited };
+      step =
+          record {
+            path = p .number;
+            blocks = b;
+            score = p .score;
+            crowded = second .crowded;
+            outrun = numbers keyOf (outrunBy L b visited third);
+          };
+    }
+
+-- ---- the run
+
+-- the extractions, and the path with which step 1 stops: proofs/Ends.antt shows that there always is one
+pub record Run : Type 0 where
+  pub steps : List Step
+  pub final : Option Path
+
+unfoldable pub after : Step → Run → Run
+after s r = record { steps = s ∷ r .steps; final = r .final }
+
+-- the extraction that stops counts as one, and removes nothing
+unfoldable pub stopped : Path → Run
+stopped p =
+    record {
+      steps = record { path = p .number; blocks = p .blocks; score = p .score; crowded = []; outrun = [] } ∷ [];
+      final = some p;
+    }
+
+-- step 1 takes the first path, and stops if it has all V blocks; fuel bounds the extractions
+unfoldable pub run : ℕ → Book → ℕ → ℕ → List ℤ → List Path → ℕ → List ℕ → Run
+run zero B L D ys qs n visits = record { steps = []; final = none }
+run (suc fuel) B L D ys [] n visits = record { steps = []; final = none }
+run (suc fuel) B L D ys (p ∷ qs) n visits =
+    let x = extract B L D ys p qs n visits in
+    let more = after (x .step) (run fuel B L D ys (x .state .queue) (x .state .next) (x .state .visits)) in
+    cond (eqb (p .blocks) (length (B .blocks))) (stopped p) more
+
+-- the whole run: from path 0 alone, no visits, next number 1; it stops within L x V + 1 extractions
+unfoldable pub runOf : Book → ℕ → ℕ → List ℤ → Run
+runOf B L D ys =
+    let V′ = length (B .blocks) in
+    run (L * V′ + 1) B L D ys (emptyPath ∷ []) 1 (replicate V′ 0)

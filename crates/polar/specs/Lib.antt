@@ -1,0 +1,5 @@
+pub mod Bits
+pub mod Transform
+pub mod Soft
+pub mod Value
+pub mod Node
