@@ -5,6 +5,8 @@ use Prim.Native.Nat.{ℕ}
 use Prim.Native.String.{String}
 use Rattle.codebook.specs.declared.Refusal.{Refusal}
 use Rattle.codebook.specs.declared.Refusal.the-variants.{Truncated, Unknown, Misplaced, OutOfRange, TooManyTied, TooManyFree, Mismatch, BadSetting, BadValue, AboveLimit, Unreadable}
+use Rattle.codebook.specs.declared.Outcome.{Outcome}
+use Rattle.codebook.specs.declared.Outcome.the-variants.{Done, Refused}
 
 -- a refusal's number
 unfoldable pub number : Refusal → ℕ
@@ -33,6 +35,11 @@ word BadSetting = "bad setting"
 word BadValue = "bad value"
 word AboveLimit = "faint"
 word Unreadable = "unreadable"
+
+-- an outcome's number: 0, or the refusal's
+unfoldable pub outcomeNumber : Outcome → ℕ
+outcomeNumber Done = 0
+outcomeNumber (Refused r) = number r
 
 -- refusal r where the test fails, else what comes after it
 unfoldable pub unless : Bool → Refusal → Option Refusal → Option Refusal

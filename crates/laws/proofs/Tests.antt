@@ -1,10 +1,11 @@
 -- Choices by a test, and tests joined by and and or: by cases on the test. Assumes nothing.
+use mathlib.Core.Path.{subst}
 use mathlib.Core.Bool.{Bool, true, false, cond, not, _&&_, _||_}
-use mathlib.Core.Logic.{_⊎_, inl, inr}
+use mathlib.Core.Logic.{_⊎_, inl, inr, _≢_}
 use Prim.Native.Nat.{ℕ, _≤_, _<_}
 use native.Mathlib.Decide.{decLt}
 use native.Mathlib.Omega.{arith}
-use lib.Dec.{T}
+use lib.Dec.{T, eqb, eqb-refl, T-not}
 
 -- what holds of both choices, each under its test's answer, holds of the choice
 pub cond-case : {A : Type 0} (P : A → Type 0) (b : Bool) {x y : A} → (T b → P x) → (T (not b) → P y) → P (cond b x y)
@@ -42,3 +43,7 @@ lt-or t h = go (decLt t h)
     go : Dec (t < h) → (t < h) ⊎ (h ≤ t)
     go (yes l) = inl l
     go (no l) = inr (omega arith)
+
+-- numbers that a test tells apart differ
+pub neqb→ne : (a b : ℕ) → T (not (eqb a b)) → a ≢ b
+neqb→ne a b t e = T-not (eqb a b) t (subst (λ (x : ℕ). T (eqb a x)) e (eqb-refl a))

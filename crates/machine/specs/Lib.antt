@@ -2,3 +2,5 @@ pub mod Queue
 pub mod Words
 pub mod Machine
 pub mod Calls
+pub mod Rows
+pub mod Table

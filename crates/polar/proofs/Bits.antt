@@ -57,6 +57,7 @@ add-cross (x ∷ a) (y ∷ b) (z ∷ c) (w ∷ d) = ap₂ (λ (h : ℕ) (t : Lis
   where
     once : (a b : ℕ) → (a % 2 + b % 2) % 2 ≡ (a + b) % 2
     once a b = omega arith
+
     cross : (x y z w : ℕ) → (x ⊕ y) ⊕ (z ⊕ w) ≡ (x ⊕ z) ⊕ (y ⊕ w)
     cross x y z w =
         let r : x + y + (z + w) ≡ x + z + (y + w) = omega arith in

@@ -1,2 +1,6 @@
 pub mod Bits
 pub mod Transform
+pub mod Soft
+pub mod Value
+pub mod Node
+pub mod Ranges

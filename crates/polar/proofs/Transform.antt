@@ -51,9 +51,9 @@ transform-linear (suc m) u v e d =
     let lc : length c ≡ h = transform-length m (take h v) (first-half m v d) in
     let lg : length g ≡ h = transform-length m (drop h v) (last-half m v d) in
     let low : transform m (take h (addBits u v)) ≡ addBits a c =
-        ap (transform m) (add-take h u v) ∙ transform-linear m (take h u) (take h v) (first-half m u e) (first-half m v d) in
+    ap (transform m) (add-take h u v) ∙ transform-linear m (take h u) (take h v) (first-half m u e) (first-half m v d) in
     let high : transform m (drop h (addBits u v)) ≡ addBits b g =
-        ap (transform m) (add-drop h u v) ∙ transform-linear m (drop h u) (drop h v) (last-half m u e) (last-half m v d) in
+    ap (transform m) (add-drop h u v) ∙ transform-linear m (drop h u) (drop h v) (last-half m u e) (last-half m v d) in
     transform-suc m (addBits u v)
     ∙ ap₂ (λ (x y : List ℕ). addBits x y ++ y) low high
     ∙ ap (λ x. x ++ addBits b g) (add-cross a c b g)
@@ -76,7 +76,7 @@ transform-twice (suc m) u e k =
     let px : transform m a ≡ x = transform-twice m x lx (all-take Bit h u k) in
     let py : transform m b ≡ y = transform-twice m y ly (all-drop Bit h u k) in
     let two : transform (suc m) (addBits a b ++ b) ≡ addBits (transform m (addBits a b)) (transform m b) ++ transform m b =
-        transform-halves m (addBits a b) b (add-length a b (la ∙ sym lb) ∙ la) in
+    transform-halves m (addBits a b) b (add-length a b (la ∙ sym lb) ∙ la) in
     let sum : transform m (addBits a b) ≡ addBits x y = transform-linear m a b la lb ∙ ap₂ addBits px py in
     ap (transform (suc m)) (transform-suc m u) ∙ two
     ∙ ap₂ (λ (p q : List ℕ). addBits p q ++ q) sum py

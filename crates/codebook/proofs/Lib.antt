@@ -1,0 +1,5 @@
+pub mod Indices
+pub mod Blocks
+pub mod Commands
+pub mod Loaded
+pub mod Fuel

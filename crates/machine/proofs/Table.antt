@@ -1,0 +1,67 @@
+-- Every row of the marked table holds: by computing with the definitions. Assumes nothing.
+use mathlib.Core.Path.{refl}
+use Rattle.laws.specs.Lists.{All}
+use Rattle.machine.specs.Rows.{Row, Holds}
+use Rattle.machine.specs.Table.{marked, markedRuns, queueRows, goodBooks, shortBooks, strangeBooks, misplacedBooks, offRangeBooks, overtiedAndHeavy, firstFaults, codecRows, recordRows, lentRows, hookRows, table}
+use Rattle.machine.proofs.Computing.{computing}
+
+marked-holds : All Holds marked
+unfolding computing
+marked-holds = (refl, (refl, (refl, (refl, (refl, ((refl, refl), tt))))))
+
+marked-runs-holds : All Holds markedRuns
+unfolding computing
+marked-runs-holds = (refl, (refl, (refl, (refl, (refl, (refl, (refl, (refl, (refl, (refl, tt))))))))))
+
+queue-rows-holds : All Holds queueRows
+unfolding computing
+queue-rows-holds = (refl, (refl, (refl, (refl, tt))))
+
+good-books-holds : All Holds goodBooks
+unfolding computing
+good-books-holds = (refl, (refl, (refl, (refl, (refl, (refl, (refl, (refl, tt))))))))
+
+short-books-holds : All Holds shortBooks
+unfolding computing
+short-books-holds = (refl, (refl, (refl, (refl, (refl, (refl, tt))))))
+
+strange-books-holds : All Holds strangeBooks
+unfolding computing
+strange-books-holds = (refl, (refl, (refl, (refl, tt))))
+
+misplaced-books-holds : All Holds misplacedBooks
+unfolding computing
+misplaced-books-holds = (refl, (refl, (refl, (refl, (refl, (refl, (refl, (refl, (refl, (refl, (refl, (refl, (refl, (refl, tt))))))))))))))
+
+off-range-books-holds : All Holds offRangeBooks
+unfolding computing
+off-range-books-holds = (refl, (refl, (refl, (refl, (refl, (refl, (refl, (refl, (refl, (refl, (refl, (refl, (refl, (refl, (refl, tt)))))))))))))))
+
+overtied-and-heavy-holds : All Holds overtiedAndHeavy
+unfolding computing
+overtied-and-heavy-holds = (refl, (refl, (refl, (refl, tt))))
+
+first-faults-holds : All Holds firstFaults
+unfolding computing
+first-faults-holds = (refl, (refl, (refl, (refl, (refl, (refl, (refl, (refl, (refl, tt)))))))))
+
+codec-rows-holds : All Holds codecRows
+unfolding computing
+codec-rows-holds = ((refl, refl), ((refl, refl), ((refl, refl), ((refl, refl), ((refl, refl), (refl, (refl, (refl, (refl, (refl, ((refl, refl), ((refl, refl), ((refl, refl), ((refl, refl), tt))))))))))))))
+
+record-rows-holds : All Holds recordRows
+unfolding computing
+record-rows-holds = (refl, (refl, (refl, (refl, (refl, (refl, ((refl, refl), ((refl, refl), ((refl, refl), ((refl, refl), ((refl, refl), ((refl, refl), ((refl, refl), ((refl, refl), ((refl, refl), ((refl, refl), ((refl, refl), tt)))))))))))))))))
+
+lent-rows-holds : All Holds lentRows
+unfolding computing
+lent-rows-holds = (refl, (refl, (refl, (refl, (refl, (refl, (refl, (refl, (refl, (refl, (refl, (refl, (refl, (refl, (refl, (refl, (refl, tt)))))))))))))))))
+
+hook-rows-holds : All Holds hookRows
+unfolding computing
+hook-rows-holds = (refl, (refl, (refl, (refl, (refl, tt)))))
+
+-- the whole table
+pub table-holds : All (All Holds) table
+unfolding All table
+table-holds = (marked-holds, (marked-runs-holds, (queue-rows-holds, (good-books-holds, (short-books-holds, (strange-books-holds, (misplaced-books-holds, (off-range-books-holds, (overtied-and-heavy-holds, (first-faults-holds, (codec-rows-holds, (record-rows-holds, (lent-rows-holds, (hook-rows-holds, tt))))))))))))))
