@@ -14,6 +14,17 @@ use Rattle.codebook.specs.Limits.{BlockOk}
 
 -- ---- where blocks start
 
+next-start : (bs : List Block) (b : ℕ) (none : Block) → b < length bs → startOf bs (suc b) ≡ startOf bs b + 2 ^ (getD bs b none .j)
+unfolding startOf
+next-start [] b none h = absurd (not-suc-le-zero h)
+next-start (x ∷ bs) zero none h = omega arith
+next-start (x ∷ bs) (suc b) none h = omega (arith, next-start bs b none (le-of-suc-le-suc h))
+
+-- the next block starts where a block ends
+pub start-next : (B : Book) (b : ℕ) → b < length (B .blocks) → startOf (B .blocks) (suc b) ≡ startOf (B .blocks) b + 2 ^ (blockAt B b .j)
+unfolding blockAt
+start-next B b h = next-start (B .blocks) b _ h
+
 start-append : (bs cs : List Block) (b : ℕ) → b ≤ length bs → startOf (bs ++ cs) b ≡ startOf bs b
 unfolding startOf
 start-append bs cs zero h = refl

@@ -7,7 +7,7 @@ use mathlib.Core.Logic.{_≢_}
 use Prim.Native.Nat.{ℕ, zero, suc, _+_, _-_, _<_}
 use native.Mathlib.Nat.{add-zero}
 use native.Mathlib.Omega.{arith}
-use lib.ListN.{length, getD, set, replicate, length-append}
+use lib.ListN.{length, getD, take, drop, set, replicate, length-append}
 use lib.Dec.{T, eqb, eqb-refl, T-not, not-T}
 use Rattle.laws.specs.Lists.{All, Distinct}
 use Rattle.laws.proofs.Tests.{or-left, or-right}
@@ -34,6 +34,18 @@ unfolding KindsOk
 kinds-set i [] n k o h = tt
 kinds-set i (x ∷ ks) zero k o h = (subst (λ (y : ℕ). KindOk y k) (add-zero i) o, h .1)
 kinds-set i (x ∷ ks) (suc n) k o h = (h .0, kinds-set (suc i) ks n k (subst (λ (y : ℕ). KindOk y k) (omega arith) o) (h .1))
+
+pub kinds-take : (i n : ℕ) (ks : List Kind) → KindsOk i ks → KindsOk i (take n ks)
+unfolding KindsOk
+kinds-take i zero ks h = tt
+kinds-take i (suc n) [] h = tt
+kinds-take i (suc n) (x ∷ ks) h = (h .0, kinds-take (suc i) n ks (h .1))
+
+pub kinds-drop : (i n : ℕ) (ks : List Kind) → KindsOk i ks → KindsOk (i + n) (drop n ks)
+unfolding KindsOk
+kinds-drop i zero ks h = subst (λ (x : ℕ). KindsOk x ks) (sym (add-zero i)) h
+kinds-drop i (suc n) [] h = tt
+kinds-drop i (suc n) (x ∷ ks) h = subst (λ (y : ℕ). KindsOk y (drop n ks)) (omega arith) (kinds-drop (suc i) n ks (h .1))
 
 -- also past the end, where the kind is taken to be free
 pub kind-at : (i : ℕ) (ks : List Kind) (n : ℕ) → KindsOk i ks → KindOk (i + n) (getD ks n free)

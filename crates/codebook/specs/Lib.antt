@@ -2,3 +2,4 @@ pub mod Refusals
 pub mod Book
 pub mod Loading
 pub mod Limits
+pub mod Tables

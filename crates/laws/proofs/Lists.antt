@@ -2,15 +2,15 @@
 use mathlib.Core.Path.{_≡_, refl, sym, ap, _∙_, subst}
 use mathlib.Core.Bool.{Bool, true, false, cond, not}
 use mathlib.Core.List.{List, [], _∷_, _++_, map, zipWith}
-use mathlib.Core.Logic.{_≢_}
+use mathlib.Core.Logic.{_⊎_, inl, inr}
 use Prim.Native.Nat.{ℕ, zero, suc, _+_, _-_, _*_, _≤_, _<_, min, zero-le}
 use native.Mathlib.Nat.{not-suc-le-zero, le-of-suc-le-suc, mul-suc, sub-zero, zero-sub, suc-sub-suc}
 use native.Mathlib.Omega.{arith}
-use lib.ListN.{length, getD, take, drop, set, replicate}
-use lib.Seq.{take-nil}
+use lib.ListN.{length, getD, take, drop, set, replicate, length-append, List·getD-append}
+use lib.Seq.{take-nil, getD-at}
 use lib.Dec.{T}
-use Rattle.laws.specs.Lists.{All, keep, Distinct, sum}
-use Rattle.laws.proofs.Tests.{cond-case}
+use Rattle.laws.specs.Lists.{All, keep, tab, sum}
+use Rattle.laws.proofs.Tests.{cond-case, lt-or}
 
 module _ {A : Type 0} where
   pub all-map : {P Q : A → Type 0} → ((x : A) → P x → Q x) → (xs : List A) → All P xs → All Q xs
@@ -69,11 +69,37 @@ module _ {A : Type 0} where
   keep-length f (x ∷ xs) =
       cond-case (λ (ys : List A). length ys ≤ suc (length xs)) (f x) (λ _. omega (arith, keep-length f xs)) (λ _. omega (arith, keep-length f xs))
 
+  pub length-snoc : (xs : List A) (x : A) → length (xs ++ x ∷ []) ≡ suc (length xs)
+  length-snoc xs x = length-append xs (x ∷ []) ∙ omega arith
+
   pub drop-take : (h n : ℕ) (xs : List A) → drop h (take n xs) ≡ take (n - h) (drop h xs)
   drop-take zero n xs = ap (λ k. take k xs) (sym (sub-zero n))
   drop-take (suc h) zero xs = ap (λ k. take k (drop (suc h) xs)) (sym (zero-sub (suc h)))
   drop-take (suc h) (suc n) [] = sym (take-nil (suc n - suc h))
   drop-take (suc h) (suc n) (x ∷ xs) = drop-take h n xs ∙ ap (λ k. take k (drop h xs)) (sym (suc-sub-suc n h))
+
+  -- ---- tabulated lists
+
+  pub length-tab : (n : ℕ) (f : ℕ → A) → length (tab n f) ≡ n
+  unfolding tab
+  length-tab zero f = refl
+  length-tab (suc n) f = length-snoc (tab n f) (f n) ∙ ap suc (length-tab n f)
+
+  pub getD-tab : (n : ℕ) (f : ℕ → A) (i : ℕ) (d : A) → i < n → getD (tab n f) i d ≡ f i
+  unfolding tab
+  getD-tab zero f i d h = absurd (not-suc-le-zero h)
+  getD-tab (suc n) f i d h = go (lt-or i n) (getD-tab n f i d)
+    where
+      go : (i < n) ⊎ (n ≤ i) → (i < n → getD (tab n f) i d ≡ f i) → getD (tab n f ++ f n ∷ []) i d ≡ f i
+      go (inl l) ih = List·getD-append (tab n f) (f n ∷ []) d i (omega (arith, length-tab n f)) ∙ ih l
+      go (inr l) ih =
+          let e : n ≡ i = omega arith in
+          getD-at (tab n f) (f n) [] d i (length-tab n f ∙ e) ∙ ap f e
+
+pub all-mapped : {A B : Type 0} (f : A → B) (P : B → Type 0) (xs : List A) → All (λ (x : A). P (f x)) xs → All P (map f xs)
+unfolding All
+all-mapped f P [] h = tt
+all-mapped f P (x ∷ xs) h = (h .0, all-mapped f P xs (h .1))
 
 -- ---- position by position
 

@@ -1,5 +1,5 @@
 -- Choices by a test, and tests joined by and and or: by cases on the test. Assumes nothing.
-use mathlib.Core.Path.{subst}
+use mathlib.Core.Path.{_≡_, refl, subst}
 use mathlib.Core.Bool.{Bool, true, false, cond, not, _&&_, _||_}
 use mathlib.Core.Logic.{_⊎_, inl, inr, _≢_}
 use Prim.Native.Nat.{ℕ, _≤_, _<_}
@@ -47,3 +47,17 @@ lt-or t h = go (decLt t h)
 -- numbers that a test tells apart differ
 pub neqb→ne : (a b : ℕ) → T (not (eqb a b)) → a ≢ b
 neqb→ne a b t e = T-not (eqb a b) t (subst (λ (x : ℕ). T (eqb a x)) e (eqb-refl a))
+
+pub eq→eqb : {a b : ℕ} → a ≡ b → T (eqb a b)
+eq→eqb {b} e = rw e (eqb-refl b)
+
+-- two tests in a row: what is chosen where both are passed, and that both are passed where neither of the others can have been chosen
+pub both-in : {A : Type 0} (s t : Bool) {x : A} (y z : A) → T s → T t → cond s (cond t x y) z ≡ x
+both-in true true y z p q = refl
+both-in true false y z p q = absurd q
+both-in false t y z p q = absurd p
+
+pub both-out : {A : Type 0} (P : A → Type 0) (s t : Bool) {x y z : A} → (P y → ⊥) → (P z → ⊥) → P (cond s (cond t x y) z) → T s × T t × P x
+both-out P true true f g h = (tt, tt, h)
+both-out P true false f g h = absurd (f h)
+both-out P false t f g h = absurd (g h)

@@ -1,0 +1,63 @@
+-- The tables that the loader fills for the decoder, as functions of the loaded book; and what the load calls answer. Assumes nothing.
+use mathlib.Core.Path.{_≡_}
+use mathlib.Core.Bool.{cond}
+use mathlib.Core.List.{List, [], _∷_, map}
+use Prim.Native.Nat.{ℕ, suc, _+_, _^_}
+use lib.ListN.{length}
+use lib.IntN.{ℤ}
+use Rattle.laws.specs.Lists.{tab, over}
+use Rattle.codebook.specs.Book.{Kind, free, frozen, tied, Block, Book, freeCount, startOf, kindsOf}
+use Rattle.codebook.specs.Loading.{Load, refused, loaded, member}
+
+-- the codes of kinds, after so many ties: 0 is free, 1 zero, 2 + t the t-th tie
+unfoldable pub kindCodes : ℕ → List Kind → List ℕ
+kindCodes t [] = []
+kindCodes t (free ∷ ks) = 0 ∷ kindCodes t ks
+kindCodes t (frozen ∷ ks) = 1 ∷ kindCodes t ks
+kindCodes t (tied terms ∷ ks) = (2 + t) ∷ kindCodes (suc t) ks
+
+-- the set of the ties that index i is a term of, the t-th tie counting 2^t: among these kinds, after so many ties
+unfoldable pub tieSet : ℕ → List Kind → ℕ → ℕ
+tieSet t [] i = 0
+tieSet t (free ∷ ks) i = tieSet t ks i
+tieSet t (frozen ∷ ks) i = tieSet t ks i
+tieSet t (tied terms ∷ ks) i = cond (member i terms) (2 ^ t) 0 + tieSet (suc t) ks i
+
+-- for each index its kind's code and its set of ties; for each block its j, start, bias and number of free indices
+pub record Tables : Type 0 where
+  pub kinds : List ℕ
+  pub terms : List ℕ
+  pub heights : List ℕ
+  pub starts : List ℕ
+  pub biases : List ℤ
+  pub frees : List ℕ
+
+unfoldable pub tablesOf : Book → Tables
+tablesOf B =
+    let blocks = length (B .blocks) in
+    record {
+      kinds = kindCodes 0 (B .kinds);
+      terms = tab (2 ^ (B .m)) (tieSet 0 (B .kinds));
+      heights = map (λ (x : Block). x .j) (B .blocks);
+      starts = tab blocks (startOf (B .blocks));
+      biases = map (λ (x : Block). x .bias) (B .blocks);
+      frees = tab blocks (λ b. freeCount (kindsOf B b));
+    }
+
+-- tables written over the start of others
+unfoldable pub overlaid : Tables → Tables → Tables
+overlaid new old =
+    record {
+      kinds = over (new .kinds) (old .kinds);
+      terms = over (new .terms) (old .terms);
+      heights = over (new .heights) (old .heights);
+      starts = over (new .starts) (old .starts);
+      biases = over (new .biases) (old .biases);
+      frees = over (new .frees) (old .frees);
+    }
+
+-- what loading leaves in the tables: a book's are written over what they held; nothing is said of them where loading is refused, and no
+-- later code reads them then
+unfoldable pub Filled : Load → Tables → Tables → Type 0
+Filled (refused r) old new = Unit {0}
+Filled (loaded B) old new = new ≡ overlaid (tablesOf B) old

@@ -1,0 +1,6 @@
+pub mod Fill
+pub mod Reverse
+pub mod Digits
+pub mod Record
+pub mod Answers
+pub mod Calls

@@ -1,0 +1,113 @@
+-- What one extraction does to the queue: what holds of the queued paths, of the copy and of the path with its next block holds of the queue
+-- afterwards; and how many blocks those two have. Assumes nothing.
+use mathlib.Core.Path.{_≡_, refl, sym, ap, _∙_}
+use mathlib.Core.Bool.{Bool, true, false, cond}
+use mathlib.Core.List.{List, [], _∷_}
+use mathlib.Core.Option.{Option, none, some}
+use Prim.Native.Nat.{ℕ, zero, suc, _-_, _≤_, _<_}
+use native.Mathlib.Nat.{lt-irrefl}
+use lib.Pow.{pow-pos}
+use lib.ListN.{length, getD, take}
+use lib.IntN.{ℤ}
+use lib.Dec.{T, ltb, eqb}
+use Rattle.laws.specs.Lists.{All, May, keep}
+use Rattle.laws.proofs.Tests.{cond-case}
+use Rattle.laws.proofs.Lists.{all-map, all-take, all-keep}
+use Rattle.codebook.specs.Book.{Book}
+use Rattle.machine.specs.Queue.{ahead, roomFor}
+use Rattle.machine.specs.Words.{Ranked, choose, nearer, nearestOf, nearestWith, nearest, setting}
+use Rattle.machine.specs.Machine.{Path, keyOf, path, copyWith, copyOf, cut, advanceWith, advance, staying, extract}
+use Rattle.machine.proofs.Order.{all-insert}
+
+-- ---- words that are found
+
+-- what is found is one of those tried
+pub nearest-may : (P : Ranked → Type 0) (test : Ranked → Bool) (word : ℕ → Ranked) (n : ℕ) → ((w : ℕ) → P (word w)) → May P (nearestOf test word n)
+unfolding nearestOf May choose
+nearest-may P test word zero h = tt
+nearest-may P test word (suc n) h = go (test (word n)) (nearestOf test word n) (nearest-may P test word n h)
+  where
+    go : (b : Bool) (o : Option Ranked) → May P o → May P (choose b (word n) o)
+    go true none k = h n
+    go true (some y) k = cond-case P (nearer (word n) y) (λ _. h n) (λ _. k)
+    go false none k = tt
+    go false (some y) k = k
+
+-- there is one
+unfoldable pub Found : Option Ranked → Type 0
+Found none = ⊥
+Found (some x) = Unit {0}
+
+choose-found : (x : Ranked) (o : Option Ranked) → Found (choose true x o)
+unfolding choose Found
+choose-found x none = tt
+choose-found x (some y) = tt
+
+nearestOf-found : (word : ℕ → Ranked) (n : ℕ) → 0 < n → Found (nearestOf (λ _. true) word n)
+unfolding nearestOf
+nearestOf-found word zero h = absurd (lt-irrefl 0 h)
+nearestOf-found word (suc n) h = choose-found (word n) _
+
+-- a block always has a nearest word
+pub nearest-found : (B : Book) (ys : List ℤ) (u : List ℕ) (b : ℕ) → Found (nearest B ys u b)
+unfolding nearest nearestWith
+nearest-found B ys u b = nearestOf-found _ _ (pow-pos _)
+
+-- ---- the blocks of a copy, and of a path with its next block
+
+copyWith-blocks : (B : Book) (ys : List ℤ) (n b : ℕ) (o : Option Ranked) → May (λ (c : Path). c .blocks ≡ b) (copyWith B ys n b o)
+unfolding copyWith path May
+copyWith-blocks B ys n b none = tt
+copyWith-blocks B ys n b (some x) = refl
+
+pub copy-blocks : (B : Book) (ys : List ℤ) (n b : ℕ) (u : List ℕ) → May (λ (c : Path). c .blocks ≡ b) (copyOf B ys n b u)
+unfolding copyOf May
+copy-blocks B ys n zero u = tt
+copy-blocks B ys n (suc b) u = copyWith-blocks B ys n (suc b) _
+
+copyWith-number : (B : Book) (ys : List ℤ) (n b : ℕ) (o : Option Ranked) → May (λ (c : Path). c .number ≡ n) (copyWith B ys n b o)
+unfolding copyWith path May
+copyWith-number B ys n b none = tt
+copyWith-number B ys n b (some x) = refl
+
+pub copy-number : (B : Book) (ys : List ℤ) (n b : ℕ) (u : List ℕ) → May (λ (c : Path). c .number ≡ n) (copyOf B ys n b u)
+unfolding copyOf May
+copy-number B ys n zero u = tt
+copy-number B ys n (suc b) u = copyWith-number B ys n (suc b) _
+
+pub advance-number : (B : Book) (ys : List ℤ) (p : Path) → advance B ys p .number ≡ p .number
+unfolding advance
+advance-number B ys p = go (nearest B ys (p .bits) (p .blocks))
+  where
+    go : (o : Option Ranked) → advanceWith B ys p o .number ≡ p .number
+    go none = unfold advanceWith in refl
+    go (some x) = unfold advanceWith path in refl
+
+pub advance-blocks : (B : Book) (ys : List ℤ) (p : Path) → advance B ys p .blocks ≡ suc (p .blocks)
+unfolding advance
+advance-blocks B ys p = go (nearest B ys (p .bits) (p .blocks)) (nearest-found B ys (p .bits) (p .blocks))
+  where
+    go : (o : Option Ranked) → Found o → advanceWith B ys p o .blocks ≡ suc (p .blocks)
+    go none h = absurd (unfold Found in h)
+    go (some x) h = unfold advanceWith path in refl
+
+-- ---- the queue
+
+pub all-cut : (P : Path → Type 0) (D : ℕ) (qs : List Path) (n : ℕ) (o : Option Path) → All P qs → May P o → All P (cut D qs n o .queue)
+unfolding cut roomFor May
+all-cut P D qs n none h m = h
+all-cut P D qs n (some c) h m = all-insert keyOf P c (take (D - 2) qs) m (all-take P (D - 2) qs h)
+
+pub all-staying : (P : Path → Type 0) (L b : ℕ) (visits : List ℕ) (qs : List Path) → All P qs → All P (staying L b visits qs)
+unfolding staying ahead
+all-staying P L b visits qs h =
+    cond-case (All P) (eqb (getD visits b 0) L)
+    (λ _. all-map (λ p k. k .0) _ (all-keep P (λ (p : Path). ltb b (keyOf p .blocks)) qs h))
+    (λ _. h)
+
+-- what holds of all that is queued holds after the extraction
+pub all-extract : (P : Path → Type 0) (B : Book) (L D : ℕ) (ys : List ℤ) (p : Path) (qs : List Path) (n : ℕ) (visits : List ℕ) → All P qs → May P (copyOf B ys n (p .blocks) (p .bits)) → P (advance B ys p) →
+    All P (extract B L D ys p qs n visits .state .queue)
+unfolding extract
+all-extract P B L D ys p qs n visits h c a =
+    all-staying P L (p .blocks) _ _ (all-insert keyOf P (advance B ys p) _ a (all-cut P D qs n (copyOf B ys n (p .blocks) (p .bits)) h c))
