@@ -1,9 +1,2 @@
 pub mod Computing
 pub mod Table
-pub mod Order
-pub mod States
-pub mod Steps
-pub mod Ends
-pub mod Alive
-pub mod Numbers
-pub mod Final

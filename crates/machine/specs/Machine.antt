@@ -104,7 +104,7 @@ extract B L D ys p qs n visits =
 
 -- ---- the run
 
--- the extractions, and the path with which step 1 stops: proofs/Ends.antt shows that there always is one
+-- the extractions, and the path with which step 1 stops: crate runs, proofs/Ends.antt, shows that there always is one
 pub record Run : Type 0 where
   pub steps : List Step
   pub final : Option Path

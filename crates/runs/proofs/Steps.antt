@@ -14,10 +14,10 @@ use Rattle.laws.specs.Lists.{All, May, keep}
 use Rattle.laws.proofs.Tests.{cond-case}
 use Rattle.laws.proofs.Lists.{all-map, all-take, all-keep}
 use Rattle.codebook.specs.Book.{Book}
 use Rattle.machine.specs.Queue.{ahead, roomFor}
 use Rattle.machine.specs.Words.{Ranked, choose, nearer, nearestOf, nearestWith, nearest, setting}
 use Rattle.machine.specs.Machine.{Path, keyOf, path, copyWith, copyOf, cut, advanceWith, advance, staying, extract}
-use Rattle.machine.proofs.Order.{all-insert}
+use Rattle.runs.proofs.Order.{all-insert}
 
 -- ---- words that are found
 

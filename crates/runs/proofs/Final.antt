@@ -26,12 +26,12 @@ use Rattle.codebook.proofs.Indices.{kinds-take, kinds-drop}
 use Rattle.codebook.proofs.Blocks.{start-next}
 use Rattle.codec.specs.Code.{fill, freeBits, obeysAll, inCode, readData}
 use Rattle.codec.proofs.Fill.{After, fill-after, fill-obeys, obeys-append, obeys-front}
 use Rattle.machine.specs.Words.{Ranked, rank, setting, nearestWith, nearest, nextAfter}
 use Rattle.machine.specs.Machine.{Path, State, path, emptyPath, copyWith, copyOf, advanceWith, advance, extract, runOf}
 use Rattle.machine.specs.Calls.{Found, foundBy}
-use Rattle.machine.proofs.Steps.{nearest-may, all-extract}
-use Rattle.machine.proofs.States.{stateOf, firstState, run-final}
-use Rattle.machine.proofs.Ends.{Ended, run-ends}
+use Rattle.runs.proofs.Steps.{nearest-may, all-extract}
+use Rattle.runs.proofs.States.{stateOf, firstState, run-final}
+use Rattle.runs.proofs.Ends.{Ended, run-ends}
 
 -- ---- bits that fill the first s indices and obey their kinds
 

@@ -13,10 +13,10 @@ use Rattle.laws.specs.Lists.{All}
 use Rattle.laws.proofs.Tests.{cond-case}
 use Rattle.laws.proofs.Lists.{keep-length}
 use Rattle.codebook.specs.Book.{Book}
 use Rattle.machine.specs.Queue.{insert, ahead, roomFor, visit}
 use Rattle.machine.specs.Machine.{Path, State, keyOf, emptyPath, copyOf, cut, advance, staying, extract}
-use Rattle.machine.proofs.Order.{Ordered, insert-length, insert-ordered, take-ordered, keep-ordered}
-use Rattle.machine.proofs.States.{stateOf, firstState, statesOf, run-states}
+use Rattle.runs.proofs.Order.{Ordered, insert-length, insert-ordered, take-ordered, keep-ordered}
+use Rattle.runs.proofs.States.{stateOf, firstState, statesOf, run-states}
 
 -- ---- one extraction, step by step
 

@@ -17,10 +17,10 @@ use Rattle.laws.specs.Lists.{All, May, Filled, keep, sum}
 use Rattle.laws.proofs.Tests.{cond-case, neqb→ne}
 use Rattle.laws.proofs.Lists.{all-map, all-set, all-at, all-keep, all-replicate, sum-bump, sum-le}
 use Rattle.codebook.specs.Book.{Book}
 use Rattle.machine.specs.Queue.{before, insert, ahead, visit, Step}
 use Rattle.machine.specs.Machine.{Path, keyOf, Run, emptyPath, copyOf, cut, advance, staying, extract, run, runOf, after, stopped}
-use Rattle.machine.proofs.Order.{all-insert}
-use Rattle.machine.proofs.Steps.{copy-blocks, advance-blocks, all-cut}
+use Rattle.runs.proofs.Order.{all-insert}
+use Rattle.runs.proofs.Steps.{copy-blocks, advance-blocks, all-cut}
 
 -- ---- visits
 

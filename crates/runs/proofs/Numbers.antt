@@ -15,11 +15,11 @@ use Rattle.laws.specs.Lists.{All, May, Distinct, keep}
 use Rattle.laws.proofs.Tests.{cond-case}
 use Rattle.laws.proofs.Lists.{all-map, all-mapped, all-take, all-keep}
 use Rattle.codebook.specs.Book.{Book}
 use Rattle.machine.specs.Queue.{before, insert, ahead, numbers, roomFor, visit}
 use Rattle.machine.specs.Machine.{Path, State, keyOf, emptyPath, copyOf, cut, advance, staying, extract}
-use Rattle.machine.proofs.Order.{all-insert}
-use Rattle.machine.proofs.States.{stateOf, firstState, statesOf, run-states}
-use Rattle.machine.proofs.Steps.{copy-number, advance-number, all-cut, all-staying}
+use Rattle.runs.proofs.Order.{all-insert}
+use Rattle.runs.proofs.States.{stateOf, firstState, statesOf, run-states}
+use Rattle.runs.proofs.Steps.{copy-number, advance-number, all-cut, all-staying}
 
 -- ---- distinct numbers, path by path
 

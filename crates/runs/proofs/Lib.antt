@@ -1,0 +1,7 @@
+pub mod Order
+pub mod States
+pub mod Steps
+pub mod Ends
+pub mod Alive
+pub mod Numbers
+pub mod Final

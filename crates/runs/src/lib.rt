@@ -1,0 +1,1 @@
+// Laws of the plain machine's run: proofs/ alone.
