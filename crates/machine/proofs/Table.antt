@@ -11,7 +11,7 @@ marked-holds = (refl, (refl, (refl, (refl, (refl, ((refl, refl), tt))))))
 
 marked-runs-holds : All Holds markedRuns
 unfolding computing
-marked-runs-holds = (refl, (refl, (refl, (refl, (refl, (refl, (refl, (refl, (refl, (refl, tt))))))))))
+marked-runs-holds = (refl, (refl, (refl, (refl, (refl, (refl, (refl, (refl, (refl, (refl, (refl, (refl, tt))))))))))))
 
 queue-rows-holds : All Holds queueRows
 unfolding computing

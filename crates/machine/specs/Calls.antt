@@ -25,7 +25,7 @@ use Rattle.codec.specs.Calls.{wordFits, dataFits, notRead, recordRead}
 use Rattle.machine.specs.declared.Counts.{Counts}
 use Rattle.machine.specs.declared.Decoded.{Decoded}
 use Rattle.machine.specs.declared.HookDecoded.{HookDecoded}
-use Rattle.machine.specs.Queue.{Step}
+use Rattle.machine.specs.Queue.{Step, Final}
 use Rattle.machine.specs.Machine.{Path, Run, runOf}
 
 -- ---- input and refusals
@@ -83,23 +83,17 @@ barred B c l fits = unless (settingsOk c) BadSetting (unless (fits && lentOk B c
 
 -- ---- what a run leaves
 
--- the word, data and discrepancy of the path with which the run stopped
-pub record Found : Type 0 where
-  pub word : List ℕ
-  pub bits : List ℕ
-  pub discrepancy : ℕ
-
 -- the final word is u·A of the path taken last, its data the bits at the free indices, its discrepancy R without the sign
-unfoldable pub foundBy : Book → List ℤ → Option Path → Found
-foundBy B ys none = record { word = []; bits = []; discrepancy = 0 }
-foundBy B ys (some p) =
+unfoldable pub finalOf : Book → List ℤ → Option Path → Final
+finalOf B ys none = record { word = []; bits = []; discrepancy = 0 }
+finalOf B ys (some p) =
     record {
       word = transform (B .m) (p .bits);
       bits = freeBits (B .kinds) (p .bits);
       discrepancy = natAbs (R (B .m) ys (p .bits));
     }
 
-unfoldable pub countsOf : List Step → Found → Counts
+unfoldable pub countsOf : List Step → Final → Counts
 countsOf steps found =
     record {
       extractions = length steps;
@@ -116,7 +110,7 @@ unfoldable pub walked : (Step → ℤ) → List Step → List ℤ → List ℤ
 walked entry steps old = map entry steps ++ drop (length steps) old
 
 -- the buffers after a run: word and data are written on success alone, the walk always, and the workspace is zero at its stated size
-unfoldable pub afterRun : Book → Input → Lent → List Step → Found → Bool → Lent
+unfoldable pub afterRun : Book → Input → Lent → List Step → Final → Bool → Lent
 afterRun B c l steps found success =
     record {
       word = cond success (found .word) (l .word);
@@ -138,7 +132,7 @@ pub record Called (A : Type 0) : Type 0 where
 -- the plain call: the word is handed out exactly when its discrepancy is within T, else 10
 unfoldable pub plainRan : Book → Input → Lent → Run → Called Decoded
 plainRan B c l r =
-    let found = foundBy B (c .values) (r .final) in
+    let found = finalOf B (c .values) (r .final) in
     let clear = leb (found .discrepancy) (c .T) in
     record {
       answer = record { outcome = cond clear Done (Refused AboveLimit); counts = countsOf (r .steps) found };
@@ -161,7 +155,7 @@ unfoldable pub plainCall : Input → Lent → Called Decoded
 plainCall c l = plainWith (load (c .book)) c l
 
 -- the hook call: 10 above the limit, else the record of the word's data, or 11
-unfoldable pub hookOf : Bool → Found → RecordRead
+unfoldable pub hookOf : Bool → Final → RecordRead
 hookOf false found = notRead AboveLimit
 hookOf true found = recordRead (readRecord (found .bits))
 
@@ -171,7 +165,7 @@ isDone (Refused r) = false
 
 unfoldable pub hookRan : Book → Input → Lent → Run → Called HookDecoded
 hookRan B c l r =
-    let found = foundBy B (c .values) (r .final) in
+    let found = finalOf B (c .values) (r .final) in
     let read = hookOf (leb (found .discrepancy) (c .T)) found in
     record {
       answer = record { outcome = read .outcome; counts = countsOf (r .steps) found; hook = read .hook };

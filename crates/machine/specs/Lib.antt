@@ -1,4 +1,5 @@
 pub mod Queue
+pub mod Choice
 pub mod Words
 pub mod Machine
 pub mod Calls

@@ -61,3 +61,9 @@ pub record Step : Type 0 where
   pub score : ℤ
   pub crowded : List ℕ
   pub outrun : List ℕ
+
+-- what a run comes to: the final word, its data and its discrepancy
+pub record Final : Type 0 where
+  pub word : List ℕ
+  pub bits : List ℕ
+  pub discrepancy : ℕ

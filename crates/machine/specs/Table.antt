@@ -171,7 +171,7 @@ marked =
     ∷ encodes tiedBook (toBits 2 0b11) (replicate 4 7) 0 (toBits 4 0b1001)
     ∷ []
 
--- M7 to M11, the walk, the words and the counts; and "Also run": 2,047 passes, 2,048 gets 9; D 1 gets 8; the empty book gets 1
+-- M7 to M11: walks, with what is outrun in M8 and crowded out in M10, words and counts; and "Also run": 2,047 passes, 2,048 gets 9; D 1 gets 8; the empty book gets 1
 unfoldable pub markedRuns : List Row
 markedRuns =
     walks (hookRun 4 8 100)
@@ -181,6 +181,11 @@ markedRuns =
     ∷ decodes (hookRun 1 8 402) hookRoom (gave (counts 4 0 2 402) (toBits 16 0b1001_0000_0000_0000) (toBits 10 0b1110000000))
     ∷ decodes (hookRun 1 8 401) hookRoom (keptBack 10 (counts 4 0 2 402) hookRoom)
     ∷ decodes (hookRun 4 2 100) hookRoom (gave (counts 5 2 0 76) (replicate 16 0) (replicate 10 0))
+    ∷ walks (hookRun 1 8 402)
+    (step 0 0 (pos 0) [] [] ∷ step 0 1 (pos 47) [] (1 ∷ []) ∷ step 0 2 (negℤ (pos 242)) [] (2 ∷ []) ∷ step 0 3 (negℤ (pos 346)) [] [] ∷ [])
+    ∷ walks (hookRun 4 2 100)
+    (step 0 0 (pos 0) [] [] ∷ step 0 1 (pos 47) [] [] ∷ step 1 1 (negℤ (pos 9)) (0 ∷ []) [] ∷ step 1 2 (negℤ (pos 4)) (2 ∷ []) []
+    ∷ step 1 3 (negℤ (pos 20)) [] [] ∷ [])
     ∷ decodes (input hookBook 4 8 0 (replicate 16 (pos 0))) hookRoom (gave (counts 4 0 0 0) (replicate 16 0) (replicate 10 0))
     ∷ decodes (input hookBook 4 8 0 (replicate 16 (pos 2047))) hookRoom (gave (counts 4 0 0 0) (replicate 16 0) (replicate 10 0))
     ∷ decodes (input hookBook 4 8 0 (replicate 15 (pos 2047) ++ pos 2048 ∷ [])) hookRoom (keptBack 9 noCounts hookRoom)
@@ -188,7 +193,7 @@ markedRuns =
     ∷ decodes (input [] 4 8 100 hookValues) hookRoom (keptBack 1 noCounts hookRoom)
     ∷ []
 
--- the order of equals, with every value 0: more blocks first, then the lower number; what is outrun; the words of a block, equals by the smaller number
+-- the order of equals, with every value 0: more blocks first, then the lower number; the words of a block, equals by the smaller number
 unfoldable pub queueRows : List Row
 queueRows =
     walks (input (flatBook 0 0 0 0) 2 8 0 (replicate 4 (pos 0)))

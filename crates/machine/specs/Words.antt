@@ -1,9 +1,9 @@
 -- The words of a block after a path's earlier bits, nearest first: document 01, "Soft values and scores" and "The marker's plain machine".
 -- Assumes nothing.
-use mathlib.Core.Bool.{Bool, true, false, cond, not, _&&_, _||_}
+use mathlib.Core.Bool.{Bool, true, not, _&&_, _||_}
 use mathlib.Core.List.{List}
-use mathlib.Core.Option.{Option, none, some}
-use Prim.Native.Nat.{ℕ, zero, suc, _^_}
+use mathlib.Core.Option.{Option}
+use Prim.Native.Nat.{ℕ, _^_}
 use lib.ListN.{take, drop}
 use lib.IntN.{ℤ}
 use lib.Signed.{ltZ}
@@ -13,6 +13,7 @@ use Rattle.polar.specs.Transform.{transform}
 use Rattle.polar.specs.Value.{penalties}
 use Rattle.codebook.specs.Book.{Book, freeCount, startOf, blockAt, kindsOf}
 use Rattle.codec.specs.Code.{fill}
+use Rattle.machine.specs.Choice.{firstOf}
 
 -- a path's bits with a word in their last block: the sum of that block's penalties, and the word's number
 pub record Ranked : Type 0 where
@@ -38,20 +39,9 @@ nearer x y =
 unfoldable pub setting : Book → List ℤ → List ℕ → ℕ → ℕ → Ranked
 setting B ys u b w = rank B ys b (fill u (kindsOf B b) (toBits (freeCount (kindsOf B b)) w))
 
--- the nearer of a word that passes a test and one found before
-unfoldable pub choose : Bool → Ranked → Option Ranked → Option Ranked
-choose false x found = found
-choose true x none = some x
-choose true x (some y) = some (cond (nearer x y) x y)
-
--- the nearest of the first n words that passes a test
-unfoldable pub nearestOf : (Ranked → Bool) → (ℕ → Ranked) → ℕ → Option Ranked
-nearestOf test word zero = none
-nearestOf test word (suc n) = let x = word n in choose (test x) x (nearestOf test word n)
-
 -- the nearest word of block b after the bits u that passes a test: every setting of the block's free bits is tried
 unfoldable pub nearestWith : (Ranked → Bool) → Book → List ℤ → List ℕ → ℕ → Option Ranked
-nearestWith test B ys u b = nearestOf test (setting B ys u b) (2 ^ freeCount (kindsOf B b))
+nearestWith test B ys u b = firstOf nearer test (setting B ys u b) (2 ^ freeCount (kindsOf B b))
 
 -- the nearest word of block b after the bits u
 unfoldable pub nearest : Book → List ℤ → List ℕ → ℕ → Option Ranked

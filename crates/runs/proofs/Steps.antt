@@ -15,21 +15,22 @@ use Rattle.laws.proofs.Tests.{cond-case}
 use Rattle.laws.proofs.Lists.{all-map, all-take, all-keep}
 use Rattle.codebook.specs.Book.{Book}
 use Rattle.machine.specs.Queue.{ahead, roomFor}
-use Rattle.machine.specs.Words.{Ranked, choose, nearer, nearestOf, nearestWith, nearest, setting}
+use Rattle.machine.specs.Choice.{choose, firstOf}
+use Rattle.machine.specs.Words.{Ranked, nearer, nearestWith, nearest}
 use Rattle.machine.specs.Machine.{Path, keyOf, path, copyWith, copyOf, cut, advanceWith, advance, staying, extract}
 use Rattle.runs.proofs.Order.{all-insert}
 
 -- ---- words that are found
 
--- what is found is one of those tried
-pub nearest-may : (P : Ranked → Type 0) (test : Ranked → Bool) (word : ℕ → Ranked) (n : ℕ) → ((w : ℕ) → P (word w)) → May P (nearestOf test word n)
-unfolding nearestOf May choose
-nearest-may P test word zero h = tt
-nearest-may P test word (suc n) h = go (test (word n)) (nearestOf test word n) (nearest-may P test word n h)
+-- what is chosen is one of those tried, in any order
+pub first-may : {A : Type 0} (P : A → Type 0) (order : A → A → Bool) (test : A → Bool) (word : ℕ → A) (n : ℕ) → ((w : ℕ) → P (word w)) → May P (firstOf order test word n)
+unfolding firstOf May choose
+first-may P order test word zero h = tt
+first-may {A} P order test word (suc n) h = go (test (word n)) (firstOf order test word n) (first-may P order test word n h)
   where
-    go : (b : Bool) (o : Option Ranked) → May P o → May P (choose b (word n) o)
+    go : (b : Bool) (o : Option A) → May P o → May P (choose order b (word n) o)
     go true none k = h n
-    go true (some y) k = cond-case P (nearer (word n) y) (λ _. h n) (λ _. k)
+    go true (some y) k = cond-case P (order (word n) y) (λ _. h n) (λ _. k)
     go false none k = tt
     go false (some y) k = k
 
@@ -38,20 +39,20 @@ unfoldable pub Found : Option Ranked → Type 0
 Found none = ⊥
 Found (some x) = Unit {0}
 
-choose-found : (x : Ranked) (o : Option Ranked) → Found (choose true x o)
+choose-found : (x : Ranked) (o : Option Ranked) → Found (choose nearer true x o)
 unfolding choose Found
 choose-found x none = tt
 choose-found x (some y) = tt
 
-nearestOf-found : (word : ℕ → Ranked) (n : ℕ) → 0 < n → Found (nearestOf (λ _. true) word n)
-unfolding nearestOf
-nearestOf-found word zero h = absurd (lt-irrefl 0 h)
-nearestOf-found word (suc n) h = choose-found (word n) _
+first-found : (word : ℕ → Ranked) (n : ℕ) → 0 < n → Found (firstOf nearer (λ _. true) word n)
+unfolding firstOf
+first-found word zero h = absurd (lt-irrefl 0 h)
+first-found word (suc n) h = choose-found (word n) _
 
 -- a block always has a nearest word
 pub nearest-found : (B : Book) (ys : List ℤ) (u : List ℕ) (b : ℕ) → Found (nearest B ys u b)
 unfolding nearest nearestWith
-nearest-found B ys u b = nearestOf-found _ _ (pow-pos _)
+nearest-found B ys u b = first-found _ _ (pow-pos _)
 
 -- ---- the blocks of a copy, and of a path with its next block
 
