@@ -1,7 +1,7 @@
 -- A code book, loaded: the kind of each index of u and the blocks. Document 01, "The code". Assumes nothing.
 use mathlib.Core.List.{List, [], _∷_}
 use Prim.Native.Nat.{ℕ, zero, suc, _+_, _^_}
-use lib.ListN.{length, getD, take, drop}
+use lib.ListN.{getD, take, drop}
 use lib.IntN.{ℤ, pos}
 
 -- An index of u is free; or frozen, its bit zero; or tied: its bit is the sum modulo 2 of the bits at the named indices, its terms

@@ -1,7 +1,7 @@
 -- The limits of document 01, "The code" and "The code book", that every loaded book keeps: proofs/Loaded.antt shows it. Assumes nothing.
 use mathlib.Core.Path.{_≡_}
 use mathlib.Core.List.{List, [], _∷_}
-use Prim.Native.Nat.{ℕ, zero, suc, _+_, _^_, _%_, _≤_, _<_}
+use Prim.Native.Nat.{ℕ, suc, _+_, _^_, _%_, _≤_, _<_}
 use lib.ListN.{length}
 use lib.IntN.{natAbs}
 use Rattle.laws.specs.Lists.{All, Distinct}

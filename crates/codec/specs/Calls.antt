@@ -1,6 +1,6 @@
 -- What encode, test, read data, make record and read record answer, and the buffer that each is lent: document 01, "Refusal table".
 -- Every call takes the book's bytes; its faults 1 to 6 come first, then 7, 9 and 11. Assumes nothing.
-use mathlib.Core.Bool.{Bool, true, false, cond, _&&_}
+use mathlib.Core.Bool.{Bool, true, cond, _&&_}
 use mathlib.Core.List.{List, [], _∷_}
 use mathlib.Core.Option.{Option, none, some}
 use Prim.Native.Nat.{ℕ, _^_}

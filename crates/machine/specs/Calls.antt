@@ -3,7 +3,7 @@
 use mathlib.Core.Bool.{Bool, true, false, cond, _&&_}
 use mathlib.Core.List.{List, [], _∷_, _++_, map}
 use mathlib.Core.Option.{Option, none, some}
-use Prim.Native.Nat.{ℕ, zero, suc, _+_, _*_, _^_}
+use Prim.Native.Nat.{ℕ, _+_, _*_, _^_}
 use lib.ListN.{length, drop, replicate}
 use lib.IntN.{ℤ, pos, natAbs}
 use lib.Dec.{leb, eqb}
@@ -17,7 +17,6 @@ use Rattle.codebook.specs.declared.Outcome.the-variants.{Done, Refused}
 use Rattle.codebook.specs.Refusals.{unless}
 use Rattle.codebook.specs.Book.{Book, freeCount}
 use Rattle.codebook.specs.Loading.{Load, refused, loaded, load}
-use Rattle.codec.specs.declared.HookRecord.{HookRecord}
 use Rattle.codec.specs.declared.RecordRead.{RecordRead}
 use Rattle.codec.specs.Code.{freeBits}
 use Rattle.codec.specs.Record.{noRecord, readRecord}

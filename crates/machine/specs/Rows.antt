@@ -14,13 +14,13 @@ use Rattle.codebook.specs.Loading.{Load, refused, loaded, load, shapeOf}
 use Rattle.codec.specs.declared.HookRecord.{HookRecord}
 use Rattle.codec.specs.declared.Tested.{Tested}
 use Rattle.codec.specs.Record.{recordBits, readRecord}
-use Rattle.codec.specs.Calls.{Wrote, encodeCall, testCall, readDataCall, makeRecordCall, readRecordCall}
+use Rattle.codec.specs.Calls.{encodeCall, testCall, readDataCall, makeRecordCall, readRecordCall}
 use Rattle.machine.specs.declared.Counts.{Counts}
 use Rattle.machine.specs.declared.Decoded.{Decoded}
 use Rattle.machine.specs.declared.HookDecoded.{HookDecoded}
 use Rattle.machine.specs.Queue.{Step}
 use Rattle.machine.specs.Words.{Ranked, nearest, nextAfter}
-use Rattle.machine.specs.Machine.{Run, runOf}
+use Rattle.machine.specs.Machine.{runOf}
 use Rattle.machine.specs.Calls.{Input, Lent, Called, plainCall, hookCall}
 
 -- n, k, V and the number of the outcome that loading answers

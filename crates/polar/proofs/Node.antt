@@ -1,14 +1,13 @@
 -- A node's values: which half holds an offset, what the values go by, and the block law: the penalties of a block's bits add up to the
 -- discrepancy of its word from the values of its node. By induction on the steps down. Assumes nothing.
 use mathlib.Core.Path.{_≡_, refl, sym, ap, ap₂, _∙_, subst}
-use mathlib.Core.Bool.{Bool, true, false, cond}
-use mathlib.Core.List.{List, [], _∷_, _++_}
+use mathlib.Core.List.{List}
 use mathlib.Core.Logic.{_⊎_, inl, inr}
 use Prim.Native.Nat.{ℕ, zero, suc, _+_, _-_, _*_, _/_, _%_, _^_, _≤_, _<_}
 use native.Mathlib.Nat.{two-pow-succ, zero-add, zero-mul, add-mul, mul-le-mul-right, div-add-mod'}
 use native.Mathlib.Omega.{arith}
 use lib.ListN.{length, take, drop, length-drop}
-use lib.Seq.{take-take, drop-drop, take-all, length-take-le}
+use lib.Seq.{drop-drop, take-all, length-take-le}
 use lib.IntN.{ℤ, pos, negℤ}
 use lib.Arith.{digits-lt}
 use lib.Pow.{pow-add, pow-pos}

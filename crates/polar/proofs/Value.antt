@@ -1,8 +1,7 @@
 -- 002's Theorem 1: the costs of the bits of u add up to the discrepancy of their word. So R is the discrepancy with the other sign. By
 -- induction on m: the first half of the bits goes by Q, the last by P, and Lemma 1 joins them. Assumes nothing.
 use mathlib.Core.Path.{_≡_, refl, sym, ap, ap₂, _∙_}
-use mathlib.Core.Bool.{Bool, true, false, cond}
-use mathlib.Core.List.{List, [], _∷_, _++_}
+use mathlib.Core.List.{List, [], _∷_}
 use mathlib.Core.Logic.{_⊎_, inl, inr}
 use Prim.Native.Nat.{ℕ, zero, suc, _+_, _-_, _^_, _≤_, _<_}
 use native.Mathlib.Nat.{two-pow-succ, add-zero, add-suc, zero-add, add-assoc}
@@ -17,7 +16,7 @@ use Rattle.laws.proofs.Lists.{all-take, all-drop, drop-take}
 use Rattle.laws.proofs.Integers.{neg-abs}
 use Rattle.polar.specs.Bits.{Bit, addBits}
 use Rattle.polar.specs.Transform.{transform}
-use Rattle.polar.specs.Soft.{Qs, Ps, penalty, cost, discrepancy}
+use Rattle.polar.specs.Soft.{Qs, Ps, cost, discrepancy}
 use Rattle.polar.specs.Value.{value, penalties, R}
 use Rattle.polar.proofs.Bits.{first-half, last-half, add-length}
 use Rattle.polar.proofs.Transform.{transform-suc, transform-length, transform-bits}

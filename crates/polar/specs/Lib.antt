@@ -1,5 +1,6 @@
 pub mod Bits
 pub mod Transform
+pub mod Matrix
 pub mod Soft
 pub mod Value
 pub mod Node

@@ -5,7 +5,7 @@ use lib.ListN.{take, drop}
 use Rattle.polar.specs.Bits.{addBits}
 
 -- c = u·A, for A the m-fold Kronecker power of the rows (1,0) and (1,1). By halves: the A of twice the size has the rows (A,0) and (A,A),
--- so that (a,b) times it is (a·A + b·A, b·A).
+-- so that (a,b) times it is (a·A + b·A, b·A). proofs/Matrix.antt shows that this is the product with the matrix.
 unfoldable pub transform : ℕ → List ℕ → List ℕ
 transform zero u = u
 transform (suc m) u =

@@ -1,20 +1,18 @@
 -- Before every extraction the queue is in order and holds at most D paths, the path to be taken among them; and after step 2 the queue and the
 -- path taken are at most D. Kept by each extraction: a cut leaves room for the copy, an insertion keeps the order. Assumes nothing.
-use mathlib.Core.Path.{_≡_, refl}
-use mathlib.Core.Bool.{Bool, cond, not}
-use mathlib.Core.List.{List, [], _∷_}
+use mathlib.Core.List.{List, _∷_}
 use mathlib.Core.Option.{Option, none, some}
-use Prim.Native.Nat.{ℕ, suc, _-_, _≤_, _<_}
+use Prim.Native.Nat.{ℕ, _-_, _≤_, _<_}
 use native.Mathlib.Omega.{arith}
 use lib.ListN.{length, getD, take, length-take}
 use lib.IntN.{ℤ}
-use lib.Dec.{T, eqb}
+use lib.Dec.{eqb}
 use Rattle.laws.specs.Lists.{All}
 use Rattle.laws.proofs.Tests.{cond-case}
 use Rattle.laws.proofs.Lists.{keep-length}
 use Rattle.codebook.specs.Book.{Book}
 use Rattle.machine.specs.Queue.{insert, ahead, roomFor, visit}
-use Rattle.machine.specs.Machine.{Path, State, keyOf, emptyPath, copyOf, cut, advance, staying, extract}
+use Rattle.machine.specs.Machine.{Path, State, keyOf, copyOf, cut, advance, staying, extract}
 use Rattle.runs.proofs.Order.{Ordered, insert-length, insert-ordered, take-ordered, keep-ordered}
 use Rattle.runs.proofs.States.{stateOf, firstState, statesOf, run-states}
 

@@ -2,7 +2,7 @@
 -- queued path has still to enter was visited L times; so each extraction adds a visit, and there are at most L x V. Assumes nothing.
 use mathlib.Core.Path.{_≡_, refl, sym, ap, _∙_, subst}
 use mathlib.Core.Logic.{_≢_}
-use mathlib.Core.Bool.{Bool, true, false, cond, not}
+use mathlib.Core.Bool.{Bool, not}
 use mathlib.Core.List.{List, [], _∷_}
 use mathlib.Core.Option.{Option, none, some}
 use Prim.Native.Nat.{ℕ, zero, suc, _+_, _*_, _≤_, _<_, zero-le, suc-le-suc}
@@ -18,7 +18,7 @@ use Rattle.laws.proofs.Tests.{cond-case, neqb→ne}
 use Rattle.laws.proofs.Lists.{all-map, all-set, all-at, all-keep, all-replicate, sum-bump, sum-le}
 use Rattle.codebook.specs.Book.{Book}
 use Rattle.machine.specs.Queue.{before, insert, ahead, visit, Step}
-use Rattle.machine.specs.Machine.{Path, keyOf, Run, emptyPath, copyOf, cut, advance, staying, extract, run, runOf, after, stopped}
+use Rattle.machine.specs.Machine.{Path, keyOf, Run, emptyPath, copyOf, advance, staying, extract, run, runOf, after, stopped}
 use Rattle.runs.proofs.Order.{all-insert}
 use Rattle.runs.proofs.Steps.{copy-blocks, advance-blocks, all-cut}
 

@@ -1,8 +1,8 @@
 -- The final word is in the code, its data are the bits at the free indices, and its discrepancy is exact. The invariant: the bits of each
 -- queued path fill its blocks and obey their kinds; filling the next block, or the last one anew, keeps it so. Assumes nothing.
 use mathlib.Core.Path.{_≡_, refl, sym, ap, ap₂, _∙_, subst}
-use mathlib.Core.Bool.{Bool, true, false, not, _&&_}
-use mathlib.Core.List.{List, [], _∷_, _++_}
+use mathlib.Core.Bool.{Bool, not, _&&_}
+use mathlib.Core.List.{List, _∷_, _++_}
 use mathlib.Core.Option.{Option, none, some}
 use Prim.Native.Nat.{ℕ, zero, suc, _+_, _^_, _≤_, _<_}
 use native.Mathlib.Nat.{zero-add}
@@ -12,7 +12,7 @@ use lib.Seq.{take-all, take-take, take-add, length-take-le}
 use lib.IntN.{ℤ}
 use lib.Dec.{T, eqb}
 use Rattle.laws.specs.Lists.{All, May}
-use Rattle.laws.proofs.Tests.{and-in, and-left, and-right, neqb→ne}
+use Rattle.laws.proofs.Tests.{and-in, and-left, neqb→ne}
 use Rattle.laws.proofs.Lists.{all-take}
 use Rattle.polar.specs.Bits.{Bit, toBits}
 use Rattle.polar.specs.Transform.{transform}

@@ -1,7 +1,7 @@
 -- Before every extraction the numbers of the queued paths are distinct and below the next number: only copies take new numbers, and a copy
 -- takes the next. What is removed takes its number with it. Assumes nothing.
-use mathlib.Core.Path.{_≡_, refl, sym, ap, _∙_, subst}
-use mathlib.Core.Bool.{Bool, true, false, cond, not}
+use mathlib.Core.Path.{_≡_, sym, subst}
+use mathlib.Core.Bool.{Bool}
 use mathlib.Core.List.{List, [], _∷_}
 use mathlib.Core.Logic.{_≢_}
 use mathlib.Core.Option.{Option, none, some}
@@ -10,12 +10,12 @@ use native.Mathlib.Nat.{lt-irrefl}
 use native.Mathlib.Omega.{arith}
 use lib.ListN.{getD, take}
 use lib.IntN.{ℤ}
-use lib.Dec.{T, ltb, eqb}
+use lib.Dec.{eqb}
 use Rattle.laws.specs.Lists.{All, May, Distinct, keep}
 use Rattle.laws.proofs.Tests.{cond-case}
 use Rattle.laws.proofs.Lists.{all-map, all-mapped, all-take, all-keep}
 use Rattle.codebook.specs.Book.{Book}
-use Rattle.machine.specs.Queue.{before, insert, ahead, numbers, roomFor, visit}
+use Rattle.machine.specs.Queue.{before, insert, ahead, numbers, roomFor}
 use Rattle.machine.specs.Machine.{Path, State, keyOf, emptyPath, copyOf, cut, advance, staying, extract}
 use Rattle.runs.proofs.Order.{all-insert}
 use Rattle.runs.proofs.States.{stateOf, firstState, statesOf, run-states}

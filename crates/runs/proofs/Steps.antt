@@ -1,16 +1,16 @@
 -- What one extraction does to the queue: what holds of the queued paths, of the copy and of the path with its next block holds of the queue
 -- afterwards; and how many blocks those two have. Assumes nothing.
-use mathlib.Core.Path.{_≡_, refl, sym, ap, _∙_}
-use mathlib.Core.Bool.{Bool, true, false, cond}
-use mathlib.Core.List.{List, [], _∷_}
+use mathlib.Core.Path.{_≡_, refl}
+use mathlib.Core.Bool.{Bool, true, false}
+use mathlib.Core.List.{List}
 use mathlib.Core.Option.{Option, none, some}
-use Prim.Native.Nat.{ℕ, zero, suc, _-_, _≤_, _<_}
+use Prim.Native.Nat.{ℕ, zero, suc, _-_, _<_}
 use native.Mathlib.Nat.{lt-irrefl}
 use lib.Pow.{pow-pos}
-use lib.ListN.{length, getD, take}
+use lib.ListN.{getD, take}
 use lib.IntN.{ℤ}
-use lib.Dec.{T, ltb, eqb}
-use Rattle.laws.specs.Lists.{All, May, keep}
+use lib.Dec.{ltb, eqb}
+use Rattle.laws.specs.Lists.{All, May}
 use Rattle.laws.proofs.Tests.{cond-case}
 use Rattle.laws.proofs.Lists.{all-map, all-take, all-keep}
 use Rattle.codebook.specs.Book.{Book}
