@@ -4,3 +4,4 @@ pub mod Digits
 pub mod Record
 pub mod Answers
 pub mod Calls
+pub mod Ties

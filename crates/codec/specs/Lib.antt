@@ -1,3 +1,4 @@
 pub mod Code
+pub mod Ties
 pub mod Record
 pub mod Calls

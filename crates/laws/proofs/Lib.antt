@@ -1,3 +1,6 @@
 pub mod Tests
 pub mod Lists
+pub mod Pairs
+pub mod Sets
 pub mod Integers
+pub mod Signed

@@ -1,13 +1,14 @@
 -- Laws of the notions on lists, and of lists cut and joined, each by induction on the list. Assumes nothing.
-use mathlib.Core.Path.{_≡_, refl, sym, ap, _∙_}
+use mathlib.Core.Path.{_≡_, refl, sym, ap, _∙_, ap₂}
 use mathlib.Core.Bool.{Bool}
-use mathlib.Core.List.{List, [], _∷_, _++_, map, zipWith}
+use mathlib.Core.List.{List, [], _∷_, _++_, map, zipWith, append-assoc}
 use mathlib.Core.Logic.{_⊎_, inl, inr}
-use Prim.Native.Nat.{ℕ, zero, suc, _-_, _*_, _≤_, _<_, min, zero-le}
+use Prim.Native.Nat.{ℕ, zero, suc, _+_, _-_, _*_, _≤_, _<_, min, zero-le}
 use native.Mathlib.Nat.{not-suc-le-zero, le-of-suc-le-suc, mul-suc, sub-zero, zero-sub, suc-sub-suc}
+use native.Mathlib.Numerals.{add-one}
 use native.Mathlib.Omega.{arith}
 use lib.ListN.{length, getD, take, drop, set, replicate, length-append, List·getD-append}
-use lib.Seq.{take-nil, getD-at}
+use lib.Seq.{take-nil, getD-at, getD-take, getD-drop, getD-append-add, length-take-le, paste, paste-suc, length-paste-head}
 use lib.Dec.{T}
 use Rattle.laws.specs.Lists.{All, keep, tab, sum}
 use Rattle.laws.proofs.Tests.{cond-case, lt-or}
@@ -22,6 +23,11 @@ module _ {A : Type 0} where
   unfolding All
   all-any f [] = tt
   all-any f (x ∷ xs) = (f x, all-any f xs)
+
+  pub all-both : {P Q R : A → Type 0} → ((x : A) → P x → Q x → R x) → (xs : List A) → All P xs → All Q xs → All R xs
+  unfolding All
+  all-both f [] h k = tt
+  all-both f (x ∷ xs) h k = (f x (h .0) (k .0), all-both f xs (h .1) (k .1))
 
   pub all-take : (P : A → Type 0) (n : ℕ) (xs : List A) → All P xs → All P (take n xs)
   unfolding All
@@ -101,6 +107,11 @@ unfolding All
 all-mapped f P [] h = tt
 all-mapped f P (x ∷ xs) h = (h .0, all-mapped f P xs (h .1))
 
+pub all-unmapped : {A B : Type 0} (f : A → B) (P : B → Type 0) (xs : List A) → All P (map f xs) → All (λ (x : A). P (f x)) xs
+unfolding All
+all-unmapped f P [] h = tt
+all-unmapped f P (x ∷ xs) h = (h .0, all-unmapped f P xs (h .1))
+
 -- ---- position by position
 
 module _ {A B C : Type 0} (f : A → B → C) where
@@ -135,6 +146,36 @@ module _ {A B C : Type 0} (f : A → B → C) where
   zip-append [] zs (y ∷ ys) ws e = absurd (omega arith)
   zip-append (x ∷ xs) zs [] ws e = absurd (omega arith)
   zip-append (x ∷ xs) zs (y ∷ ys) ws e = ap (λ l. f x y ∷ l) (zip-append xs zs ys ws (omega arith))
+
+  pub getD-zip : (xs : List A) (ys : List B) (i : ℕ) (a : A) (b : B) (c : C) → i < length xs → i < length ys → getD (zipWith f xs ys) i c ≡ f (getD xs i a) (getD ys i b)
+  unfolding zipWith
+  getD-zip [] ys i a b c h k = absurd (not-suc-le-zero h)
+  getD-zip (x ∷ xs) [] i a b c h k = absurd (not-suc-le-zero k)
+  getD-zip (x ∷ xs) (y ∷ ys) zero a b c h k = refl
+  getD-zip (x ∷ xs) (y ∷ ys) (suc i) a b c h k = getD-zip xs ys i a b c (le-of-suc-le-suc h) (le-of-suc-le-suc k)
+
+-- ---- a list d whose elements from index `at` on are being replaced by those of s
+
+module _ {A : Type 0} (d s : List A) (at : ℕ) where
+  -- one more is stored
+  pub paste-next : (z : A) (i : ℕ) {l : List A} {v : A} → l ≡ paste d at s i → at + i < length d → i < length s → v ≡ getD s i z → set l (at + i) v ≡ paste d at s (i + 1)
+  paste-next z i e h k ev = ap₂ (λ x y. set x (at + i) y) e ev ∙ paste-suc d at s i z h k ∙ ap (paste d at s) (sym (add-one i))
+
+  -- an element before what was stored is as it was, and so is one after it
+  pub getD-paste-before : (z : A) (i k : ℕ) → at ≤ length d → k < at → getD (paste d at s i) k z ≡ getD d k z
+  getD-paste-before z i k h b =
+      ap (λ r. getD r k z) (append-assoc (take at d) (take i s) (drop (at + i) d))
+      ∙ List·getD-append (take at d) (take i s ++ drop (at + i) d) z k (omega (arith, length-take-le at d h))
+      ∙ getD-take at d k z b
+
+  pub getD-paste-after : (z : A) (i k : ℕ) → at ≤ length d → i ≤ length s → at + i ≤ k → getD (paste d at s i) k z ≡ getD d k z
+  getD-paste-after z i k h g b =
+      let back : at + i + (k - (at + i)) ≡ k = omega arith in
+      let e : k ≡ length (take at d ++ take i s) + (k - (at + i)) = omega (arith, length-paste-head d at s i h g) in
+      ap (λ n. getD (paste d at s i) n z) e
+      ∙ getD-append-add (take at d ++ take i s) (drop (at + i) d) (k - (at + i)) z
+      ∙ getD-drop (at + i) d (k - (at + i)) z
+      ∙ ap (λ n. getD d n z) back
 
 -- ---- sums
 

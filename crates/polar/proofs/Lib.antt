@@ -5,3 +5,5 @@ pub mod Soft
 pub mod Value
 pub mod Node
 pub mod Ranges
+pub mod Writes
+pub mod Stages

@@ -1,7 +1,7 @@
 -- The transform is u·A: each of its bits is the sum modulo 2 of the bits of u times the matrix's column. By induction on m: the rows and columns
 -- of the two halves. Assumes nothing.
 use mathlib.Core.Path.{_≡_, refl, sym, ap, ap₂, _∙_}
-use mathlib.Core.List.{List, [], _∷_, _++_, zipWith}
+use mathlib.Core.List.{List, [], _∷_, _++_}
 use mathlib.Core.Logic.{_⊎_, inl, inr}
 use Prim.Native.Nat.{ℕ, zero, suc, _+_, _-_, _*_, _/_, _%_, _^_, _≤_, _<_}
 use native.Mathlib.Nat.{two-pow-succ, zero-add, add-zero, add-suc, one-mul, zero-mul, mul-zero, mul-one, div-eq-of-lt, mod-eq-of-lt}
@@ -11,7 +11,7 @@ use lib.Seq.{getD-take, getD-drop, getD-append-add, ext-getD}
 use lib.Arith.{digits-div, digits-mod}
 use Rattle.laws.specs.Lists.{All}
 use Rattle.laws.proofs.Tests.{lt-or}
-use Rattle.laws.proofs.Lists.{all-take, all-drop, length-tab, getD-tab}
+use Rattle.laws.proofs.Lists.{all-take, all-drop, length-tab, getD-tab, getD-zip}
 use Rattle.polar.specs.Bits.{Bit, _⊕_, addBits}
 use Rattle.polar.specs.Transform.{transform}
 use Rattle.polar.specs.Matrix.{kernel, entry, column, product}
@@ -84,11 +84,8 @@ module _ (m : ℕ) (u : List ℕ) (j : ℕ) (hj : j < 2 ^ m) where
 -- ---- the transform, bit by bit
 
 add-at : (a b : List ℕ) (i : ℕ) → i < length a → i < length b → getD (addBits a b) i 0 ≡ getD a i 0 ⊕ getD b i 0
-unfolding addBits zipWith
-add-at [] b i h k = absurd (omega arith)
-add-at (x ∷ a) [] i h k = absurd (omega arith)
-add-at (x ∷ a) (y ∷ b) zero h k = refl
-add-at (x ∷ a) (y ∷ b) (suc i) h k = add-at a b i (omega arith) (omega arith)
+unfolding addBits
+add-at a b i h k = getD-zip _⊕_ a b i 0 0 0 h k
 
 one-bit : (u : List ℕ) (j : ℕ) → length u ≡ 1 → All Bit u → j < 1 → getD (transform 0 u) j 0 ≡ column 0 u j 1 % 2
 unfolding transform column entry All

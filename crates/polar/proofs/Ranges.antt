@@ -8,7 +8,7 @@ use native.Mathlib.Nat.{two-pow-succ, add-mul, mul-add, mul-le-mul-right, suc-mu
 use native.Mathlib.Omega.{arith}
 use lib.ListN.{length, take, drop, replicate, length-append, length-replicate}
 use lib.Seq.{take-at, take-length}
-use lib.IntN.{ℤ, pos, negℤ, natAbs}
+use lib.IntN.{ℤ, pos, negℤ}
 use lib.Pow.{pow-mono}
 use Rattle.laws.specs.Lists.{All}
 use Rattle.laws.proofs.Tests.{lt-or}
@@ -18,13 +18,10 @@ use Rattle.polar.specs.Transform.{transform}
 use Rattle.polar.specs.Soft.{Qs, Ps, discrepancy}
 use Rattle.polar.specs.Value.{R}
 use Rattle.polar.specs.Node.{rest, restBits, child, node}
+use Rattle.polar.specs.Layers.{Within}
 use Rattle.polar.proofs.Soft.{Q-abs, P-abs, cost-le}
 use Rattle.polar.proofs.Value.{costs, costs-add, costs-same, theorem1, R-costs}
 use Rattle.polar.proofs.Node.{first, child-low, child-high}
-
--- no magnitude is above M
-abbrev pub Within : ℕ → ℤ → Type 0
-Within M y = natAbs y ≤ M
 
 -- ---- R
 

@@ -1,13 +1,17 @@
 -- Q by the signs of its arguments, the penalty as a cost with the other sign, and 002's Lemma 1: what a pair of bits costs is what they cost
 -- after one step down. By cases on the signs. Assumes nothing.
 use mathlib.Core.Path.{_≡_, refl, sym, ap, _∙_}
-use mathlib.Core.Bool.{Bool, true, false, cond, _||_}
+use mathlib.Core.Bool.{Bool, true, false, cond, _||_, not, Bool·beq, true≢false}
 use mathlib.Core.List.{List, [], _∷_, _++_, zipWith}
-use Prim.Native.Nat.{ℕ, zero, suc, _+_, _-_, _*_, _≤_, min}
+use Prim.Native.Nat.{ℕ, zero, suc, _+_, _-_, _*_, _≤_, min, _<_}
 use native.Mathlib.Omega.{arith}
-use lib.ListN.{length}
-use lib.IntN.{ℤ, pos, negsuc, negℤ, natAbs, subℕ}
+use lib.ListN.{length, getD, drop, drop-of-length-le}
+use lib.IntN.{ℤ, pos, negsuc, negℤ, natAbs, subℕ, _+ℤ_, _-ℤ_}
+use native.Mathlib.Numerals.{add-one}
+use lib.Seq.{drop-cons}
+use lib.Signed.{nonNeg}
 use lib.Dec.{T, ltb, eqb, ltb→lt, nltb→le, eqb→eq}
+use borrow.Author.Tests.{eq-eqb, ne-eqb}
 use Rattle.laws.specs.Lists.{All}
 use Rattle.laws.proofs.Tests.{cond-case}
 use Rattle.laws.proofs.Integers.{neg-abs, add-abs}
@@ -135,6 +139,16 @@ discrepancy-append [] w (a ∷ xs) b l = absurd (omega arith)
 discrepancy-append (v ∷ vs) w [] b l = absurd (omega arith)
 discrepancy-append (v ∷ vs) w (a ∷ xs) b l = omega (arith, discrepancy-append vs w xs b (omega arith))
 
+-- the discrepancy from position i on: position i's cost and the rest
+pub discrepancy-step : (w : List ℕ) (ys : List ℤ) (i : ℕ) → i < length w → i < length ys →
+    discrepancy (drop i w) (drop i ys) ≡ cost (getD w i 0) (getD ys i (pos 0)) + discrepancy (drop (i + 1) w) (drop (i + 1) ys)
+unfolding discrepancy
+discrepancy-step w ys i h k = rw (add-one, drop-cons w i 0 h, drop-cons ys i (pos 0) k)
+
+pub discrepancy-end : (w : List ℕ) (ys : List ℤ) (i : ℕ) → length w ≤ i → discrepancy (drop i w) ys ≡ 0
+unfolding discrepancy
+discrepancy-end w ys i h = ap (λ l. discrepancy l ys) (drop-of-length-le w {i = i} h)
+
 -- ---- lengths
 
 pub Qs-length : (a b : List ℤ) → length a ≡ length b → length (Qs a b) ≡ length a
@@ -164,3 +178,56 @@ P-abs (suc v) a b = omega (arith, add-abs b (negℤ a), neg-abs a)
 pub cost-le : (v : ℕ) (s : ℤ) → cost v s ≤ natAbs s
 unfolding cost
 cost-le v s = cond-case (λ (n : ℕ). n ≤ natAbs s) (eqb v (hard s)) (λ _. omega arith) (λ _. omega arith)
+
+-- ---- each definition by the tests that the code makes
+
+pub hard-below : (s : ℤ) → T (not (nonNeg s)) → 1 ≡ hard s
+unfolding hard
+hard-below (pos n) t = absurd t
+hard-below (negsuc n) t = refl
+
+pub hard-above : (s : ℤ) → T (nonNeg s) → 0 ≡ hard s
+unfolding hard
+hard-above (pos n) t = refl
+hard-above (negsuc n) t = absurd t
+
+pub abs-below : (s : ℤ) → T (not (nonNeg s)) → negℤ s ≡ pos (natAbs s)
+abs-below (pos n) t = absurd t
+abs-below (negsuc n) t = refl
+
+-- the flags are those of the tests for being below 0
+pub Q-same : (a b : ℤ) → Bool·beq (not (nonNeg a)) (not (nonNeg b)) ≡ true → pos (min (natAbs a) (natAbs b)) ≡ Q a b
+Q-same (pos a) (pos b) e = sym (Q-pos-pos a b)
+Q-same (pos a) (negsuc b) e = absurd (true≢false (sym e))
+Q-same (negsuc a) (pos b) e = absurd (true≢false (sym e))
+Q-same (negsuc a) (negsuc b) e = sym (Q-neg-neg a b)
+
+pub Q-other : (a b : ℤ) → Bool·beq (not (nonNeg a)) (not (nonNeg b)) ≡ false → negℤ (pos (min (natAbs a) (natAbs b))) ≡ Q a b
+Q-other (pos a) (pos b) e = absurd (true≢false e)
+Q-other (pos a) (negsuc b) e = sym (Q-pos-neg a b)
+Q-other (negsuc a) (pos b) e = sym (Q-neg-pos a b)
+Q-other (negsuc a) (negsuc b) e = absurd (true≢false e)
+
+pub P-zero : (v : ℕ) (a b : ℤ) → v ≡ 0 → b +ℤ a ≡ P v a b
+unfolding P
+P-zero zero a b e = refl
+P-zero (suc v) a b e = absurd (omega arith)
+
+pub P-one : (v : ℕ) (a b : ℤ) → (v ≡ 0 → ⊥) → b -ℤ a ≡ P v a b
+unfolding P
+P-one zero a b e = absurd (e refl)
+P-one (suc v) a b e = refl
+
+pub cost-same : (v : ℕ) (s : ℤ) → v ≡ hard s → 0 ≡ cost v s
+unfolding cost
+cost-same v s e = rw (eq-eqb v (hard s) e)
+
+pub cost-other : (v : ℕ) (s : ℤ) → (v ≡ hard s → ⊥) → natAbs s ≡ cost v s
+unfolding cost
+cost-other v s e = rw (ne-eqb v (hard s) e)
+
+pub penalty-same : (v : ℕ) (s : ℤ) → v ≡ hard s → pos 0 ≡ penalty v s
+penalty-same v s e = ap (λ n. negℤ (pos n)) (cost-same v s e) ∙ sym (penalty-cost v s)
+
+pub penalty-other : (v : ℕ) (s : ℤ) → (v ≡ hard s → ⊥) → negℤ (pos (natAbs s)) ≡ penalty v s
+penalty-other v s e = ap (λ n. negℤ (pos n)) (cost-other v s e) ∙ sym (penalty-cost v s)

@@ -4,3 +4,4 @@ pub mod Matrix
 pub mod Soft
 pub mod Value
 pub mod Node
+pub mod Layers

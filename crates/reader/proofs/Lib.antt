@@ -1,0 +1,9 @@
+pub mod Upd
+pub mod Own
+pub mod Tree
+pub mod Arrays
+pub mod Good
+pub mod Queue
+pub mod Step
+pub mod Run
+pub mod Agree

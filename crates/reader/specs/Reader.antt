@@ -1,0 +1,167 @@
+-- The reader's decoder, as a function on its own state: 002's Figures 2 and 8 to 11 under document 01's queue. Assumes nothing.
+use mathlib.Core.Bool.{cond}
+use mathlib.Core.List.{List, [], _∷_}
+use mathlib.Core.Option.{Option, none, some}
+use Prim.Native.Nat.{ℕ, zero, suc, _+_, _-_, _*_}
+use lib.ListN.{length, getD, replicate}
+use lib.Dec.{eqb}
+use Rattle.codebook.specs.Book.{Book, startOf, blockAt}
+use Rattle.codec.specs.Code.{readData}
+use Rattle.machine.specs.Queue.{insert, ahead, behind, numbers, roomFor, crowdedOut, visit, Step, Final}
+use Rattle.reader.specs.Arrays.{Arrays, View, valsOf, sumsOf, putSums, claim, descend, joined}
+use Rattle.outer.specs.Words.{Word, nearest, nextAfter}
+use Rattle.reader.specs.Paths.{Path, scoreOf, keyOf, firstPath, lastWord, ownWord, place, idsOf, viewOf}
+
+-- ---- step 2: the copy
+
+-- the queue after step 2, the next number, the numbers crowded out, and the arrays
+pub record Cut : Type 0 where
+  pub arrays : Arrays
+  pub queue : List Path
+  pub next : ℕ
+  pub crowded : List ℕ
+
+-- A copy of p, numbered n, with the word x in its last block b. The queue is cut first. The copy holds p's arrays, and then takes one of its
+-- own where its word will go; what p sees there goes with it, since the copy needs the block's values for its own next word.
+unfoldable pub copyWith : Book → ℕ → Arrays → Path → ℕ → List Path → ℕ → Option Word → Cut
+copyWith B D A p b qs n none = record { arrays = A; queue = qs; next = n; crowded = [] }
+copyWith B D A p b qs n (some x) =
+    let v = claim (p .ids ∷ idsOf (roomFor D qs)) (place B b) (viewOf A p) in
+    let copy : Path =
+    record {
+      number = n;
+      blocks = suc b;
+      spent = p .spent;
+      cost = x .cost;
+      setting = x .setting;
+      earlier = p .earlier;
+      parities = x .parities;
+      ids = v .ids;
+    } in
+    record {
+      arrays = v .arrays;
+      queue = insert (keyOf B) copy (roomFor D qs);
+      next = suc n;
+      crowded = numbers (keyOf B) (crowdedOut D qs);
+    }
+
+-- the next word is found from the block's values, which the path's array still holds; the empty path has none
+unfoldable pub copy : Book → ℕ → Arrays → Path → List Path → ℕ → ℕ → Cut
+copy B D A p qs n zero = record { arrays = A; queue = qs; next = n; crowded = [] }
+copy B D A p qs n (suc b) =
+    copyWith B D A p b qs n (nextAfter (ownWord B p b) B (valsOf (viewOf A p) (blockAt B b .j)) (p .earlier) b)
+
+-- ---- step 3: the next block
+
+-- the word of the last block, joined upwards, goes into the sums (IterativelyUpdateC)
+unfoldable pub commit : Book → List (ℕ → ℕ) → Path → ℕ → View → View
+commit B others p zero v = v
+commit B others p (suc b) v =
+    let j = blockAt B b .j in
+    let h = place B b in
+    putSums others h (joined (sumsOf v) j (h - j) (lastWord B p b)) v
+
+pub record Moved : Type 0 where
+  pub arrays : Arrays
+  pub path : Path
+
+-- p with the word x in its next block, v what it sees then
+unfoldable pub moveWith : Arrays → Path → View → Option Word → Moved
+moveWith A p v none = record { arrays = A; path = p }
+moveWith A p v (some x) =
+    record {
+      arrays = v .arrays;
+      path =
+          record {
+            number = p .number;
+            blocks = suc (p .blocks);
+            spent = p .spent + p .cost;
+            cost = x .cost;
+            setting = x .setting;
+            earlier = p .parities;
+            parities = x .parities;
+            ids = v .ids;
+          };
+    }
+
+-- commit the last word, compute the values of the nodes that start here, take an array for the new word, find the nearest one
+unfoldable pub move : Book → Arrays → Path → List Path → Moved
+move B A p qs =
+    let b = p .blocks in
+    let j = blockAt B b .j in
+    let others = idsOf qs in
+    let v = claim others (place B b) (descend others (B .m - j) (B .m) (startOf (B .blocks) b) (commit B others p b (viewOf A p))) in
+    moveWith A p v (nearest B (valsOf v j) (p .parities) b)
+
+-- ---- step 4
+
+unfoldable pub staying : Book → ℕ → ℕ → List ℕ → List Path → List Path
+staying B L b visits qs = cond (eqb (getD visits b 0) L) (ahead (keyOf B) b qs) qs
+
+unfoldable pub outrunBy : Book → ℕ → ℕ → List ℕ → List Path → List Path
+outrunBy B L b visits qs = cond (eqb (getD visits b 0) L) (behind (keyOf B) b qs) []
+
+-- ---- one extraction, and the run
+
+-- what the reader holds
+pub record State : Type 0 where
+  pub arrays : Arrays
+  pub queue : List Path
+  pub next : ℕ
+  pub visits : List ℕ
+
+pub record Extracted : Type 0 where
+  pub state : State
+  pub step : Step
+
+-- steps 2 to 4 for the path p, taken from before the queue qs
+unfoldable pub extract : Book → ℕ → ℕ → Arrays → Path → List Path → ℕ → List ℕ → Extracted
+extract B L D A p qs n visits =
+    let b = p .blocks in
+    let second = copy B D A p qs n b in
+    let third = move B (second .arrays) p (second .queue) in
+    let queued = insert (keyOf B) (third .path) (second .queue) in
+    let visited = visit visits b in
+    record {
+      state = record { arrays = third .arrays; queue = staying B L b visited queued; next = second .next; visits = visited };
+      step =
+          record {
+            path = p .number;
+            blocks = b;
+            score = scoreOf B p b;
+            crowded = second .crowded;
+            outrun = numbers (keyOf B) (outrunBy B L b visited queued);
+          };
+    }
+
+-- the extractions, and what step 1 stops with
+pub record Run : Type 0 where
+  pub steps : List Step
+  pub final : Option Final
+
+unfoldable pub after : Step → Run → Run
+after s r = record { steps = s ∷ r .steps; final = r .final }
+
+-- the last block's word goes into the sums, which at the root are the final word
+unfoldable pub stopped : Book → Arrays → Path → List Path → Run
+stopped B A p qs =
+    let word = sumsOf (commit B (idsOf qs) p (p .blocks) (viewOf A p)) (B .m) in
+    record {
+      steps = record { path = p .number; blocks = p .blocks; score = scoreOf B p (p .blocks); crowded = []; outrun = [] } ∷ [];
+      final = some (record { word = word; bits = readData B word; discrepancy = p .spent + p .cost });
+    }
+
+-- step 1 takes the first path, and stops if it has all V blocks; fuel bounds the extractions
+unfoldable pub run : ℕ → Book → ℕ → ℕ → Arrays → List Path → ℕ → List ℕ → Run
+run zero B L D A qs n visits = record { steps = []; final = none }
+run (suc fuel) B L D A [] n visits = record { steps = []; final = none }
+run (suc fuel) B L D A (p ∷ qs) n visits =
+    let x = extract B L D A p qs n visits in
+    let more = after (x .step) (run fuel B L D (x .state .arrays) (x .state .queue) (x .state .next) (x .state .visits)) in
+    cond (eqb (p .blocks) (length (B .blocks))) (stopped B A p qs) more
+
+-- the whole run, from arrays whose root values, array 1, are the received ones
+unfoldable pub runOf : Book → ℕ → ℕ → Arrays → Run
+runOf B L D A =
+    let V′ = length (B .blocks) in
+    run (L * V′ + 1) B L D A (firstPath B ∷ []) 1 (replicate V′ 0)
