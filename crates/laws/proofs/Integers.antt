@@ -1,13 +1,15 @@
 -- The order of the integers by its test, magnitudes of sums, and negated sums: by cases on the signs. Assumes nothing.
-use mathlib.Core.Path.{_≡_, refl, ap}
+use mathlib.Core.Path.{_≡_, refl, ap, sym, _∙_}
 use mathlib.Core.Bool.{not}
-use Prim.Native.Nat.{ℕ, zero, suc, _+_, _≤_}
+use Prim.Native.Nat.{ℕ, zero, suc, _+_, _≤_, _<_}
+use mathlib.Core.Logic.{_⊎_, inl, inr}
 use native.Mathlib.Nat.{le-antisymm, lt-irrefl}
 use native.Mathlib.Omega.{arith}
 use lib.IntN.{ℤ, pos, negsuc, negℤ, natAbs, subℕ, _+ℤ_}
 use lib.Signed.{ltZ}
 use lib.Dec.{T, ltb, ltb→lt, lt→ltb, nltb→le}
-use Rattle.laws.proofs.Tests.{cond-case}
+use borrow.Author.Tests.{lt-ltb, le-ltb}
+use Rattle.laws.proofs.Tests.{cond-case, lt-or}
 
 pub ltZ-irrefl : (a : ℤ) → T (ltZ a a) → ⊥
 ltZ-irrefl (pos a) t = lt-irrefl a (ltb→lt a a t)
@@ -27,6 +29,17 @@ ltZ-total (pos a) (pos b) h k = ap pos (le-antisymm (nltb→le b a k) (nltb→le
 ltZ-total (pos a) (negsuc b) h k = absurd k
 ltZ-total (negsuc a) (pos b) h k = absurd h
 ltZ-total (negsuc a) (negsuc b) h k = ap negsuc (le-antisymm (nltb→le b a h) (nltb→le a b k))
+
+-- numbers with the other sign come in the other order
+pub neg-ltZ : (a b : ℕ) → ltZ (negℤ (pos b)) (negℤ (pos a)) ≡ ltb a b
+neg-ltZ zero zero = refl
+neg-ltZ zero (suc b) = sym (lt-ltb 0 (suc b) (omega arith))
+neg-ltZ (suc a) zero = sym (le-ltb (suc a) 0 (omega arith))
+neg-ltZ (suc a) (suc b) = go (lt-or a b)
+  where
+    go : (a < b) ⊎ (b ≤ a) → ltb a b ≡ ltb (suc a) (suc b)
+    go (inl l) = lt-ltb a b l ∙ sym (lt-ltb (suc a) (suc b) (omega arith))
+    go (inr l) = le-ltb a b l ∙ sym (le-ltb (suc a) (suc b) (omega arith))
 
 -- ---- magnitudes
 

@@ -1,8 +1,8 @@
--- Laws of the notions on lists, and of lists cut and joined, each by induction on the list. Assumes nothing.
-use mathlib.Core.Path.{_≡_, refl, sym, ap, _∙_, ap₂}
+-- Laws of the notions on lists, and of lists cut, joined and written over, most by induction on the list. Assumes nothing.
+use mathlib.Core.Path.{_≡_, refl, sym, ap, _∙_, ap₂, subst}
 use mathlib.Core.Bool.{Bool}
-use mathlib.Core.List.{List, [], _∷_, _++_, map, zipWith, append-assoc}
-use mathlib.Core.Logic.{_⊎_, inl, inr}
+use mathlib.Core.List.{List, [], _∷_, _++_, map, zipWith, append-assoc, List·Memᴰ, List·Memᴰ·head, List·Memᴰ·tail, List·Memᴰ·not-nil, List·Memᴰ·cases-cons, Memᴰ·append-right}
+use mathlib.Core.Logic.{_⊎_, inl, inr, _≢_}
 use Prim.Native.Nat.{ℕ, zero, suc, _+_, _-_, _*_, _≤_, _<_, min, zero-le}
 use native.Mathlib.Nat.{not-suc-le-zero, le-of-suc-le-suc, mul-suc, sub-zero, zero-sub, suc-sub-suc}
 use native.Mathlib.Numerals.{add-one}
@@ -10,7 +10,7 @@ use native.Mathlib.Omega.{arith}
 use lib.ListN.{length, getD, take, drop, set, replicate, length-append, List·getD-append}
 use lib.Seq.{take-nil, getD-at, getD-take, getD-drop, getD-append-add, length-take-le, paste, paste-suc, length-paste-head}
 use lib.Dec.{T}
-use Rattle.laws.specs.Lists.{All, keep, tab, sum}
+use Rattle.laws.specs.Lists.{All, Distinct, keep, tab, sum}
 use Rattle.laws.proofs.Tests.{cond-case, lt-or}
 
 module _ {A : Type 0} where
@@ -46,6 +46,11 @@ module _ {A : Type 0} where
   all-append P [] ys h k = k
   all-append P (x ∷ xs) ys h k = (h .0, all-append P xs ys (h .1) k)
 
+  pub all-front : (P : A → Type 0) (xs ys : List A) → All P (xs ++ ys) → All P xs
+  unfolding All
+  all-front P [] ys h = tt
+  all-front P (x ∷ xs) ys h = (h .0, all-front P xs ys (h .1))
+
   pub all-set : (P : A → Type 0) (xs : List A) (i : ℕ) (a : A) → P a → All P xs → All P (set xs i a)
   unfolding All
   all-set P [] i a p h = tt
@@ -63,11 +68,34 @@ module _ {A : Type 0} where
   all-at P (x ∷ xs) zero d l h = h .0
   all-at P (x ∷ xs) (suc i) d l h = all-at P xs i d (le-of-suc-le-suc l) (h .1)
 
+  pub all-in : (P : A → Type 0) {x : A} {xs : List A} → All P xs → List·Memᴰ x xs → P x
+  unfolding All
+  all-in P {x} h (List·Memᴰ·head e) = subst P (sym e) (h .0)
+  all-in P h (List·Memᴰ·tail m) = all-in P (h .1) m
+
   pub all-keep : (P : A → Type 0) (f : A → Bool) (xs : List A) → All P xs → All (λ (x : A). P x × T (f x)) (keep f xs)
   unfolding keep All
   all-keep P f [] h = tt
   all-keep P f (x ∷ xs) h =
       cond-case (All (λ (x : A). P x × T (f x))) (f x) (λ t. ((h .0, t), all-keep P f xs (h .1))) (λ t. all-keep P f xs (h .1))
+
+  -- ---- distinct elements
+
+  pub distinct-front : (xs ys : List A) → Distinct (xs ++ ys) → Distinct xs
+  unfolding Distinct
+  distinct-front [] ys d = tt
+  distinct-front (x ∷ xs) ys d = (all-front (λ (y : A). x ≢ y) xs ys (d .0), distinct-front xs ys (d .1))
+
+  pub distinct-apart : (xs ys : List A) (x : A) → Distinct (xs ++ ys) → List·Memᴰ x xs → List·Memᴰ x ys → ⊥
+  unfolding Distinct
+  distinct-apart [] ys x d m k = List·Memᴰ·not-nil m
+  distinct-apart (z ∷ xs) ys x d m k = go (List·Memᴰ·cases-cons m) (distinct-apart xs ys x (d .1))
+    where
+      go : (x ≡ z) ⊎ List·Memᴰ x xs → (List·Memᴰ x xs → List·Memᴰ x ys → ⊥) → ⊥
+      go (inl e) ih = all-in (λ (y : A). z ≢ y) (d .0) (Memᴰ·append-right xs k) (sym e)
+      go (inr m) ih = ih m k
+
+  -- ---- lengths, and lists cut
 
   pub keep-length : (f : A → Bool) (xs : List A) → length (keep f xs) ≤ length xs
   unfolding keep

@@ -1,11 +1,11 @@
 -- Two lists, or two things that may be there, related element by element; cutting, keeping and mapping both leaves them so. By induction on
 -- the lists. Assumes nothing.
-use mathlib.Core.Path.{_≡_, refl, ap₂}
+use mathlib.Core.Path.{_≡_, refl, ap, ap₂}
 use mathlib.Core.Bool.{Bool, true, false, cond}
 use mathlib.Core.List.{List, [], _∷_, map}
 use mathlib.Core.Option.{Option, none, some}
 use Prim.Native.Nat.{ℕ, zero, suc}
-use lib.ListN.{take, drop}
+use lib.ListN.{length, take, drop}
 use Rattle.laws.specs.Lists.{All, keep}
 
 module _ {A B : Type 0} (R : A → B → Type 0) where
@@ -39,6 +39,13 @@ module _ {A B : Type 0} (R : A → B → Type 0) where
   paired-drop (suc n) (x ∷ xs) [] h = absurd h
   paired-drop (suc n) (x ∷ xs) (y ∷ ys) h = paired-drop n xs ys (h .1)
 
+  pub paired-length : (xs : List A) (ys : List B) → Paired xs ys → length xs ≡ length ys
+  unfolding Paired
+  paired-length [] [] h = refl
+  paired-length [] (y ∷ ys) h = absurd h
+  paired-length (x ∷ xs) [] h = absurd h
+  paired-length (x ∷ xs) (y ∷ ys) h = ap suc (paired-length xs ys (h .1))
+
   -- tests that agree on related elements
   pub paired-keep : (f : A → Bool) (g : B → Bool) → ((x : A) (y : B) → R x y → f x ≡ g y) → (xs : List A) (ys : List B) → Paired xs ys → Paired (keep f xs) (keep g ys)
   unfolding Paired keep
@@ -58,6 +65,14 @@ module _ {A B : Type 0} (R : A → B → Type 0) where
   paired-map f g e [] (y ∷ ys) h = absurd h
   paired-map f g e (x ∷ xs) [] h = absurd h
   paired-map f g e (x ∷ xs) (y ∷ ys) h = ap₂ (λ c l. c ∷ l) (e x y (h .0)) (paired-map f g e xs ys (h .1))
+
+-- what is known of the elements here goes over to those there
+pub paired-all : {A B : Type 0} {R : A → B → Type 0} {P : A → Type 0} {Q : B → Type 0} → ((x : A) (y : B) → P x → R x y → Q y) → (xs : List A) (ys : List B) → All P xs → Paired R xs ys → All Q ys
+unfolding Paired All
+paired-all f [] [] k h = tt
+paired-all f [] (y ∷ ys) k h = absurd h
+paired-all f (x ∷ xs) [] k h = absurd h
+paired-all f (x ∷ xs) (y ∷ ys) k h = (f x y (k .0) (h .0), paired-all f xs ys (k .1) (h .1))
 
 -- by what is known of the right-hand elements besides, the relation may change
 pub paired-with : {A B : Type 0} {R S : A → B → Type 0} {P : B → Type 0} → ((x : A) (y : B) → P y → R x y → S x y) → (xs : List A) (ys : List B) → All P ys → Paired R xs ys → Paired S xs ys

@@ -1,11 +1,12 @@
 -- Choices by a test, and tests joined by and and or: by cases on the test. Assumes nothing.
-use mathlib.Core.Path.{_≡_, refl, subst}
+use mathlib.Core.Path.{_≡_, refl, sym, ap, _∙_, subst}
 use mathlib.Core.Bool.{Bool, true, false, cond, not, _&&_, _||_}
 use mathlib.Core.Logic.{_⊎_, inl, inr, _≢_}
 use Prim.Native.Nat.{ℕ, _≤_, _<_}
 use native.Mathlib.Decide.{decLt}
 use native.Mathlib.Omega.{arith}
-use lib.Dec.{T, eqb, eqb-refl, T-not}
+use lib.Dec.{T, leb, ltb, eqb, eqb-refl, T-not}
+use borrow.Author.Tests.{lt-ltb, le-ltb, le-leb, lt-leb}
 
 -- what holds of both choices, each under its test's answer, holds of the choice
 pub cond-case : {A : Type 0} (P : A → Type 0) (b : Bool) {x y : A} → (T b → P x) → (T (not b) → P y) → P (cond b x y)
@@ -43,6 +44,14 @@ lt-or t h = go (decLt t h)
     go : Dec (t < h) → (t < h) ⊎ (h ≤ t)
     go (yes l) = inl l
     go (no l) = inr (omega arith)
+
+-- at most, or above
+pub leb-ltb : (a b : ℕ) → leb a b ≡ not (ltb b a)
+leb-ltb a b = go (lt-or b a)
+  where
+    go : (b < a) ⊎ (a ≤ b) → leb a b ≡ not (ltb b a)
+    go (inl l) = lt-leb a b l ∙ sym (ap not (lt-ltb b a l))
+    go (inr l) = le-leb a b l ∙ sym (ap not (le-ltb b a l))
 
 -- numbers that a test tells apart differ
 pub neqb→ne : (a b : ℕ) → T (not (eqb a b)) → a ≢ b

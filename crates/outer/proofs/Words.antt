@@ -10,10 +10,10 @@ use native.Mathlib.Omega.{arith}
 use lib.ListN.{length, take, drop}
 use lib.Seq.{take-all}
 use lib.IntN.{ℤ, pos, negℤ}
-use lib.Signed.{ltZ}
 use lib.Dec.{ltb, eqb}
 use borrow.Author.Tests.{lt-ltb, le-ltb, eq-eqb, ne-eqb}
 use Rattle.laws.specs.Lists.{All}
+use Rattle.laws.proofs.Integers.{neg-ltZ}
 use Rattle.laws.proofs.Pairs.{MayPair}
 use Rattle.polar.specs.Bits.{Bit, number}
 use Rattle.polar.specs.Transform.{transform}
@@ -34,17 +34,6 @@ use Rattle.codec.proofs.Ties.{paritiesOf, filled, filled-drop, filled-parities}
 use Rattle.outer.proofs.Blocks.{Placed}
 
 -- ---- one order
-
--- sums of penalties are costs with the other sign
-neg-ltZ : (a b : ℕ) → ltZ (negℤ (pos b)) (negℤ (pos a)) ≡ ltb a b
-neg-ltZ zero zero = refl
-neg-ltZ zero (suc b) = sym (lt-ltb 0 (suc b) (omega arith))
-neg-ltZ (suc a) zero = sym (le-ltb (suc a) 0 (omega arith))
-neg-ltZ (suc a) (suc b) = go (decLt a b)
-  where
-    go : Dec (a < b) → ltb a b ≡ ltb (suc a) (suc b)
-    go (yes l) = lt-ltb a b l ∙ sym (lt-ltb (suc a) (suc b) (omega arith))
-    go (no l) = le-ltb a b (omega arith) ∙ sym (le-ltb (suc a) (suc b) (omega arith))
 
 -- neither below the other, or equal
 level : (a b : ℕ) (r : Bool) → (ltb a b || not (ltb b a) && r) ≡ (ltb a b || eqb a b && r)

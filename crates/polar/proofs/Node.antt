@@ -39,6 +39,23 @@ pub rest-high : (m t : ℕ) → 2 ^ m ≤ t → rest m t ≡ t - 2 ^ m
 unfolding rest
 rest-high m t h = rw (le-ltb t (2 ^ m) h)
 
+pub rest-zero : (m : ℕ) → rest m 0 ≡ 0
+rest-zero m = rest-low m 0 (pow-pos m)
+
+pub rest-less : (m t : ℕ) → t < 2 ^ suc m → rest m t < 2 ^ m
+rest-less m t h = go (lt-or t (2 ^ m))
+  where
+    go : (t < 2 ^ m) ⊎ (2 ^ m ≤ t) → rest m t < 2 ^ m
+    go (inl l) = omega (arith, rest-low m t l)
+    go (inr l) = omega (arith, rest-high m t l, two-pow-succ m)
+
+pub rest-pos : (m t : ℕ) → 0 < rest m t → 0 < t
+rest-pos m t h = go (lt-or t (2 ^ m))
+  where
+    go : (t < 2 ^ m) ⊎ (2 ^ m ≤ t) → 0 < t
+    go (inl l) = omega (arith, rest-low m t l)
+    go (inr l) = omega (arith, pow-pos m)
+
 pub restBits-low : (m t : ℕ) (u : List ℕ) → t < 2 ^ m → restBits m t u ≡ u
 unfolding restBits
 restBits-low m t u h = rw (lt-ltb t (2 ^ m) h)

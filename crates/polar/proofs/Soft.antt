@@ -1,5 +1,5 @@
 -- Q by the signs of its arguments, the penalty as a cost with the other sign, and 002's Lemma 1: what a pair of bits costs is what they cost
--- after one step down. By cases on the signs. Assumes nothing.
+-- after one step down. Then lengths, magnitudes, and each definition by the tests that the code makes. By cases on the signs. Assumes nothing.
 use mathlib.Core.Path.{_≡_, refl, sym, ap, _∙_}
 use mathlib.Core.Bool.{Bool, true, false, cond, _||_, not, Bool·beq, true≢false}
 use mathlib.Core.List.{List, [], _∷_, _++_, zipWith}

@@ -30,7 +30,7 @@ rest-length k n l e = length-drop n l ∙ omega (arith, suc-mul k n)
 head-length : (k n : ℕ) (l : List ℕ) → length l ≡ suc k * n → length (take n l) ≡ n
 head-length k n l e = length-take-le n l (omega (arith, suc-mul k n))
 
-pub runs-length : (k j : ℕ) (l : List ℕ) → length l ≡ k * 2 ^ j → length (runs k j l) ≡ k * 2 ^ j
+runs-length : (k j : ℕ) (l : List ℕ) → length l ≡ k * 2 ^ j → length (runs k j l) ≡ k * 2 ^ j
 unfolding runs
 runs-length zero j l e = sym (zero-mul (2 ^ j))
 runs-length (suc k) j l e =
@@ -79,7 +79,7 @@ pair-run j l =
     (drop-take n (2 ^ suc j) l ∙ ap (λ i. take i (drop n l)) q)
 
 -- one more stage
-pub runs-stage : (k j : ℕ) (l : List ℕ) → length l ≡ (k + k) * 2 ^ j → stage k (2 ^ j) (runs (k + k) j l) ≡ runs k (suc j) l
+runs-stage : (k j : ℕ) (l : List ℕ) → length l ≡ (k + k) * 2 ^ j → stage k (2 ^ j) (runs (k + k) j l) ≡ runs k (suc j) l
 unfolding runs
 runs-stage zero j l e = unfold stage in refl
 runs-stage (suc k) j l e =
@@ -170,15 +170,16 @@ module _ (at h : ℕ) (c w : List ℕ) (room : at + (h + h) ≤ length c) (e : w
 -- ---- one turn of the transform's loop: c after j stages, of k runs of h bits
 
 module _ {m j k h : ℕ} (l : List ℕ) {c : List ℕ} (e : length l ≡ 2 ^ m) (f : j < m) (eh : h ≡ 2 ^ j) (ek : k ≡ 2 ^ (m - j)) (ec : c ≡ runs k j l) where
-  pub halved : k / 2 ≡ 2 ^ (m - (j + 1))
-  halved =
+  twice : k ≡ 2 ^ (m - (j + 1)) + 2 ^ (m - (j + 1))
+  twice =
       let d : m - j ≡ suc (m - (j + 1)) = omega arith in
-      omega (arith, ap (λ n. 2 ^ n) d, two-pow-succ (m - (j + 1)))
+      ek ∙ ap (λ n. 2 ^ n) d ∙ two-pow-succ (m - (j + 1))
+
+  pub halved : k / 2 ≡ 2 ^ (m - (j + 1))
+  halved = omega (arith, twice)
 
   even : k / 2 + k / 2 ≡ k
-  even =
-      let d : m - j ≡ suc (m - (j + 1)) = omega arith in
-      omega (arith, ap (λ n. 2 ^ n) d, two-pow-succ (m - (j + 1)))
+  even = omega (arith, twice)
 
   whole : length l ≡ k * 2 ^ j
   whole =

@@ -32,7 +32,7 @@ module _ {A : Type 0} (at n : ℕ) (l : List A) where
   part-at z i h = getD-take n (drop at l) i z h ∙ getD-drop at l i z
 
   -- what holds of the part holds of its elements in the list
-  pub part-all : (P : A → Type 0) (z : A) → at + n ≤ length l → All P (part at n l) → (i : ℕ) → i < n → P (getD l (at + i) z)
+  part-all : (P : A → Type 0) (z : A) → at + n ≤ length l → All P (part at n l) → (i : ℕ) → i < n → P (getD l (at + i) z)
   part-all P z h a i b = subst P (part-at z i b) (all-at P (part at n l) i z (omega (arith, part-length h)) a)
 
   -- the halves of a part of 2n elements
@@ -43,16 +43,16 @@ module _ {A : Type 0} (at n : ℕ) (l : List A) where
   last = drop n (part at (n + n) l)
 
 module _ {A : Type 0} (at n : ℕ) (l : List A) (h : at + (n + n) ≤ length l) where
-  pub first-length : length (first at n l) ≡ n
+  first-length : length (first at n l) ≡ n
   first-length = length-take n (part at (n + n) l) ∙ omega (arith, part-length at (n + n) l h)
 
-  pub last-length : length (last at n l) ≡ n
+  last-length : length (last at n l) ≡ n
   last-length = length-drop n (part at (n + n) l) ∙ omega (arith, part-length at (n + n) l h)
 
-  pub first-at : (z : A) (i : ℕ) → i < n → getD (first at n l) i z ≡ getD l (at + i) z
+  first-at : (z : A) (i : ℕ) → i < n → getD (first at n l) i z ≡ getD l (at + i) z
   first-at z i b = getD-take n (part at (n + n) l) i z b ∙ part-at at (n + n) l z i (omega arith)
 
-  pub last-at : (z : A) (i : ℕ) → i < n → getD (last at n l) i z ≡ getD l (at + (n + i)) z
+  last-at : (z : A) (i : ℕ) → i < n → getD (last at n l) i z ≡ getD l (at + (n + i)) z
   last-at z i b = getD-drop n (part at (n + n) l) i z ∙ part-at at (n + n) l z (n + i) (omega arith)
 
 -- ---- the workspace w after i turns, and what it is at the end
@@ -78,21 +78,22 @@ module _ {A : Type 0} {from k to n : ℕ} {l : List A} (new : List A) (c : Clear
       q ∙ ap₂ (λ x m. take to l ++ x ++ drop (to + m) l) (take-all i new (omega arith)) f
 
 -- a value that is read is as it was, and small
-pub value : {from k to n : ℕ} {l : List ℤ} (new : List ℤ) (c : Clear from k to n l) (e : length new ≡ n) → All (Within 1048064) (part from k l) →
+pub read-value : {from k to n : ℕ} {l : List ℤ} (new : List ℤ) (c : Clear from k to n l) (e : length new ≡ n) → All (Within 1048064) (part from k l) →
     {w : List ℤ} (i j : ℕ) → w ≡ paste l to new i → i ≤ n → i ≤ j → j < k →
     (back (getD w (from + j) (pos 0)) ≡ getD l (from + j) (pos 0)) × (natAbs (getD l (from + j) (pos 0)) ≤ 1048064)
-value {from} {k} {l} new c e a {w} i j q h g b =
+read-value {from} {k} {l} new c e a {w} i j q h g b =
     let small : natAbs (getD l (from + j) (pos 0)) ≤ 1048064 = part-all from k l (Within 1048064) (pos 0) (c .source) a j b in
     let same : getD w (from + j) (pos 0) ≡ getD l (from + j) (pos 0) = unread new c e (pos 0) i j q h g b in
     (toZ-ofZ (abs-fits (getD w (from + j) (pos 0)) (omega (arith, ap natAbs same))) ∙ same, small)
 
 -- ---- values by Q and by P
 
-pub Qs-at : (xs ys : List ℤ) (i : ℕ) (z : ℤ) → i < length xs → i < length ys → getD (Qs xs ys) i z ≡ Q (getD xs i z) (getD ys i z)
+Qs-at : (xs ys : List ℤ) (i : ℕ) (z : ℤ) → i < length xs → i < length ys → getD (Qs xs ys) i z ≡ Q (getD xs i z) (getD ys i z)
 unfolding Qs
 Qs-at xs ys i z h k = getD-zip Q xs ys i z z z h k
 
-pub Ps-at : (vs : List ℕ) (xs ys : List ℤ) (i : ℕ) (z : ℤ) → i < length vs → i < length xs → i < length ys → getD (Ps vs xs ys) i z ≡ P (getD vs i 0) (getD xs i z) (getD ys i z)
+Ps-at : (vs : List ℕ) (xs ys : List ℤ) (i : ℕ) (z : ℤ) → i < length vs → i < length xs → i < length ys →
+    getD (Ps vs xs ys) i z ≡ P (getD vs i 0) (getD xs i z) (getD ys i z)
 unfolding Ps
 Ps-at [] xs ys i z g h k = absurd (not-suc-le-zero g)
 Ps-at (v ∷ vs) [] ys i z g h k = absurd (not-suc-le-zero h)
@@ -113,13 +114,15 @@ module _ (from n : ℕ) (l : List ℤ) (h : from + (n + n) ≤ length l) where
   module _ (sums : ℕ) (bs : List ℕ) (g : sums + n ≤ length bs) where
     pub lower-p-length : length (Ps (part sums n bs) (first from n l) (last from n l)) ≡ n
     lower-p-length =
-        Ps-length (part sums n bs) (first from n l) (last from n l) (part-length sums n bs g ∙ sym (first-length from n l h)) (first-length from n l h ∙ sym (last-length from n l h))
+        Ps-length (part sums n bs) (first from n l) (last from n l)
+        (part-length sums n bs g ∙ sym (first-length from n l h)) (first-length from n l h ∙ sym (last-length from n l h))
         ∙ part-length sums n bs g
 
     pub lower-p-at : (i : ℕ) → i < n →
         getD (Ps (part sums n bs) (first from n l) (last from n l)) i (pos 0) ≡ P (getD bs (sums + i) 0) (getD l (from + i) (pos 0)) (getD l (from + (n + i)) (pos 0))
     lower-p-at i b =
-        Ps-at (part sums n bs) (first from n l) (last from n l) i (pos 0) (omega (arith, part-length sums n bs g)) (omega (arith, first-length from n l h)) (omega (arith, last-length from n l h))
+        Ps-at (part sums n bs) (first from n l) (last from n l) i (pos 0)
+        (omega (arith, part-length sums n bs g)) (omega (arith, first-length from n l h)) (omega (arith, last-length from n l h))
         ∙ ap (λ v. P v (getD (first from n l) i (pos 0)) (getD (last from n l) i (pos 0))) (part-at sums n bs 0 i b)
         ∙ ap₂ (P (getD bs (sums + i) 0)) (first-at from n l h (pos 0) i b) (last-at from n l h (pos 0) i b)
 
@@ -133,7 +136,8 @@ module _ (low high n : ℕ) (l : List ℕ) (h : low + n ≤ length l) (g : high 
   pub add-sums-length : length (addBits (part low n l) (part high n l)) ≡ n
   add-sums-length = add-length (part low n l) (part high n l) (part-length low n l h ∙ sym (part-length high n l g)) ∙ part-length low n l h
 
-  pub add-sums-at : All Bit (part low n l) → All Bit (part high n l) → (i : ℕ) → i < n → bitXor (getD l (low + i) 0) (getD l (high + i) 0) ≡ getD (addBits (part low n l) (part high n l)) i 0
+  pub add-sums-at : All Bit (part low n l) → All Bit (part high n l) → (i : ℕ) → i < n →
+      bitXor (getD l (low + i) 0) (getD l (high + i) 0) ≡ getD (addBits (part low n l) (part high n l)) i 0
   unfolding addBits
   add-sums-at a b i j =
       xor-bit (getD l (low + i) 0) (getD l (high + i) 0) (part-all low n l Bit 0 h a i j) (part-all high n l Bit 0 g b i j)

@@ -30,6 +30,7 @@ pub fn transform(c: &mut [u8], m: u32)
     let mut k = c.len();
     let mut h: usize = 1;
     let mut j: u32 = 0;
+    // Each of the k runs of h = 2^j bits is transformed by itself.
     while j < m {
         k = k / 2;
         stage(c, k, h);

@@ -19,13 +19,14 @@ pub fn magnitude(s: i32) -> u32
     if s < 0 { (-s) as u32 } else { s as u32 }
 }
 
+// The lesser of two.
 fn lesser(x: u32, y: u32) -> u32
     ensures { λ r. ⌜ r ≡ min x y ⌝ }
 {
     if x < y { x } else { y }
 }
 
-// The lesser magnitude, below 0 where one of a and b is, and 0 where one is 0.
+// The lesser magnitude, with the product of the signs: where one of a and b is 0, so is the result.
 pub fn q(a: i32, b: i32) -> i32
     requires { ⌜ (natAbs a < 2147483648) × (natAbs b < 2147483648) ⌝ }
     ensures { λ r. ⌜ r ≡ Q a b ⌝ }
@@ -42,7 +43,7 @@ pub fn p(v: u8, a: i32, b: i32) -> i32
     if v == 0 { b + a } else { b - a }
 }
 
-// 0 where the bit v is the hard decision, else -|s|.
+// 0 where s is 0 or the bit v is its hard decision, else -|s|.
 pub fn penalty(v: u8, s: i32) -> i32
     ensures { λ r. ⌜ r ≡ penalty v s ⌝ }
 {

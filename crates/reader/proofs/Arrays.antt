@@ -10,13 +10,14 @@ use lib.IntN.{ℤ}
 use lib.Dec.{eqb}
 use borrow.Author.Tests.{eqb-true, eqb-false}
 use Rattle.laws.specs.Lists.{All}
+use Rattle.laws.proofs.Tests.{cond-case}
 use Rattle.laws.proofs.Lists.{all-map, all-any, all-both, all-mapped, all-unmapped}
 use Rattle.polar.specs.Node.{rest, restBits, child}
-use Rattle.polar.proofs.Node.{first, child-word}
+use Rattle.polar.proofs.Node.{first, child-word, rest-less, rest-pos}
 use Rattle.reader.specs.Arrays.{Arrays, View, valsOf, sumsOf, upd, ownOf, writes, putVals, putSums, claim, turn, descend}
 use Rattle.reader.proofs.Upd.{upd-same, upd-other, upd-self, seen, seen-store, seen-ids, seen-frame}
 use Rattle.reader.proofs.Own.{own-new, own-some, own-keep}
-use Rattle.reader.proofs.Tree.{Vals, Prior, Sums, prior-zero, sums-zero, turn-high, turn-past, rest-less, rest-pos}
+use Rattle.reader.proofs.Tree.{Vals, Prior, Sums, prior-zero, sums-zero, turn-high, turn-past}
 
 -- a path with these ids sees in A′ what it saw in A
 pub record Sees (A A′ : Arrays) (ids : ℕ → ℕ) : Type 0 where
@@ -44,15 +45,15 @@ module _ (others : List (ℕ → ℕ)) where
     theirs : List ℕ
     theirs = map (λ (o : ℕ → ℕ). o h) others
 
-    writes-new : All (λ (o : ℕ → ℕ). o h ≡ writes others h v → ⊥) others
+    pub writes-new : All (λ (o : ℕ → ℕ). o h ≡ writes others h v → ⊥) others
     unfolding writes theirs
     writes-new = all-unmapped (λ (o : ℕ → ℕ). o h) (λ k. k ≡ ownOf (v .ids h) theirs → ⊥) others (own-new (v .ids h) theirs)
 
-    writes-keep : Alone others h (v .ids) → writes others h v ≡ v .ids h
+    pub writes-keep : Alone others h (v .ids) → writes others h v ≡ v .ids h
     unfolding writes theirs
     writes-keep a = own-keep (v .ids h) theirs (a .0) (all-mapped (λ (o : ℕ → ℕ). o h) (λ k. k ≡ v .ids h → ⊥) others (a .1))
 
-    writes-alone : Alone others h (upd (v .ids) h (writes others h v))
+    pub writes-alone : Alone others h (upd (v .ids) h (writes others h v))
     unfolding writes theirs
     writes-alone = (
       λ e. own-some (v .ids h) theirs (sym (upd-same (v .ids) h (writes others h v)) ∙ e),
@@ -110,33 +111,27 @@ module _ (others : List (ℕ → ℕ)) where
 
   -- ---- the descent
 
-  pub descend-kept : (d m t : ℕ) (v : View) → Kept others (v .arrays) (descend others d m t v .arrays)
+  -- it keeps what each of its writes keeps, all below where it starts
+  pub descend-keeps : (P : View → Type 0) (d m t : ℕ) (v : View) → ((k : ℕ) (x : List ℤ) (w : View) → k < m → P w → P (putVals others k x w)) → P v → P (descend others d m t v)
   unfolding descend
-  descend-kept zero m t v = all-any (sees-same (v .arrays)) others
-  descend-kept (suc d) zero t v = all-any (sees-same (v .arrays)) others
-  descend-kept (suc d) (suc m) t v = go (eqb (rest m t) 0) (child m t (sumsOf v m) (valsOf v (suc m))) (descend-kept d m (rest m t))
-    where
-      go : (b : Bool) (x : List ℤ) → ((v′ : View) → Kept others (v′ .arrays) (descend others d m (rest m t) v′ .arrays)) → Kept others (v .arrays) (descend others d m (rest m t) (cond b (putVals others m x v) v) .arrays)
-      go true x ih = kept-on others (v .arrays) (putVals others m x v .arrays) _ (vals-kept m v x) (ih (putVals others m x v))
-      go false x ih = ih v
+  descend-keeps P zero m t v f h = h
+  descend-keeps P (suc d) zero t v f h = h
+  descend-keeps P (suc d) (suc m) t v f h =
+      descend-keeps P d m (rest m t) _ (λ k x w l. f k x w (omega arith)) (cond-case P (eqb (rest m t) 0) (λ _. f m _ v (omega arith) h) (λ _. h))
+
+  pub descend-kept : (d m t : ℕ) (v : View) → Kept others (v .arrays) (descend others d m t v .arrays)
+  descend-kept d m t v =
+      descend-keeps (λ w. Kept others (v .arrays) (w .arrays)) d m t v (λ k x w _ h. kept-on others (v .arrays) (w .arrays) _ h (vals-kept k w x)) (all-any (sees-same (v .arrays)) others)
 
   -- what stands at and above m is as it was
   pub descend-above : (d m t : ℕ) (v : View) (h : ℕ) → m ≤ h → (valsOf (descend others d m t v) h ≡ valsOf v h) × (sumsOf (descend others d m t v) h ≡ sumsOf v h)
-  unfolding descend
-  descend-above zero m t v h l = (refl, refl)
-  descend-above (suc d) zero t v h l = (refl, refl)
-  descend-above (suc d) (suc m) t v h l =
-      go (eqb (rest m t) 0) (child m t (sumsOf v m) (valsOf v (suc m))) (λ v′. descend-above d m (rest m t) v′ h (omega arith))
-    where
-      go : (b : Bool) (x : List ℤ)
-          → ((v′ : View) → (valsOf (descend others d m (rest m t) v′) h ≡ valsOf v′ h) × (sumsOf (descend others d m (rest m t) v′) h ≡ sumsOf v′ h))
-          → (valsOf (descend others d m (rest m t) (cond b (putVals others m x v) v)) h ≡ valsOf v h) × (sumsOf (descend others d m (rest m t) (cond b (putVals others m x v) v)) h ≡ sumsOf v h)
-      go true x ih =
-          let k = ih (putVals others m x v) in (
-            k .0 ∙ ap (λ f. f h) (vals-put m v x) ∙ upd-other (valsOf v) m x h (λ e. omega arith),
-            k .1 ∙ ap (λ f. f h) (sums-lost m v x) ∙ upd-other (sumsOf v) m (v .arrays .sums m (writes others m v)) h (λ e. omega arith),
-          )
-      go false x ih = ih v
+  descend-above d m t v h l =
+      descend-keeps (λ w. (valsOf w h ≡ valsOf v h) × (sumsOf w h ≡ sumsOf v h)) d m t v
+      (λ k x w b e. (
+        ap (λ f. f h) (vals-put k w x) ∙ upd-other (valsOf w) k x h (λ z. omega arith) ∙ e .0,
+        ap (λ f. f h) (sums-lost k w x) ∙ upd-other (sumsOf w) k (w .arrays .sums k (writes others k w)) h (λ z. omega arith) ∙ e .1,
+      ))
+      (refl, refl)
 
   -- from the values of the nodes that start before t, and the sums, come those of all nodes on the way; the sums stay, since the one array whose
   -- sums are still read, at the turn, is the path's alone

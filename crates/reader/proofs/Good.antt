@@ -32,8 +32,8 @@ use Rattle.outer.proofs.Blocks.{Placed, placed, start-less}
 use Rattle.outer.proofs.Words.{Matches, filled-after}
 use Rattle.reader.proofs.Arrays.{Sees, sees-same, Kept, Alone, sums-kept, sums-put, vals-lost, sums-alone}
 
--- the path p, whose last block is b, has the bits u, and S and C are the values and sums that it sees
-pub record Good (B : Book) (ys : List ℤ) (S : ℕ → List ℤ) (C : ℕ → List ℕ) (u : List ℕ) (p : Path) (b : ℕ) : Type 0 where
+-- the path p, whose last block is b, has the bits u, and v is what it sees
+pub record Good (B : Book) (ys : List ℤ) (v : View) (u : List ℕ) (p : Path) (b : ℕ) : Type 0 where
   pub within : b < length (B .blocks)
   pub size : length u ≡ startOf (B .blocks) b + 2 ^ (blockAt B b .j)
   pub bits : All Bit u
@@ -41,25 +41,26 @@ pub record Good (B : Book) (ys : List ℤ) (S : ℕ → List ℤ) (C : ℕ → L
   pub cost : p .cost ≡ costs (B .m) ys u (startOf (B .blocks) b) (2 ^ (blockAt B b .j))
   pub setting : u ≡ filled B (take (startOf (B .blocks) b) u) b (p .setting)
   pub earlier : p .earlier ≡ paritiesOf B (take (startOf (B .blocks) b) u)
-  pub root : S (B .m) ≡ ys
-  pub vals : Vals (B .m - blockAt B b .j) (B .m) ys u (startOf (B .blocks) b) S
-  pub sums : Sums (suc (B .m)) u (startOf (B .blocks) b) C
+  pub root : valsOf v (B .m) ≡ ys
+  pub vals : Vals (B .m - blockAt B b .j) (B .m) ys u (startOf (B .blocks) b) (valsOf v)
+  pub sums : Sums (suc (B .m)) u (startOf (B .blocks) b) (sumsOf v)
 
 -- path 0, before its first block
-pub record Empty (B : Book) (ys : List ℤ) (S : ℕ → List ℤ) (u : List ℕ) (p : Path) : Type 0 where
+pub record Empty (B : Book) (ys : List ℤ) (v : View) (u : List ℕ) (p : Path) : Type 0 where
   pub bits : u ≡ []
   pub spent : p .spent ≡ 0
   pub cost : p .cost ≡ 0
-  pub root : S (B .m) ≡ ys
+  pub root : valsOf v (B .m) ≡ ys
 
 -- p with so many blocks
-unfoldable pub Inv : Book → List ℤ → (ℕ → List ℤ) → (ℕ → List ℕ) → List ℕ → Path → ℕ → Type 0
-Inv B ys S C u p zero = Empty B ys S u p
-Inv B ys S C u p (suc b) = Good B ys S C u p b
+unfoldable pub Inv : Book → List ℤ → View → List ℕ → Path → ℕ → Type 0
+Inv B ys v u p zero = Empty B ys v u p
+Inv B ys v u p (suc b) = Good B ys v u p b
 
+-- p, with what it keeps of the bits u and what it sees in the arrays
 pub record Holds (B : Book) (ys : List ℤ) (A : Arrays) (u : List ℕ) (p : Path) : Type 0 where
   pub parities : p .parities ≡ paritiesOf B u
-  pub inv : Inv B ys (valsOf (viewOf A p)) (sumsOf (viewOf A p)) u p (p .blocks)
+  pub inv : Inv B ys (viewOf A p) u p (p .blocks)
 
 -- the machine's path with the bits u that p stands for
 unfoldable pub plain : Book → Path → List ℕ → M.Path
@@ -72,13 +73,26 @@ pub record StandsFor (B : Book) (ys : List ℤ) (A : Arrays) (q : M.Path) (p : P
 
 -- ---- the frame: a path that sees what it saw is as it was
 
-module _ (B : Book) (ys : List ℤ) (A A′ : Arrays) where
-  inv-frame : (u : List ℕ) (p : Path) (b : ℕ) → Sees A A′ (p .ids) → Inv B ys (valsOf (viewOf A p)) (sumsOf (viewOf A p)) u p b → Inv B ys (valsOf (viewOf A′ p)) (sumsOf (viewOf A′ p)) u p b
-  inv-frame u p b e h =
-      subst (λ (S : ℕ → List ℤ). Inv B ys S (sumsOf (viewOf A′ p)) u p b) (sym (e .vals)) (subst (λ (C : ℕ → List ℕ). Inv B ys (valsOf (viewOf A p)) C u p b) (sym (e .sums)) h)
+inv-frame : (B : Book) (ys : List ℤ) (v v′ : View) (u : List ℕ) (p : Path) (b : ℕ) → valsOf v′ ≡ valsOf v → sumsOf v′ ≡ sumsOf v → Inv B ys v u p b → Inv B ys v′ u p b
+unfolding Inv
+inv-frame B ys v v′ u p zero e f h = record { bits = h .bits; spent = h .spent; cost = h .cost; root = ap (λ S. S (B .m)) e ∙ h .root }
+inv-frame B ys v v′ u p (suc b) e f h =
+    record {
+      within = h .within;
+      size = h .size;
+      bits = h .bits;
+      spent = h .spent;
+      cost = h .cost;
+      setting = h .setting;
+      earlier = h .earlier;
+      root = ap (λ S. S (B .m)) e ∙ h .root;
+      vals = subst (Vals (B .m - blockAt B b .j) (B .m) ys u (startOf (B .blocks) b)) (sym e) (h .vals);
+      sums = subst (Sums (suc (B .m)) u (startOf (B .blocks) b)) (sym f) (h .sums);
+    }
 
+module _ (B : Book) (ys : List ℤ) (A A′ : Arrays) where
   pub holds-frame : (u : List ℕ) (p : Path) → Sees A A′ (p .ids) → Holds B ys A u p → Holds B ys A′ u p
-  holds-frame u p e h = record { parities = h .parities; inv = inv-frame u p (p .blocks) e (h .inv) }
+  holds-frame u p e h = record { parities = h .parities; inv = inv-frame B ys (viewOf A p) (viewOf A′ p) u p (p .blocks) (e .vals) (e .sums) (h .inv) }
 
   pub stands-frame : (q : M.Path) (p : Path) → Sees A A′ (p .ids) → StandsFor B ys A q p → StandsFor B ys A′ q p
   stands-frame q p e h = record { same = h .same; holds = holds-frame (q .bits) p e (h .holds) }
@@ -99,76 +113,76 @@ pub record Ready (B : Book) (ys : List ℤ) (others : List (ℕ → ℕ)) (u : L
   pub prior : b < length (B .blocks) → (k : ℕ) → Prior k (B .m) ys u (startOf (B .blocks) b) (valsOf v)
   pub alone : b < length (B .blocks) → 0 < startOf (B .blocks) b → Alone others (turn (B .m) (startOf (B .blocks) b)) (v .ids)
 
-module _ (B : Book) (ys : List ℤ) (ok : Valid B) where
-  module _ (S : ℕ → List ℤ) (C : ℕ → List ℕ) (u : List ℕ) (p : Path) where
-    pub sized : (b : ℕ) → Inv B ys S C u p b → Sized B ys u p b
-    unfolding Inv startOf All costs
-    sized zero h =
-        record {
-          within = omega arith;
-          size = ap length (h .bits);
-          bits = subst (All Bit) (sym (h .bits)) tt;
-          total = rw (h .bits, h .spent, h .cost);
-        }
-    sized (suc b) h =
-        let o : Placed B b = placed B ok b (h .within) in
+module _ (B : Book) (ys : List ℤ) (v : View) (u : List ℕ) (p : Path) where
+  pub sized : Valid B → (b : ℕ) → Inv B ys v u p b → Sized B ys u p b
+  unfolding Inv startOf All costs
+  sized ok zero h =
+      record {
+        within = omega arith;
+        size = ap length (h .bits);
+        bits = subst (All Bit) (sym (h .bits)) tt;
+        total = rw (h .bits, h .spent, h .cost);
+      }
+  sized ok (suc b) h =
+      let o : Placed B b = placed B ok b (h .within) in
+      let s : ℕ = startOf (B .blocks) b in
+      let n : ℕ = 2 ^ (blockAt B b .j) in
+      record {
+        within = h .within;
+        size = h .size ∙ sym (o .next);
+        bits = h .bits;
+        total =
+            ap₂ _+_ (h .spent) (h .cost)
+            ∙ ap (λ t. costs (B .m) ys u 0 s + costs (B .m) ys u t n) (sym (zero-add s))
+            ∙ sym (costs-add (B .m) ys u 0 s n)
+            ∙ ap (costs (B .m) ys u 0) (sym (h .size));
+      }
+
+  -- ---- the last block b
+
+  module _ (b : ℕ) (g : Good B ys v u p b) where
+    before-size : length (take (startOf (B .blocks) b) u) ≡ startOf (B .blocks) b
+    before-size = length-take-le (startOf (B .blocks) b) u (omega (arith, g .size))
+
+    -- its word is the path's
+    last-word : lastWord B p b ≡ transform (blockAt B b .j) (drop (startOf (B .blocks) b) u)
+    unfolding lastWord
+    last-word =
         let s : ℕ = startOf (B .blocks) b in
-        let n : ℕ = 2 ^ (blockAt B b .j) in
+        let j : ℕ = blockAt B b .j in
+        ap (λ x. transform j (fillBlock B x b (p .setting) .bits)) (g .earlier)
+        ∙ ap (transform j) (sym (filled-drop B (take s u) b (p .setting) before-size))
+        ∙ ap (λ x. transform j (drop s x)) (sym (g .setting))
+
+    pub own-matches : p .parities ≡ paritiesOf B u → Matches B ys (take (startOf (B .blocks) b) u) b (rank B ys b u) (ownWord B p b)
+    unfolding rank ownWord
+    own-matches e =
         record {
-          within = h .within;
-          size = h .size ∙ sym (o .next);
-          bits = h .bits;
-          total =
-              ap₂ _+_ (h .spent) (h .cost)
-              ∙ ap (λ t. costs (B .m) ys u 0 s + costs (B .m) ys u t n) (sym (zero-add s))
-              ∙ sym (costs-add (B .m) ys u 0 s n)
-              ∙ ap (costs (B .m) ys u 0) (sym (h .size));
+          bits = g .setting;
+          parities = e;
+          cost = g .cost;
+          sum = penalties-costs (B .m) ys u (startOf (B .blocks) b) (2 ^ (blockAt B b .j)) ∙ ap (λ n. negℤ (pos n)) (sym (g .cost));
+          number = ap number last-word;
         }
 
-    -- the machine scores its path alike
-    pub plain-path : Sized B ys u p (p .blocks) → M.path B ys (p .number) (p .blocks) u ≡ plain B p u
-    unfolding M.path M.scoreOf plain scoreOf
-    plain-path h = ap {A = ℤ} {B = M.Path} (λ z. record { number = p .number; blocks = p .blocks; bits = u; score = z }) (score (p .blocks))
-      where
-        score : (b : ℕ) → M.scoreOf B ys b u ≡ scoreOf B p b
-        score zero = refl
-        score (suc b) = ap (λ z. z -ℤ blockAt B b .bias) (R-costs (B .m) ys u ∙ ap (λ n. negℤ (pos n)) (sym (h .total)))
+-- the machine scores its path alike
+pub plain-path : (B : Book) (ys : List ℤ) (u : List ℕ) (p : Path) → Sized B ys u p (p .blocks) → M.path B ys (p .number) (p .blocks) u ≡ plain B p u
+unfolding M.path M.scoreOf plain scoreOf
+plain-path B ys u p h = ap {A = ℤ} {B = M.Path} (λ z. record { number = p .number; blocks = p .blocks; bits = u; score = z }) (score (p .blocks))
+  where
+    score : (b : ℕ) → M.scoreOf B ys b u ≡ scoreOf B p b
+    score zero = refl
+    score (suc b) = ap (λ z. z -ℤ blockAt B b .bias) (R-costs (B .m) ys u ∙ ap (λ n. negℤ (pos n)) (sym (h .total)))
 
-    -- ---- the last block b
+-- ---- the last word goes into the sums
 
-    module _ (b : ℕ) (g : Good B ys S C u p b) where
-      before-size : length (take (startOf (B .blocks) b) u) ≡ startOf (B .blocks) b
-      before-size = length-take-le (startOf (B .blocks) b) u (omega (arith, g .size))
+pub commit-kept : (B : Book) (others : List (ℕ → ℕ)) (p : Path) (b : ℕ) (v : View) → Kept others (v .arrays) (commit B others p b v .arrays)
+unfolding commit
+commit-kept B others p zero v = all-any (sees-same (v .arrays)) others
+commit-kept B others p (suc b) v = sums-kept others _ v _
 
-      -- its word is the path's
-      last-word : lastWord B p b ≡ transform (blockAt B b .j) (drop (startOf (B .blocks) b) u)
-      unfolding lastWord
-      last-word =
-          let s : ℕ = startOf (B .blocks) b in
-          let j : ℕ = blockAt B b .j in
-          ap (λ x. transform j (fillBlock B x b (p .setting) .bits)) (g .earlier)
-          ∙ ap (transform j) (sym (filled-drop B (take s u) b (p .setting) before-size))
-          ∙ ap (λ x. transform j (drop s x)) (sym (g .setting))
-
-      pub own-matches : p .parities ≡ paritiesOf B u → Matches B ys (take (startOf (B .blocks) b) u) b (rank B ys b u) (ownWord B p b)
-      unfolding rank ownWord
-      own-matches e =
-          record {
-            bits = g .setting;
-            parities = e;
-            cost = g .cost;
-            sum = penalties-costs (B .m) ys u (startOf (B .blocks) b) (2 ^ (blockAt B b .j)) ∙ ap (λ n. negℤ (pos n)) (sym (g .cost));
-            number = ap number last-word;
-          }
-
-  -- ---- the last word goes into the sums
-
-  pub commit-kept : (others : List (ℕ → ℕ)) (p : Path) (b : ℕ) (v : View) → Kept others (v .arrays) (commit B others p b v .arrays)
-  unfolding commit
-  commit-kept others p zero v = all-any (sees-same (v .arrays)) others
-  commit-kept others p (suc b) v = sums-kept others _ v _
-
-  pub ready : (others : List (ℕ → ℕ)) (u : List ℕ) (p : Path) (b : ℕ) (v : View) → Inv B ys (valsOf v) (sumsOf v) u p b → Ready B ys others u b (commit B others p b v)
+module _ (B : Book) (ys : List ℤ) (ok : Valid B) where
+  pub ready : (others : List (ℕ → ℕ)) (u : List ℕ) (p : Path) (b : ℕ) (v : View) → Inv B ys v u p b → Ready B ys others u b (commit B others p b v)
   unfolding Inv startOf commit place
   ready others u p zero v h =
       record {
@@ -187,7 +201,7 @@ module _ (B : Book) (ys : List ℤ) (ok : Valid B) where
       let w : List ℕ = joined (sumsOf v) j (a - j) (lastWord B p b) in
       let lost : List ℤ = v .arrays .vals a (writes others a v) in
       let after : sumsOf (commit B others p (suc b) v) ≡ upd (sumsOf v) a (joined (sumsOf v) j (a - j) (transform j (drop s u))) =
-      sums-put others a v w ∙ ap (λ x. upd (sumsOf v) a (joined (sumsOf v) j (a - j) x)) (last-word (valsOf v) (sumsOf v) u p b h) in
+      sums-put others a v w ∙ ap (λ x. upd (sumsOf v) a (joined (sumsOf v) j (a - j) x)) (last-word B ys v u p b h) in
       let less : suc b < length (B .blocks) → t < 2 ^ m = start-less B ok (suc b) in
       let same : suc b < length (B .blocks) → a ≡ turn m t = λ l. ap (turn (suc m)) (sym (o .next)) ∙ turn-low m t (less l) in
       let above : 0 < t = omega (arith, o .next, pow-pos j) in
@@ -203,27 +217,29 @@ module _ (B : Book) (ys : List ℤ) (ok : Valid B) where
         alone = λ l z. subst (λ (x : ℕ). Alone others x (commit B others p (suc b) v .ids)) (same l) (sums-alone others a v w);
       }
 
-  -- ---- the word y, the machine's x, enters block b after the bits v
+  -- ---- the word y, the machine's x, enters block b after the bits z, and makes p
 
-  pub enter : (S : ℕ → List ℤ) (C : ℕ → List ℕ) (b : ℕ) (v : List ℕ) (x : Ranked) (y : Word) (p : Path) → b < length (B .blocks) → length ys ≡ 2 ^ (B .m) → length v ≡ startOf (B .blocks) b → All Bit v →
-      S (B .m) ≡ ys → Vals (B .m - blockAt B b .j) (B .m) ys v (startOf (B .blocks) b) S → Sums (suc (B .m)) v (startOf (B .blocks) b) C → Matches B ys v b x y →
-      p .spent ≡ costs (B .m) ys v 0 (startOf (B .blocks) b) → p .earlier ≡ paritiesOf B v → p .cost ≡ y .cost → p .setting ≡ y .setting → Good B ys S C (x .bits) p b
-  enter S C b v x y p l ly lv bv root hv hs k spent earlier cost setting =
-      let j : ℕ = blockAt B b .j in
-      let m : ℕ = B .m in
-      let s : ℕ = startOf (B .blocks) b in
-      let a : After v (2 ^ j) (x .bits) = subst (After v (2 ^ j)) (sym (k .bits)) (filled-after B ys v b (placed B ok b l) ly lv bv (y .setting)) in
-      let front : take s (x .bits) ≡ v = ap (take s) (k .bits) ∙ filled-take B v b (y .setting) lv in
-      let same : Same s v (x .bits) = take-all s v (omega arith) ∙ sym front in
-      record {
-        within = l;
-        size = a .size ∙ ap (λ n. n + 2 ^ j) lv;
-        bits = a .bits;
-        spent = spent ∙ costs-same m ys v (x .bits) 0 s s (omega arith) same;
-        cost = cost ∙ k .cost;
-        setting = k .bits ∙ ap₂ (λ (z : List ℕ) (w : ℕ). filled B z b w) (sym front) (sym setting);
-        earlier = earlier ∙ ap (paritiesOf B) (sym front);
-        root = root;
-        vals = vals-same (m - j) m ys v (x .bits) s S same hv;
-        sums = sums-same (suc m) v (x .bits) s C same hs;
-      }
+  module _ (v : View) (b : ℕ) (z : List ℕ) (x : Ranked) (y : Word) (p : Path) where
+    pub enter : b < length (B .blocks) → length ys ≡ 2 ^ (B .m) → length z ≡ startOf (B .blocks) b → All Bit z →
+        valsOf v (B .m) ≡ ys → Vals (B .m - blockAt B b .j) (B .m) ys z (startOf (B .blocks) b) (valsOf v) → Sums (suc (B .m)) z (startOf (B .blocks) b) (sumsOf v) →
+        Matches B ys z b x y → p .spent ≡ costs (B .m) ys z 0 (startOf (B .blocks) b) → p .earlier ≡ paritiesOf B z → p .cost ≡ y .cost → p .setting ≡ y .setting →
+        Good B ys v (x .bits) p b
+    enter l ly lz bz root vals sums k spent earlier cost setting =
+        let j : ℕ = blockAt B b .j in
+        let m : ℕ = B .m in
+        let s : ℕ = startOf (B .blocks) b in
+        let a : After z (2 ^ j) (x .bits) = subst (After z (2 ^ j)) (sym (k .bits)) (filled-after B ys z b (placed B ok b l) ly lz bz (y .setting)) in
+        let front : take s (x .bits) ≡ z = ap (take s) (k .bits) ∙ filled-take B z b (y .setting) lz in
+        let same : Same s z (x .bits) = take-all s z (omega arith) ∙ sym front in
+        record {
+          within = l;
+          size = a .size ∙ ap (λ n. n + 2 ^ j) lz;
+          bits = a .bits;
+          spent = spent ∙ costs-same m ys z (x .bits) 0 s s (omega arith) same;
+          cost = cost ∙ k .cost;
+          setting = k .bits ∙ ap₂ (λ (c : List ℕ) (w : ℕ). filled B c b w) (sym front) (sym setting);
+          earlier = earlier ∙ ap (paritiesOf B) (sym front);
+          root = root;
+          vals = vals-same (m - j) m ys z (x .bits) s (valsOf v) same vals;
+          sums = sums-same (suc m) z (x .bits) s (sumsOf v) same sums;
+        }

@@ -7,3 +7,8 @@ pub mod Queue
 pub mod Step
 pub mod Run
 pub mod Agree
+pub mod Moments
+pub mod Removed
+pub mod Bounds
+pub mod Held
+pub mod Solo

@@ -1,5 +1,6 @@
--- The id that a path writes to: none that another path holds, never 0, and the path's own where that is so already. Nothing else of the choice
--- is used anywhere. The first free id is found since each taken one on the way leaves fewer of the taken ones above. Assumes nothing.
+-- The id that a path writes to: none that another path holds, never 0, the path's own where that is so already, and no higher than needed.
+-- Nothing else of the choice is used anywhere. The first free id is found since each taken one on the way leaves fewer of the taken ones above
+-- it. Assumes nothing.
 use mathlib.Core.Path.{_≡_, refl, sym, ap}
 use mathlib.Core.Bool.{Bool, true, false, cond, _||_}
 use mathlib.Core.List.{List, [], _∷_}
@@ -111,3 +112,12 @@ own-some i is e = own-free i is .0 (sym e)
 pub own-keep : (i : ℕ) (is : List ℕ) → (i ≡ 0 → ⊥) → NoneIs i is → ownOf i is ≡ i
 unfolding ownOf All
 own-keep i is n h = ap (λ b. cond b (firstFree (length (0 ∷ is)) 0 (0 ∷ is)) i) (none-among i (0 ∷ is) (λ e. n (sym e), h))
+
+-- where N ids are more than the others are, it is one of them
+pub own-most : (N i : ℕ) (is : List ℕ) → i ≤ N → length is < N → ownOf i is ≤ N
+unfolding ownOf
+own-most N i is h k = go (among i (0 ∷ is))
+  where
+    go : (b : Bool) → cond b (firstFree (length (0 ∷ is)) 0 (0 ∷ is)) i ≤ N
+    go true = omega (arith, first-free (length (0 ∷ is)) 0 (0 ∷ is) (above-all 0 (0 ∷ is)) .1)
+    go false = h

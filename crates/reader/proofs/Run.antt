@@ -5,7 +5,6 @@ use mathlib.Core.Bool.{Bool, true, false, cond}
 use mathlib.Core.List.{List, [], _∷_}
 use mathlib.Core.Option.{Option, none, some}
 use Prim.Native.Nat.{ℕ, zero, suc, _+_, _^_}
-use native.Mathlib.Omega.{arith}
 use lib.ListN.{length}
 use lib.IntN.{ℤ, pos, natAbs}
 use lib.Dec.{eqb}
@@ -22,7 +21,7 @@ use Rattle.codec.specs.Code.{freeBits, readData}
 use Rattle.machine.specs.Queue.{Step, Final}
 use Rattle.machine.specs.Machine as M
 use Rattle.machine.specs.Calls.{finalOf}
-use Rattle.reader.specs.Arrays.{Arrays, View, valsOf, sumsOf}
+use Rattle.reader.specs.Arrays.{Arrays, View, sumsOf}
 use Rattle.reader.specs.Paths.{Path, firstPath, scoreOf, idsOf, viewOf}
 use Rattle.reader.specs.Reader as R
 use Rattle.reader.specs.Reader.{commit}
@@ -30,7 +29,7 @@ use Rattle.reader.proofs.Upd.{upd-same}
 use Rattle.reader.proofs.Tree.{Sums, root-word}
 use Rattle.codec.proofs.Ties.{parities-none}
 use Rattle.reader.proofs.Good.{Inv, Holds, plain, StandsFor, Sized, sized, Ready, ready}
-use Rattle.reader.proofs.Step.{StepIs, extract-is}
+use Rattle.reader.proofs.Step.{StepIs, stands-blocks, extract-is}
 
 -- what comes of the machine's final path, if there is one
 unfoldable pub finalFrom : Book → List ℤ → Option M.Path → Option Final
@@ -42,6 +41,15 @@ pub record RunIs (B : Book) (ys : List ℤ) (r : M.Run) (r′ : R.Run) : Type 0 
   pub steps : r′ .steps ≡ r .steps
   pub final : r′ .final ≡ finalFrom B ys (r .final)
 
+-- path 0, whatever the arrays hold but the received values at the root
+pub first-stands : (B : Book) (ys : List ℤ) (A : Arrays) → A .vals (B .m) 1 ≡ ys → StandsFor B ys A M.emptyPath (firstPath B)
+unfolding M.emptyPath firstPath plain scoreOf Inv
+first-stands B ys A e =
+    record {
+      same = refl;
+      holds = record { parities = parities-none B; inv = record { bits = refl; spent = refl; cost = refl; root = ap (A .vals (B .m)) (upd-same (λ _. 0) (B .m) 1) ∙ e } };
+    }
+
 module _ (B : Book) (ys : List ℤ) (ok : Valid B) (ly : length ys ≡ 2 ^ (B .m)) where
   -- ---- where step 1 stops
 
@@ -49,7 +57,7 @@ module _ (B : Book) (ys : List ℤ) (ok : Valid B) (ly : length ys ≡ 2 ^ (B .m
   unfolding M.stopped R.stopped plain finalFrom finalOf readData
   stopped-plain A u p ps h e =
       let v : View = commit B (idsOf ps) p (p .blocks) (viewOf A p) in
-      let z : Sized B ys u p (p .blocks) = sized B ys ok (valsOf (viewOf A p)) (sumsOf (viewOf A p)) u p (p .blocks) (h .inv) in
+      let z : Sized B ys u p (p .blocks) = sized B ys (viewOf A p) u p ok (p .blocks) (h .inv) in
       let r : Ready B ys (idsOf ps) u (p .blocks) v = ready B ys ok (idsOf ps) u p (p .blocks) (viewOf A p) (h .inv) in
       let f : startOf (B .blocks) (p .blocks) ≡ 2 ^ (B .m) = ap (startOf (B .blocks)) e ∙ ok .covered in
       let word : sumsOf v (B .m) ≡ transform (B .m) u = root-word (B .m) u (sumsOf v) (z .size ∙ f) (subst (λ (t : ℕ). Sums (suc (B .m)) u t (sumsOf v)) f (r .sums)) in
@@ -70,49 +78,39 @@ module _ (B : Book) (ys : List ℤ) (ok : Valid B) (ly : length ys ≡ 2 ^ (B .m
   unfolding M.after R.after
   after-is s s′ r r′ e h = record { steps = ap₂ (λ x l. x ∷ l) (sym e) (h .steps); final = h .final }
 
-  pub run-is : (fuel L D : ℕ) (A : Arrays) (qs : List M.Path) (ps : List Path) (n : ℕ) (visits : List ℕ) → Paired (StandsFor B ys A) qs ps → RunIs B ys (M.run fuel B L D ys qs n visits) (R.run fuel B L D A ps n visits)
+  -- runs of so much fuel agree, from any queue and one that stands for it
+  abbrev RunsAgree : ℕ → ℕ → ℕ → Type 0
+  RunsAgree fuel L D =
+      (A : Arrays) (qs : List M.Path) (ps : List Path) (n : ℕ) (visits : List ℕ) → Paired (StandsFor B ys A) qs ps →
+      RunIs B ys (M.run fuel B L D ys qs n visits) (R.run fuel B L D A ps n visits)
+
+  pub run-is : (fuel L D : ℕ) → RunsAgree fuel L D
   unfolding M.run R.run finalFrom Paired
   run-is zero L D A qs ps n visits h = record { steps = refl; final = refl }
   run-is (suc fuel) L D A [] [] n visits h = record { steps = refl; final = refl }
   run-is (suc fuel) L D A [] (p ∷ ps) n visits h = absurd h
   run-is (suc fuel) L D A (q ∷ qs) [] n visits h = absurd h
   run-is (suc fuel) L D A (q ∷ qs) (p ∷ ps) n visits h =
-      subst (λ (b : ℕ). RunIs B ys (M.run (suc fuel) B L D ys (q ∷ qs) n visits) (cond (eqb b (length (B .blocks))) (R.stopped B A p ps) more′)) blocks
+      subst (λ (b : ℕ). RunIs B ys (M.run (suc fuel) B L D ys (q ∷ qs) n visits) (cond (eqb b (length (B .blocks))) (R.stopped B A p ps) (R.after (x′ .step) more′))) (stands-blocks B ys A q p (h .0))
       (go (eqb (q .blocks) (length (B .blocks))) refl (run-is fuel L D))
     where
-      blocks : q .blocks ≡ p .blocks
-      blocks = unfold plain in ap (λ (x : M.Path). x .blocks) (h .0 .same)
-
       x : M.Extracted
       x = M.extract B L D ys q qs n visits
 
       x′ : R.Extracted
       x′ = R.extract B L D A p ps n visits
 
-      more : M.Run
-      more = M.after (x .step) (M.run fuel B L D ys (x .state .queue) (x .state .next) (x .state .visits))
+      more : ℕ → List ℕ → M.Run
+      more n visits = M.run fuel B L D ys (x .state .queue) n visits
 
       more′ : R.Run
-      more′ = R.after (x′ .step) (R.run fuel B L D (x′ .state .arrays) (x′ .state .queue) (x′ .state .next) (x′ .state .visits))
+      more′ = R.run fuel B L D (x′ .state .arrays) (x′ .state .queue) (x′ .state .next) (x′ .state .visits)
 
-      go : (t : Bool) → eqb (q .blocks) (length (B .blocks)) ≡ t
-          → ((A′ : Arrays) (qs′ : List M.Path) (ps′ : List Path) (n′ : ℕ) (visits′ : List ℕ) → Paired (StandsFor B ys A′) qs′ ps′ → RunIs B ys (M.run fuel B L D ys qs′ n′ visits′) (R.run fuel B L D A′ ps′ n′ visits′))
-          → RunIs B ys (cond t (M.stopped q) more) (cond t (R.stopped B A p ps) more′)
-      go true e ih = stopped-is A q p ps (h .0) (sym blocks ∙ eqb-true (q .blocks) (length (B .blocks)) e)
+      go : (t : Bool) → eqb (q .blocks) (length (B .blocks)) ≡ t → RunsAgree fuel L D →
+          RunIs B ys (cond t (M.stopped q) (M.after (x .step) (more (x .state .next) (x .state .visits)))) (cond t (R.stopped B A p ps) (R.after (x′ .step) more′))
+      go true e ih = stopped-is A q p ps (h .0) (sym (stands-blocks B ys A q p (h .0)) ∙ eqb-true (q .blocks) (length (B .blocks)) e)
       go false e ih =
-          let z : Sized B ys (q .bits) p (p .blocks) = sized B ys ok (valsOf (viewOf A p)) (sumsOf (viewOf A p)) (q .bits) p (p .blocks) (h .0 .holds .inv) in
-          let ne : q .blocks ≡ length (B .blocks) → ⊥ = eqb-false (q .blocks) (length (B .blocks)) e in
-          let i : StepIs B ys ok ly x x′ = extract-is B ys ok ly L D A q p qs ps n visits (h .0) (h .1) (omega (arith, z .within, blocks)) in
-          let on : RunIs B ys (M.run fuel B L D ys (x .state .queue) (x .state .next) (x .state .visits)) (R.run fuel B L D (x′ .state .arrays) (x′ .state .queue) (x′ .state .next) (x′ .state .visits)) =
-          subst₂ (λ (k : ℕ) (w : List ℕ). RunIs B ys (M.run fuel B L D ys (x .state .queue) k w) (R.run fuel B L D (x′ .state .arrays) (x′ .state .queue) (x′ .state .next) (x′ .state .visits))) (sym (i .next)) (sym (i .visits))
-          (ih (x′ .state .arrays) (x .state .queue) (x′ .state .queue) (x′ .state .next) (x′ .state .visits) (i .queue)) in
-          after-is (x .step) (x′ .step) (M.run fuel B L D ys (x .state .queue) (x .state .next) (x .state .visits)) (R.run fuel B L D (x′ .state .arrays) (x′ .state .queue) (x′ .state .next) (x′ .state .visits)) (i .step) on
-
-  -- path 0, whatever the arrays hold but the received values at the root
-  pub first-stands : (A : Arrays) → A .vals (B .m) 1 ≡ ys → StandsFor B ys A M.emptyPath (firstPath B)
-  unfolding M.emptyPath firstPath plain scoreOf Inv
-  first-stands A e =
-      record {
-        same = refl;
-        holds = record { parities = parities-none B; inv = record { bits = refl; spent = refl; cost = refl; root = ap (A .vals (B .m)) (upd-same (λ _. 0) (B .m) 1) ∙ e } };
-      }
+          let i : StepIs B ys x x′ = extract-is B ys ok ly L D A q p qs ps n visits (h .0) (h .1) (eqb-false (q .blocks) (length (B .blocks)) e) in
+          after-is (x .step) (x′ .step) (more (x .state .next) (x .state .visits)) more′ (i .step)
+          (subst₂ (λ (k : ℕ) (w : List ℕ). RunIs B ys (more k w) more′) (sym (i .next)) (sym (i .visits))
+          (ih (x′ .state .arrays) (x .state .queue) (x′ .state .queue) (x′ .state .next) (x′ .state .visits) (i .queue)))

@@ -24,6 +24,7 @@ use Rattle.machine.specs.Words as MW
 use Rattle.machine.specs.Words.{Ranked, rank}
 use Rattle.machine.specs.Machine as M
 use Rattle.reader.specs.Arrays.{Arrays, View, valsOf, sumsOf, claim, descend}
+use Rattle.codec.specs.Ties.{Parities}
 use Rattle.outer.specs.Words as RW
 use Rattle.outer.specs.Words.{Word}
 use Rattle.reader.specs.Paths.{Path, keyOf, scoreOf, ownWord, place, idsOf, viewOf}
@@ -37,19 +38,31 @@ use Rattle.reader.proofs.Arrays.{Sees, sees-same, Kept, kept-on, claim-
 use Rattle.reader.proofs.Good.{Good, Inv, Holds, plain, StandsFor, holds-frame, stands-frame, Sized, sized, plain-path, own-matches, commit-kept, Ready, ready, enter}
 use Rattle.reader.proofs.Queue.{insert-paired, ahead-paired, behind-paired, numbers-paired}
 
-module _ (B : Book) (ys : List ℤ) (ok : Valid B) (ly : length ys ≡ 2 ^ (B .m)) where
-  -- the queues go by the same keys
-  stands-key : (A : Arrays) (q : M.Path) (p : Path) → StandsFor B ys A q p → M.keyOf q ≡ keyOf B p
-  unfolding M.keyOf keyOf plain
-  stands-key A q p h = ap {B = Key} (λ (x : M.Path). record { score = x .score; blocks = x .blocks; number = x .number }) (h .same)
+module _ (B : Book) (ys : List ℤ) (A : Arrays) (q : M.Path) (p : Path) (h : StandsFor B ys A q p) where
+  pub stands-blocks : q .blocks ≡ p .blocks
+  unfolding plain
+  stands-blocks = ap (λ (x : M.Path). x .blocks) (h .same)
 
+  -- the queues go by the same keys
+  pub stands-key : M.keyOf q ≡ keyOf B p
+  unfolding M.keyOf keyOf plain
+  stands-key = ap {B = Key} (λ (x : M.Path). record { score = x .score; blocks = x .blocks; number = x .number }) (h .same)
+
+-- the reader's extraction x′ is the machine's x
+pub record StepIs (B : Book) (ys : List ℤ) (x : M.Extracted) (x′ : R.Extracted) : Type 0 where
+  pub queue : Paired (StandsFor B ys (x′ .state .arrays)) (x .state .queue) (x′ .state .queue)
+  pub next : x .state .next ≡ x′ .state .next
+  pub visits : x .state .visits ≡ x′ .state .visits
+  pub step : x .step ≡ x′ .step
+
+module _ (B : Book) (ys : List ℤ) (ok : Valid B) (ly : length ys ≡ 2 ^ (B .m)) where
   -- a path that is good for its last block stands for the machine's
-  stands : (A : Arrays) (u : List ℕ) (p : Path) (b : ℕ) → p .blocks ≡ suc b → p .parities ≡ paritiesOf B u → Good B ys (valsOf (viewOf A p)) (sumsOf (viewOf A p)) u p b → StandsFor B ys A (M.path B ys (p .number) (p .blocks) u) p
+  stands : (A : Arrays) (u : List ℕ) (p : Path) (b : ℕ) → p .blocks ≡ suc b → p .parities ≡ paritiesOf B u → Good B ys (viewOf A p) u p b → StandsFor B ys A (M.path B ys (p .number) (p .blocks) u) p
   unfolding M.path Inv
   stands A u p b e f g =
-      let i : Inv B ys (valsOf (viewOf A p)) (sumsOf (viewOf A p)) u p (p .blocks) = subst (Inv B ys (valsOf (viewOf A p)) (sumsOf (viewOf A p)) u p) (sym e) g in
+      let i : Inv B ys (viewOf A p) u p (p .blocks) = subst (Inv B ys (viewOf A p) u p) (sym e) g in
       record {
-        same = plain-path B ys ok (valsOf (viewOf A p)) (sumsOf (viewOf A p)) u p (sized B ys ok (valsOf (viewOf A p)) (sumsOf (viewOf A p)) u p (p .blocks) i);
+        same = plain-path B ys u p (sized B ys (viewOf A p) u p ok (p .blocks) i);
         holds = record { parities = f; inv = i };
       }
 
@@ -63,7 +76,7 @@ module _ (B : Book) (ys : List ℤ) (ok : Valid B) (ly : length ys ≡ 2 ^ (B .m
     sees : Sees A (c′ .arrays) (p .ids)
 
   module _ (D : ℕ) (A : Arrays) (u : List ℕ) (p : Path) (qs : List M.Path) (ps : List Path) (n : ℕ) (hs : Paired (StandsFor B ys A) qs ps) where
-    copyWith-is : (b : ℕ) (o : Option Ranked) (o′ : Option Word) → Good B ys (valsOf (viewOf A p)) (sumsOf (viewOf A p)) u p b → MayPair (Matches B ys (take (startOf (B .blocks) b) u) b) o o′ →
+    copyWith-is : (b : ℕ) (o : Option Ranked) (o′ : Option Word) → Good B ys (viewOf A p) u p b → MayPair (Matches B ys (take (startOf (B .blocks) b) u) b) o o′ →
         CopyIs A p (M.cut D qs n (M.copyWith B ys n (suc b) o)) (R.copyWith B D A p b ps n o′)
     unfolding M.cut M.copyWith R.copyWith MayPair All roomFor crowdedOut
     copyWith-is b none none g k = record { queue = hs; next = refl; crowded = refl; sees = sees-same A (p .ids) }
@@ -82,8 +95,8 @@ module _ (B : Book) (ys : List ℤ) (ok : Valid B) (ly : length ys ≡ 2 ^ (B .m
         let sums : sumsOf v ≡ sumsOf (viewOf A p) = claim-sums others (place B b) (viewOf A p) in
         let c : Path = record { number = n; blocks = suc b; spent = p .spent; cost = y .cost; setting = y .setting; earlier = p .earlier; parities = y .parities; ids = v .ids } in
         let same : Same s u u′ = sym (take-take s s u (omega arith)) in
-        let good : Good B ys (valsOf v) (sumsOf v) (x .bits) c b =
-        enter B ys ok (valsOf v) (sumsOf v) b u′ x y c (g .within) ly (length-take-le s u (omega (arith, g .size))) (all-take Bit s u (g .bits))
+        let good : Good B ys v (x .bits) c b =
+        enter B ys ok v b u′ x y c (g .within) ly (length-take-le s u (omega (arith, g .size))) (all-take Bit s u (g .bits))
         (ap (λ f. f m) vals ∙ g .root)
         (subst (Vals (m - j) m ys u′ s) (sym vals) (vals-same (m - j) m ys u u′ s (valsOf (viewOf A p)) same (g .vals)))
         (subst (Sums (suc m) u′ s) (sym sums) (sums-same (suc m) u u′ s (sumsOf (viewOf A p)) same (g .sums)))
@@ -95,14 +108,14 @@ module _ (B : Book) (ys : List ℤ) (ok : Valid B) (ly : length ys ≡ 2 ^ (B .m
         (paired-take (StandsFor B ys A) (D - 2) qs ps hs) in
         record {
           queue =
-              insert-paired M.keyOf (keyOf B) (StandsFor B ys (v .arrays)) (stands-key (v .arrays)) (M.path B ys n (suc b) (x .bits)) c (take (D - 2) qs) left
+              insert-paired M.keyOf (keyOf B) (StandsFor B ys (v .arrays)) (stands-key B ys (v .arrays)) (M.path B ys n (suc b) (x .bits)) c (take (D - 2) qs) left
               (stands (v .arrays) (x .bits) c b refl (k .parities) good) rest;
           next = refl;
-          crowded = numbers-paired M.keyOf (keyOf B) (StandsFor B ys A) (stands-key A) _ _ (paired-drop (StandsFor B ys A) (D - 2) qs ps hs);
+          crowded = numbers-paired M.keyOf (keyOf B) (StandsFor B ys A) (stands-key B ys A) _ _ (paired-drop (StandsFor B ys A) (D - 2) qs ps hs);
           sees = kept .0;
         }
 
-    copy-is : (b : ℕ) → p .parities ≡ paritiesOf B u → Inv B ys (valsOf (viewOf A p)) (sumsOf (viewOf A p)) u p b → CopyIs A p (M.cut D qs n (M.copyOf B ys n b u)) (R.copy B D A p ps n b)
+    copy-is : (b : ℕ) → p .parities ≡ paritiesOf B u → Inv B ys (viewOf A p) u p b → CopyIs A p (M.cut D qs n (M.copyOf B ys n b u)) (R.copy B D A p ps n b)
     unfolding M.cut M.copyOf R.copy Inv MW.nextAfter RW.nextAfter
     copy-is zero e g = record { queue = hs; next = refl; crowded = refl; sees = sees-same A (p .ids) }
     copy-is (suc b) e g =
@@ -111,14 +124,16 @@ module _ (B : Book) (ys : List ℤ) (ok : Valid B) (ly : length ys ≡ 2 ^ (B .m
         let s : ℕ = startOf (B .blocks) b in
         let u′ : List ℕ = take s u in
         let o : Placed B b = placed B ok b (g .within) in
-        let S : ℕ → List ℤ = valsOf (viewOf A p) in
-        let at : S j ≡ node (m - j) m ys u′ s = vals-node (m - j) j m ys u s S (o .small) (g .root) (g .vals) ∙ node-same (m - j) m ys u u′ s (sym (take-take s s u (omega arith))) in
-        let own : Matches B ys u′ b (rank B ys b u) (ownWord B p b) = own-matches B ys ok S (sumsOf (viewOf A p)) u p b g e in
-        let found : MayPair (Matches B ys u′ b) (MW.nearestWith (MW.nearer (rank B ys b u)) B ys u′ b) (RW.nearestWith (RW.nearer (ownWord B p b)) B (S j) (paritiesOf B u′) b) =
-        nearest-matches B ys u′ b o ly (length-take-le s u (omega (arith, g .size))) (all-take Bit s u (g .bits)) (S j) at (MW.nearer (rank B ys b u)) (RW.nearer (ownWord B p b))
+        let v : View = viewOf A p in
+        let at : valsOf v j ≡ node (m - j) m ys u′ s =
+        vals-node (m - j) j m ys u s (valsOf v) (o .small) (g .root) (g .vals) ∙ node-same (m - j) m ys u u′ s (sym (take-take s s u (omega arith))) in
+        let own : Matches B ys u′ b (rank B ys b u) (ownWord B p b) = own-matches B ys v u p b g e in
+        let next : Option Ranked = MW.nextAfter B ys u b in
+        let next′ : Parities → Option Word = λ x. RW.nextAfter (ownWord B p b) B (valsOf v j) x b in
+        let found : MayPair (Matches B ys u′ b) next (next′ (paritiesOf B u′)) =
+        nearest-matches B ys u′ b o ly (length-take-le s u (omega (arith, g .size))) (all-take Bit s u (g .bits)) (valsOf v j) at (MW.nearer (rank B ys b u)) (RW.nearer (ownWord B p b))
         (λ x y k. nearer-matches B ys u′ b (rank B ys b u) x (ownWord B p b) y own k) in
-        copyWith-is b (MW.nearestWith (MW.nearer (rank B ys b u)) B ys u′ b) (RW.nearestWith (RW.nearer (ownWord B p b)) B (S j) (p .earlier) b) g
-        (subst (λ x. MayPair (Matches B ys u′ b) (MW.nearestWith (MW.nearer (rank B ys b u)) B ys u′ b) (RW.nearestWith (RW.nearer (ownWord B p b)) B (S j) x b)) (sym (g .earlier)) found)
+        copyWith-is b next (next′ (p .earlier)) g (subst (λ x. MayPair (Matches B ys u′ b) next (next′ x)) (sym (g .earlier)) found)
 
   -- ---- step 3: the path's own next block
 
@@ -129,7 +144,7 @@ module _ (B : Book) (ys : List ℤ) (ok : Valid B) (ly : length ys ≡ 2 ^ (B .m
 
   module _ (A : Arrays) (u : List ℕ) (p : Path) (qs : List M.Path) (ps : List Path) (hs : Paired (StandsFor B ys A) qs ps) (h : Holds B ys A u p) (l : p .blocks < length (B .blocks)) where
     now : Sized B ys u p (p .blocks)
-    now = sized B ys ok (valsOf (viewOf A p)) (sumsOf (viewOf A p)) u p (p .blocks) (h .inv)
+    now = sized B ys (viewOf A p) u p ok (p .blocks) (h .inv)
 
     moveWith-is : (v : View) (o : Option Ranked) (o′ : Option Word) → Kept (idsOf ps) A (v .arrays) → valsOf v (B .m) ≡ ys →
         Vals (B .m - blockAt B (p .blocks) .j) (B .m) ys u (startOf (B .blocks) (p .blocks)) (valsOf v) → Sums (suc (B .m)) u (startOf (B .blocks) (p .blocks)) (sumsOf v) →
@@ -142,8 +157,8 @@ module _ (B : Book) (ys : List ℤ) (ok : Valid B) (ly : length ys ≡ 2 ^ (B .m
         let b : ℕ = p .blocks in
         let c : Path =
         record { number = p .number; blocks = suc b; spent = p .spent + p .cost; cost = y .cost; setting = y .setting; earlier = p .parities; parities = y .parities; ids = v .ids } in
-        let good : Good B ys (valsOf v) (sumsOf v) (x .bits) c b =
-        enter B ys ok (valsOf v) (sumsOf v) b u x y c l ly (now .size) (now .bits) root vals sums k (now .total ∙ ap (costs (B .m) ys u 0) (now .size)) (h .parities) refl refl in
+        let good : Good B ys v (x .bits) c b =
+        enter B ys ok v b u x y c l ly (now .size) (now .bits) root vals sums k (now .total ∙ ap (costs (B .m) ys u 0) (now .size)) (h .parities) refl refl in
         record {
           queue = paired-with (λ q r. stands-frame B ys A (v .arrays) q r) qs ps (all-unmapped (λ (r : Path). r .ids) (Sees A (v .arrays)) ps kept) hs;
           path = stands (v .arrays) (x .bits) c b refl (k .parities) good;
@@ -171,12 +186,13 @@ module _ (B : Book) (ys : List ℤ) (ok : Valid B) (ly : length ys ≡ 2 ^ (B .m
         let root : valsOf v m ≡ ys = ap (λ f. f m) sameVals ∙ descend-above others d m t v₁ m (omega arith) .0 ∙ r .root l in
         let kept : Kept others A (v .arrays) =
         kept-on others A (v₂ .arrays) (v .arrays)
-        (kept-on others A (v₁ .arrays) (v₂ .arrays) (commit-kept B ys ok others p b (viewOf A p)) (descend-kept others d m t v₁))
+        (kept-on others A (v₁ .arrays) (v₂ .arrays) (commit-kept B others p b (viewOf A p)) (descend-kept others d m t v₁))
         (claim-kept others (place B b) v₂) in
-        let found : MayPair (Matches B ys u b) (MW.nearestWith (λ _. true) B ys u b) (RW.nearestWith (λ _. true) B (valsOf v j) (paritiesOf B u) b) =
+        let near : Option Ranked = MW.nearest B ys u b in
+        let near′ : Parities → Option Word = λ x. RW.nearest B (valsOf v j) x b in
+        let found : MayPair (Matches B ys u b) near (near′ (paritiesOf B u)) =
         nearest-matches B ys u b o ly (now .size) (now .bits) (valsOf v j) (vals-node d j m ys u t (valsOf v) (o .small) root vals) (λ _. true) (λ _. true) (λ _ _ _. refl) in
-        moveWith-is v (MW.nearestWith (λ _. true) B ys u b) (RW.nearestWith (λ _. true) B (valsOf v j) (p .parities) b) kept root vals sums
-        (subst (λ x. MayPair (Matches B ys u b) (MW.nearestWith (λ _. true) B ys u b) (RW.nearestWith (λ _. true) B (valsOf v j) x b)) (sym (h .parities)) found)
+        moveWith-is v near (near′ (p .parities)) kept root vals sums (subst (λ x. MayPair (Matches B ys u b) near (near′ x)) (sym (h .parities)) found)
 
   -- ---- step 4, and the whole extraction
 
@@ -186,26 +202,19 @@ module _ (B : Book) (ys : List ℤ) (ok : Valid B) (ly : length ys ≡ 2 ^ (B .m
     staying-is = go (eqb (getD visits b 0) L)
       where
         go : (t : Bool) → Paired (StandsFor B ys A) (cond t (ahead M.keyOf b qs) qs) (cond t (ahead (keyOf B) b ps) ps)
-        go true = ahead-paired M.keyOf (keyOf B) (StandsFor B ys A) (stands-key A) b qs ps hs
+        go true = ahead-paired M.keyOf (keyOf B) (StandsFor B ys A) (stands-key B ys A) b qs ps hs
         go false = hs
 
     outrun-is : numbers M.keyOf (M.outrunBy L b visits qs) ≡ numbers (keyOf B) (R.outrunBy B L b visits ps)
     unfolding M.outrunBy R.outrunBy
-    outrun-is = numbers-paired M.keyOf (keyOf B) (StandsFor B ys A) (stands-key A) _ _ (go (eqb (getD visits b 0) L))
+    outrun-is = numbers-paired M.keyOf (keyOf B) (StandsFor B ys A) (stands-key B ys A) _ _ (go (eqb (getD visits b 0) L))
       where
         go : (t : Bool) → Paired (StandsFor B ys A) (cond t (behind M.keyOf b qs) []) (cond t (behind (keyOf B) b ps) [])
-        go true = behind-paired M.keyOf (keyOf B) (StandsFor B ys A) (stands-key A) b qs ps hs
+        go true = behind-paired M.keyOf (keyOf B) (StandsFor B ys A) (stands-key B ys A) b qs ps hs
         go false = unfold Paired in tt
 
-  -- the reader's extraction x′ is the machine's x
-  pub record StepIs (x : M.Extracted) (x′ : R.Extracted) : Type 0 where
-    pub queue : Paired (StandsFor B ys (x′ .state .arrays)) (x .state .queue) (x′ .state .queue)
-    pub next : x .state .next ≡ x′ .state .next
-    pub visits : x .state .visits ≡ x′ .state .visits
-    pub step : x .step ≡ x′ .step
-
   extract-plain : (L D : ℕ) (A : Arrays) (u : List ℕ) (p : Path) (qs : List M.Path) (ps : List Path) (n : ℕ) (visits : List ℕ) → Holds B ys A u p → Paired (StandsFor B ys A) qs ps → p .blocks < length (B .blocks) →
-      StepIs (M.extract B L D ys (plain B p u) qs n visits) (R.extract B L D A p ps n visits)
+      StepIs B ys (M.extract B L D ys (plain B p u) qs n visits) (R.extract B L D A p ps n visits)
   unfolding M.extract R.extract plain
   extract-plain L D A u p qs ps n visits h hs l =
       let b : ℕ = p .blocks in
@@ -216,7 +225,7 @@ module _ (B : Book) (ys : List ℤ) (ok : Valid B) (ly : length ys ≡ 2 ^ (B .m
       let x : Moved = R.move B (c′ .arrays) p (c′ .queue) in
       let k : MoveIs (c .queue) (c′ .queue) q x = move-is (c′ .arrays) u p (c .queue) (c′ .queue) (i .queue) (holds-frame B ys A (c′ .arrays) u p (i .sees) h) l in
       let queued : Paired (StandsFor B ys (x .arrays)) (insert M.keyOf q (c .queue)) (insert (keyOf B) (x .path) (c′ .queue)) =
-      insert-paired M.keyOf (keyOf B) (StandsFor B ys (x .arrays)) (stands-key (x .arrays)) q (x .path) (c .queue) (c′ .queue) (k .path) (k .queue) in
+      insert-paired M.keyOf (keyOf B) (StandsFor B ys (x .arrays)) (stands-key B ys (x .arrays)) q (x .path) (c .queue) (c′ .queue) (k .path) (k .queue) in
       record {
         queue = staying-is (x .arrays) L b (visit visits b) _ _ queued;
         next = i .next;
@@ -226,7 +235,10 @@ module _ (B : Book) (ys : List ℤ) (ok : Valid B) (ly : length ys ≡ 2 ^ (B .m
             (outrun-is (x .arrays) L b (visit visits b) _ _ queued);
       }
 
-  pub extract-is : (L D : ℕ) (A : Arrays) (q : M.Path) (p : Path) (qs : List M.Path) (ps : List Path) (n : ℕ) (visits : List ℕ) → StandsFor B ys A q p → Paired (StandsFor B ys A) qs ps → p .blocks < length (B .blocks) →
-      StepIs (M.extract B L D ys q qs n visits) (R.extract B L D A p ps n visits)
-  extract-is L D A q p qs ps n visits h hs l =
-      subst (λ (q′ : M.Path). StepIs (M.extract B L D ys q′ qs n visits) (R.extract B L D A p ps n visits)) (sym (h .same)) (extract-plain L D A (q .bits) p qs ps n visits (h .holds) hs l)
+  -- of a path that has not all blocks
+  pub extract-is : (L D : ℕ) (A : Arrays) (q : M.Path) (p : Path) (qs : List M.Path) (ps : List Path) (n : ℕ) (visits : List ℕ) → StandsFor B ys A q p → Paired (StandsFor B ys A) qs ps → (q .blocks ≡ length (B .blocks) → ⊥) →
+      StepIs B ys (M.extract B L D ys q qs n visits) (R.extract B L D A p ps n visits)
+  extract-is L D A q p qs ps n visits h hs ne =
+      let z : Sized B ys (q .bits) p (p .blocks) = sized B ys (viewOf A p) (q .bits) p ok (p .blocks) (h .holds .inv) in
+      subst (λ (q′ : M.Path). StepIs B ys (M.extract B L D ys q′ qs n visits) (R.extract B L D A p ps n visits)) (sym (h .same))
+      (extract-plain L D A (q .bits) p qs ps n visits (h .holds) hs (omega (arith, z .within, stands-blocks B ys A q p h)))

@@ -21,28 +21,9 @@ use Rattle.polar.specs.Transform.{transform}
 use Rattle.polar.specs.Node.{rest, restBits, child, node}
 use Rattle.polar.proofs.Transform.{transform-suc}
 use Rattle.polar.proofs.Value.{Same, same-less}
-use Rattle.polar.proofs.Node.{first, rest-low, rest-high, restBits-low, restBits-high, child-low, child-high, Starts, starts-fits, same-child, same-rest}
+use Rattle.polar.proofs.Node.{first, rest-low, rest-high, rest-zero, rest-less, restBits-low, restBits-high, child-low, child-high, Starts, starts-fits, same-child, same-rest}
 use Rattle.reader.specs.Arrays.{upd, turn, joined}
 use Rattle.reader.proofs.Upd.{upd-same, upd-other}
-
--- ---- which half
-
-rest-zero : (m : ℕ) → rest m 0 ≡ 0
-rest-zero m = rest-low m 0 (pow-pos m)
-
-pub rest-less : (m t : ℕ) → t < 2 ^ suc m → rest m t < 2 ^ m
-rest-less m t h = go (lt-or t (2 ^ m))
-  where
-    go : (t < 2 ^ m) ⊎ (2 ^ m ≤ t) → rest m t < 2 ^ m
-    go (inl l) = omega (arith, rest-low m t l)
-    go (inr l) = omega (arith, rest-high m t l, two-pow-succ m)
-
-pub rest-pos : (m t : ℕ) → 0 < rest m t → 0 < t
-rest-pos m t h = go (lt-or t (2 ^ m))
-  where
-    go : (t < 2 ^ m) ⊎ (2 ^ m ≤ t) → 0 < t
-    go (inl l) = omega (arith, rest-low m t l)
-    go (inr l) = omega (arith, pow-pos m)
 
 -- ---- what the arrays hold
 

@@ -63,7 +63,8 @@ loop-again c =
       omega arith,
       simp length-set (omega arith),
       next (new s) (s .pre) (size s) (pos 0) i q (omega arith)
-          (toZ-ofZ (sfits-of (c .value .given)) ∙ unread (new s) (s .pre) (size s) (pos 0) i i q (omega arith) (omega arith) (omega arith) ∙ sym (part-at (a .from) (a .n) (a .numbers .now) (pos 0) i (omega arith))),
+          (toZ-ofZ (sfits-of (c .value .given)) ∙ unread (new s) (s .pre) (size s) (pos 0) i i q (omega arith) (omega arith) (omega arith)
+          ∙ sym (part-at (a .from) (a .n) (a .numbers .now) (pos 0) i (omega arith))),
     )
 
 same-length : tie.Need-same-length Inv-loop μ-loop

@@ -11,12 +11,14 @@ use borrow.Author.Needs.{sfits-of}
 use Rattle.laws.proofs.Signed.{back}
 use Rattle.polar.specs.Soft.{P, Ps}
 use Rattle.polar.specs.Layers.{part}
-use Rattle.polar.proofs.Writes.{first, last, value, next, written, lower-p-length, lower-p-at}
+use Rattle.polar.proofs.Writes.{first, last, read-value, next, written, lower-p-length, lower-p-at}
 use Rattle.polar.proofs.layers.lower_p.Statement.{statement}
 use Rattle.polar.proofs.layers.lower_p.Tie as tie
 
 abbrev Inv-loop : tie.InvT-loop
-Inv-loop numbers₀ bytes from to sums n i₀ numbers i = (i ≤ n) × (length numbers ≡ length numbers₀) × (numbers ≡ paste numbers₀ to (Ps (part sums n bytes) (first from n numbers₀) (last from n numbers₀)) i)
+Inv-loop numbers₀ bytes from to sums n i₀ numbers i =
+    (i ≤ n) × (length numbers ≡ length numbers₀)
+    × (numbers ≡ paste numbers₀ to (Ps (part sums n bytes) (first from n numbers₀) (last from n numbers₀)) i)
 
 abbrev μ-loop : tie.MeasureT-loop
 μ-loop numbers₀ bytes from to sums n i₀ numbers i = n - i
@@ -33,7 +35,7 @@ size s = lower-p-length (s .args .from) (s .args .n) (s .args .numbers .now) (s 
 -- the value that is read at j places from `from`
 here : (t : tie.At-loop Inv-loop μ-loop) (j : ℕ) → let a = t .before .before .args in t .loop .i ≤ j → j < a .n + a .n →
     (back (getD (t .loop .numbers) (a .from + j) (pos 0)) ≡ getD (a .numbers .now) (a .from + j) (pos 0)) × (natAbs (getD (a .numbers .now) (a .from + j) (pos 0)) ≤ 1048064)
-here t j g b = let s = t .before .before in value (new s) (s .pre .0) (size s) (s .pre .1 .1) (t .loop .i) j (t .loop .inv .2) (t .loop .inv .0) g b
+here t j g b = let s = t .before .before in read-value (new s) (s .pre .0) (size s) (s .pre .1 .1) (t .loop .i) j (t .loop .inv .2) (t .loop .inv .0) g b
 
 loop-holds : tie.Need-loop-holds Inv-loop μ-loop
 loop-holds c = (omega arith, refl, paste-zero _ (c .before .args .to) (new (c .before)))

@@ -10,12 +10,14 @@ use mir.Facts.{toZ-ofZ}
 use borrow.Author.Needs.{sfits-of}
 use Rattle.laws.proofs.Signed.{back}
 use Rattle.polar.specs.Soft.{Q, Qs}
-use Rattle.polar.proofs.Writes.{first, last, value, next, written, lower-q-length, lower-q-at}
+use Rattle.polar.proofs.Writes.{first, last, read-value, next, written, lower-q-length, lower-q-at}
 use Rattle.polar.proofs.layers.lower_q.Statement.{statement}
 use Rattle.polar.proofs.layers.lower_q.Tie as tie
 
 abbrev Inv-loop : tie.InvT-loop
-Inv-loop numbers₀ from to n i₀ numbers i = (i ≤ n) × (length numbers ≡ length numbers₀) × (numbers ≡ paste numbers₀ to (Qs (first from n numbers₀) (last from n numbers₀)) i)
+Inv-loop numbers₀ from to n i₀ numbers i =
+    (i ≤ n) × (length numbers ≡ length numbers₀)
+    × (numbers ≡ paste numbers₀ to (Qs (first from n numbers₀) (last from n numbers₀)) i)
 
 abbrev μ-loop : tie.MeasureT-loop
 μ-loop numbers₀ from to n i₀ numbers i = n - i
@@ -31,7 +33,7 @@ size s = lower-q-length (s .args .from) (s .args .n) (s .args .numbers .now) (s 
 here : (t : tie.At-loop Inv-loop μ-loop) (j : ℕ) → t .loop .i ≤ j → j < t .before .args .n + t .before .args .n →
     (back (getD (t .loop .numbers) (t .before .args .from + j) (pos 0)) ≡ getD (t .before .args .numbers .now) (t .before .args .from + j) (pos 0))
     × (natAbs (getD (t .before .args .numbers .now) (t .before .args .from + j) (pos 0)) ≤ 1048064)
-here t j g b = let s = t .before in value (new s) (s .pre .0) (size s) (s .pre .1) (t .loop .i) j (t .loop .inv .2) (t .loop .inv .0) g b
+here t j g b = let s = t .before in read-value (new s) (s .pre .0) (size s) (s .pre .1) (t .loop .i) j (t .loop .inv .2) (t .loop .inv .0) g b
 
 loop-holds : tie.Need-loop-holds Inv-loop μ-loop
 loop-holds c = (omega arith, refl, paste-zero _ (c .args .to) (new c))
