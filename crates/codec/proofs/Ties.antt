@@ -42,7 +42,8 @@ parity-snoc u b [] = omega arith
 parity-snoc u b (i ∷ ts) =
     let c : ℕ = cond (eqb i (length u)) 1 0 in
     let t : ℕ = times (length u) ts in
-    sum (getD (u ++ b ∷ []) i 0) (parity (u ++ b ∷ []) ts) (getD u i 0) (parity u ts) (b * c) (b * t) (b * (c + t)) (snoc-at u b i) (parity-snoc u b ts) (mul-add b c t)
+    sum (getD (u ++ b ∷ []) i 0) (parity (u ++ b ∷ []) ts) (getD u i 0) (parity u ts) (b * c) (b * t) (b * (c + t)) (snoc-at u b i)
+    (parity-snoc u b ts) (mul-add b c t)
   where
     sum : (x y z p q r s : ℕ) → x ≡ z + q → y ≡ (p + r) % 2 → s ≡ q + r → (x + y) % 2 ≡ ((z + p) % 2 + s) % 2
     sum x y z p q r s f e g = omega arith
@@ -108,14 +109,17 @@ Gives B u x f = (x ≡ u ++ f .bits) × (paritiesOf B x ≡ f .parities)
 
 -- the bit b of the next index, counted among the bits filled
 gives-more : (B : Book) (u : List ℕ) (b : ℕ) (ks : List Kind) (ds x : List ℕ) →
-    Gives B (u ++ b ∷ []) x (fillFrom B (paritiesOf B (u ++ b ∷ [])) (length (u ++ b ∷ [])) ks ds) → Gives B u x (push b (fillFrom B (absorb B (length u) b (paritiesOf B u)) (suc (length u)) ks ds))
+    Gives B (u ++ b ∷ []) x (fillFrom B (paritiesOf B (u ++ b ∷ [])) (length (u ++ b ∷ [])) ks ds) →
+    Gives B u x (push b (fillFrom B (absorb B (length u) b (paritiesOf B u)) (suc (length u)) ks ds))
 unfolding push
 gives-more B u b ks ds x h =
-    let e : fillFrom B (paritiesOf B (u ++ b ∷ [])) (length (u ++ b ∷ [])) ks ds ≡ fillFrom B (absorb B (length u) b (paritiesOf B u)) (suc (length u)) ks ds =
+    let e : fillFrom B (paritiesOf B (u ++ b ∷ [])) (length (u ++ b ∷ [])) ks ds
+    ≡ fillFrom B (absorb B (length u) b (paritiesOf B u)) (suc (length u)) ks ds =
     ap₂ (λ (p : Parities) (n : ℕ). fillFrom B p n ks ds) (parities-snoc B u b) (length-snoc u b) in
     (h .0 ∙ append-assoc u (b ∷ []) _ ∙ ap (λ (f : Filling). u ++ b ∷ f .bits) e, h .1 ∙ ap (λ (f : Filling). f .parities) e)
 
-fill-gives : (B : Book) (u : List ℕ) (ks : List Kind) (ds : List ℕ) → KindsAt B (length u) ks → Gives B u (fill u ks ds) (fillFrom B (paritiesOf B u) (length u) ks ds)
+fill-gives : (B : Book) (u : List ℕ) (ks : List Kind) (ds : List ℕ) → KindsAt B (length u) ks →
+    Gives B u (fill u ks ds) (fillFrom B (paritiesOf B u) (length u) ks ds)
 unfolding fill fillFrom KindsAt
 fill-gives B u [] ds h = (sym (append-nil u), refl)
 fill-gives B u (free ∷ ks) [] h = gives-more B u 0 ks [] _ (fill-gives B (u ++ 0 ∷ []) ks [] (rw (length-snoc u 0) (h .1)))
@@ -123,7 +127,8 @@ fill-gives B u (free ∷ ks) (d ∷ ds) h = gives-more B u d ks ds _ (fill-gives
 fill-gives B u (frozen ∷ ks) ds h = gives-more B u 0 ks ds _ (fill-gives B (u ++ 0 ∷ []) ks ds (rw (length-snoc u 0) (h .1)))
 fill-gives B u (tied ts ∷ ks) ds h =
     let b : ℕ = parity u ts in
-    subst (λ (c : ℕ). Gives B u (fill (u ++ b ∷ []) ks ds) (push c (fillFrom B (absorb B (length u) c (paritiesOf B u)) (suc (length u)) ks ds))) (sym (tie-at B u ts (h .0)))
+    subst (λ (c : ℕ). Gives B u (fill (u ++ b ∷ []) ks ds) (push c (fillFrom B (absorb B (length u) c (paritiesOf B u)) (suc (length u)) ks ds)))
+    (sym (tie-at B u ts (h .0)))
     (gives-more B u b ks ds _ (fill-gives B (u ++ b ∷ []) ks ds (rw (length-snoc u b) (h .1))))
 
 -- bits u up to block b, then those of the w-th setting of its free bits

@@ -1,11 +1,11 @@
 -- Two lists, or two things that may be there, related element by element; cutting, keeping and mapping both leaves them so. By induction on
 -- the lists. Assumes nothing.
-use mathlib.Core.Path.{_≡_, refl, ap, ap₂}
+use mathlib.Core.Path.{_≡_, refl, ap₂}
 use mathlib.Core.Bool.{Bool, true, false, cond}
 use mathlib.Core.List.{List, [], _∷_, map}
 use mathlib.Core.Option.{Option, none, some}
 use Prim.Native.Nat.{ℕ, zero, suc}
-use lib.ListN.{length, take, drop}
+use lib.ListN.{take, drop}
 use Rattle.laws.specs.Lists.{All, keep}
 
 module _ {A B : Type 0} (R : A → B → Type 0) where
@@ -38,13 +38,6 @@ module _ {A B : Type 0} (R : A → B → Type 0) where
   paired-drop (suc n) [] (y ∷ ys) h = absurd h
   paired-drop (suc n) (x ∷ xs) [] h = absurd h
   paired-drop (suc n) (x ∷ xs) (y ∷ ys) h = paired-drop n xs ys (h .1)
-
-  pub paired-length : (xs : List A) (ys : List B) → Paired xs ys → length xs ≡ length ys
-  unfolding Paired
-  paired-length [] [] h = refl
-  paired-length [] (y ∷ ys) h = absurd h
-  paired-length (x ∷ xs) [] h = absurd h
-  paired-length (x ∷ xs) (y ∷ ys) h = ap suc (paired-length xs ys (h .1))
 
   -- tests that agree on related elements
   pub paired-keep : (f : A → Bool) (g : B → Bool) → ((x : A) (y : B) → R x y → f x ≡ g y) → (xs : List A) (ys : List B) → Paired xs ys → Paired (keep f xs) (keep g ys)

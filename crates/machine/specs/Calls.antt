@@ -82,7 +82,8 @@ barred B c l fits = unless (settingsOk c) BadSetting (unless (fits && lentOk B c
 
 -- ---- what a run leaves
 
--- the final word is u·A of the path taken last, its data the bits at the free indices, its discrepancy R without the sign
+-- the final word is u·A of the path taken last, its data the bits at the free indices, its discrepancy R without the sign; a run of an
+-- accepted call always has such a path
 unfoldable pub finalOf : Book → List ℤ → Option Path → Final
 finalOf B ys none = record { word = []; bits = []; discrepancy = 0 }
 finalOf B ys (some p) =

@@ -46,23 +46,26 @@ level a b r = go (decLt a b) (decLt b a)
 
 -- ---- the first in one order and the first in another
 
-module _ {A B : Type 0} (P : A → B → Type 0) (ahead : A → A → Bool) (ahead′ : B → B → Bool) (same : (x x′ : A) (y y′ : B) → P x y → P x′ y′ → ahead x x′ ≡ ahead′ y y′) where
+module _ {A B : Type 0} (P : A → B → Type 0) (ahead : A → A → Bool) (ahead′ : B → B → Bool) (test : A → Bool) (test′ : B → Bool) where
   -- where orders and tests agree on what is related, what is found is related
-  first-pair : (test : A → Bool) (test′ : B → Bool) → ((x : A) (y : B) → P x y → test x ≡ test′ y) → (f : ℕ → A) (g : ℕ → B) → ((w : ℕ) → P (f w) (g w)) → (n : ℕ) → MayPair P (firstOf ahead test f n) (firstOf ahead′ test′ g n)
+  first-pair : ((x x′ : A) (y y′ : B) → P x y → P x′ y′ → ahead x x′ ≡ ahead′ y y′) → ((x : A) (y : B) → P x y → test x ≡ test′ y) →
+      (f : ℕ → A) (g : ℕ → B) →
+      ((w : ℕ) → P (f w) (g w)) → (n : ℕ) → MayPair P (firstOf ahead test f n) (firstOf ahead′ test′ g n)
   unfolding firstOf MayPair choose
-  first-pair test test′ e f g h zero = tt
-  first-pair test test′ e f g h (suc n) = rw (e (f n) (g n) (h n)) (go (test′ (g n)) (firstOf ahead test f n) (firstOf ahead′ test′ g n) (first-pair test test′ e f g h n))
+  first-pair o t f g h zero = tt
+  first-pair o t f g h (suc n) =
+      rw (t (f n) (g n) (h n)) (go (test′ (g n)) (firstOf ahead test f n) (firstOf ahead′ test′ g n) (first-pair o t f g h n))
     where
-      pick : (t : Bool) (x : A) (y : B) → P x y → P (cond t (f n) x) (cond t (g n) y)
+      pick : (b : Bool) (x : A) (y : B) → P x y → P (cond b (f n) x) (cond b (g n) y)
       pick true x y k = h n
       pick false x y k = k
 
-      go : (t : Bool) (o : Option A) (o′ : Option B) → MayPair P o o′ → MayPair P (choose ahead t (f n) o) (choose ahead′ t (g n) o′)
+      go : (b : Bool) (c : Option A) (c′ : Option B) → MayPair P c c′ → MayPair P (choose ahead b (f n) c) (choose ahead′ b (g n) c′)
       go true none none k = h n
       go true none (some y) k = absurd k
       go true (some x) none k = absurd k
-      go true (some x) (some y) k = rw (same (f n) x (g n) y (h n) k) (pick (ahead′ (g n) y) x y k)
-      go false o o′ k = k
+      go true (some x) (some y) k = rw (o (f n) x (g n) y (h n) k) (pick (ahead′ (g n) y) x y k)
+      go false c c′ k = k
 
 -- ---- words of block b after the bits u
 
@@ -111,4 +114,5 @@ module _ (B : Book) (ys : List ℤ) (u : List ℕ) (b : ℕ) where
           MayPair Matches (M.nearestWith test B ys u b) (R.nearestWith test′ B vs (paritiesOf B u) b)
       unfolding M.nearestWith R.nearestWith
       nearest-matches test test′ e =
-          first-pair Matches M.nearer R.nearer nearer-matches test test′ e (setting B ys u b) (wordOf B vs (paritiesOf B u) b) setting-matches (2 ^ freeCount (kindsOf B b))
+          first-pair Matches M.nearer R.nearer test test′ nearer-matches e (setting B ys u b) (wordOf B vs (paritiesOf B u) b) setting-matches
+          (2 ^ freeCount (kindsOf B b))

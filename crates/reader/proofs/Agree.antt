@@ -25,10 +25,12 @@ pub valid-agree : (B : Book) → Valid B → (L D : ℕ) (ys : List ℤ) (A : Ar
 unfolding M.runOf R.runOf finalFrom Ended Paired
 valid-agree B ok L D ys A l ly e =
     let V′ : ℕ = length (B .blocks) in
-    let r : RunIs B ys (M.runOf B L D ys) (R.runOf B L D A) = run-is B ys ok ly (L * V′ + 1) L D A (M.emptyPath ∷ []) (firstPath B ∷ []) 1 (replicate V′ 0) (first-stands B ys A e, tt) in
+    let r : RunIs B ys (M.runOf B L D ys) (R.runOf B L D A) =
+    run-is B ys ok ly (L * V′ + 1) L D A (M.emptyPath ∷ []) (firstPath B ∷ []) 1 (replicate V′ 0) (first-stands B ys A e, tt) in
     let (q, f, _) = run-ends B L D ys l in
     (r .steps, r .final ∙ ap (finalFrom B ys) f ∙ sym (ap (λ o. some (finalOf B ys o)) f))
 
-pub agree : (bytes : List ℕ) (B : Book) → load bytes ≡ loaded B → (L D : ℕ) (ys : List ℤ) (A : Arrays) → 0 < L → length ys ≡ 2 ^ (B .m) → A .vals (B .m) 1 ≡ ys →
+pub agree : (bytes : List ℕ) (B : Book) → load bytes ≡ loaded B → (L D : ℕ) (ys : List ℤ) (A : Arrays) → 0 < L → length ys ≡ 2 ^ (B .m) →
+    A .vals (B .m) 1 ≡ ys →
     (R.runOf B L D A .steps ≡ M.runOf B L D ys .steps) × (R.runOf B L D A .final ≡ some (finalOf B ys (M.runOf B L D ys .final)))
 agree bytes B h = valid-agree B (loaded-valid bytes B h)

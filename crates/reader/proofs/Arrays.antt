@@ -14,7 +14,7 @@ use Rattle.laws.proofs.Tests.{cond-case}
 use Rattle.laws.proofs.Lists.{all-map, all-any, all-both, all-mapped, all-unmapped}
 use Rattle.polar.specs.Node.{rest, restBits, child}
 use Rattle.polar.proofs.Node.{first, child-word, rest-less, rest-pos}
-use Rattle.reader.specs.Arrays.{Arrays, View, valsOf, sumsOf, upd, ownOf, writes, putVals, putSums, claim, turn, descend}
+use Rattle.reader.specs.Arrays.{Arrays, View, valsOf, sumsOf, upd, ownOf, writes, putVals, putSums, takeArray, claim, turn, descend}
 use Rattle.reader.proofs.Upd.{upd-same, upd-other, upd-self, seen, seen-store, seen-ids, seen-frame}
 use Rattle.reader.proofs.Own.{own-new, own-some, own-keep}
 use Rattle.reader.proofs.Tree.{Vals, Prior, Sums, prior-zero, sums-zero, turn-high, turn-past}
@@ -60,7 +60,7 @@ module _ (others : List (ℕ → ℕ)) where
       all-map (λ o n e. n (e ∙ upd-same (v .ids) h (writes others h v))) others writes-new,
     )
 
-    pub vals-kept : (x : List ℤ) → Kept others (v .arrays) (putVals others h x v .arrays)
+    vals-kept : (x : List ℤ) → Kept others (v .arrays) (putVals others h x v .arrays)
     unfolding putVals
     vals-kept x = all-map (λ o n. record { vals = seen-frame (v .arrays .vals) o h (writes others h v) x n; sums = refl }) others writes-new
 
@@ -69,7 +69,7 @@ module _ (others : List (ℕ → ℕ)) where
     sums-kept x = all-map (λ o n. record { vals = refl; sums = seen-frame (v .arrays .sums) o h (writes others h v) x n }) others writes-new
 
     -- the half written, and the other half
-    pub vals-put : (x : List ℤ) → valsOf (putVals others h x v) ≡ upd (valsOf v) h x
+    vals-put : (x : List ℤ) → valsOf (putVals others h x v) ≡ upd (valsOf v) h x
     unfolding putVals
     vals-put x = seen-store (v .arrays .vals) (v .ids) h (writes others h v) x
 
@@ -93,26 +93,47 @@ module _ (others : List (ℕ → ℕ)) where
     unfolding putSums
     sums-alone x = writes-alone
 
-    -- an array taken with what the path saw: nobody sees a change
-    pub claim-kept : Kept others (v .arrays) (claim others h v .arrays)
-    unfolding claim
-    claim-kept =
-        all-map
-        (λ o n. record { vals = seen-frame (v .arrays .vals) o h (writes others h v) (valsOf v h) n; sums = seen-frame (v .arrays .sums) o h (writes others h v) (sumsOf v h) n })
-        others writes-new
+    -- an array taken for a word: the others see no change; the path sees the values of the block, and all else at other heights
+    module _ (j : ℕ) where
+      pub claim-ids : claim others j h v .ids ≡ upd (v .ids) h (writes others h v)
+      unfolding claim putVals takeArray
+      claim-ids = cond-case (λ (w : View). w .ids ≡ upd (v .ids) h (writes others h v)) (eqb h j) (λ _. refl) (λ _. refl)
 
-    pub claim-vals : valsOf (claim others h v) ≡ valsOf v
-    unfolding claim
-    claim-vals = seen-store (v .arrays .vals) (v .ids) h (writes others h v) (valsOf v h) ∙ upd-self (valsOf v) h
+      pub claim-kept : Kept others (v .arrays) (claim others j h v .arrays)
+      unfolding claim takeArray
+      claim-kept =
+          cond-case (λ (w : View). Kept others (v .arrays) (w .arrays)) (eqb h j) (λ _. vals-kept (valsOf v h))
+          (λ _. all-any (sees-same (v .arrays)) others)
 
-    pub claim-sums : sumsOf (claim others h v) ≡ sumsOf v
-    unfolding claim
-    claim-sums = seen-store (v .arrays .sums) (v .ids) h (writes others h v) (sumsOf v h) ∙ upd-self (sumsOf v) h
+      pub claim-vals : (k : ℕ) → (k ≡ h → ⊥) → valsOf (claim others j h v) k ≡ valsOf v k
+      unfolding claim takeArray
+      claim-vals k n =
+          cond-case (λ (w : View). valsOf w k ≡ valsOf v k) (eqb h j)
+          (λ _. ap (λ f. f k) (vals-put (valsOf v h)) ∙ upd-other (valsOf v) h (valsOf v h) k n)
+          (λ _. ap (λ f. f k) (seen-ids (v .arrays .vals) (v .ids) h (writes others h v)) ∙ upd-other (valsOf v) h (v .arrays .vals h (writes others h v)) k n)
+
+      pub claim-own : valsOf (claim others j h v) j ≡ valsOf v j
+      unfolding claim
+      claim-own = go (eqb h j) refl
+        where
+          go : (b : Bool) → eqb h j ≡ b → valsOf (cond b (putVals others h (valsOf v h) v) (takeArray others h v)) j ≡ valsOf v j
+          go true e = ap (λ f. f j) (vals-put (valsOf v h) ∙ upd-self (valsOf v) h)
+          go false e =
+              unfold takeArray in
+              ap (λ f. f j) (seen-ids (v .arrays .vals) (v .ids) h (writes others h v))
+              ∙ upd-other (valsOf v) h (v .arrays .vals h (writes others h v)) j (λ z. eqb-false h j e (sym z))
+
+      pub claim-sums : sumsOf (claim others j h v) ≡ upd (sumsOf v) h (v .arrays .sums h (writes others h v))
+      unfolding claim takeArray
+      claim-sums =
+          cond-case (λ (w : View). sumsOf w ≡ upd (sumsOf v) h (v .arrays .sums h (writes others h v))) (eqb h j)
+          (λ _. sums-lost (valsOf v h)) (λ _. seen-ids (v .arrays .sums) (v .ids) h (writes others h v))
 
   -- ---- the descent
 
   -- it keeps what each of its writes keeps, all below where it starts
-  pub descend-keeps : (P : View → Type 0) (d m t : ℕ) (v : View) → ((k : ℕ) (x : List ℤ) (w : View) → k < m → P w → P (putVals others k x w)) → P v → P (descend others d m t v)
+  pub descend-keeps : (P : View → Type 0) (d m t : ℕ) (v : View) → ((k : ℕ) (x : List ℤ) (w : View) → k < m → P w → P (putVals others k x w)) → P v →
+      P (descend others d m t v)
   unfolding descend
   descend-keeps P zero m t v f h = h
   descend-keeps P (suc d) zero t v f h = h
@@ -121,10 +142,12 @@ module _ (others : List (ℕ → ℕ)) where
 
   pub descend-kept : (d m t : ℕ) (v : View) → Kept others (v .arrays) (descend others d m t v .arrays)
   descend-kept d m t v =
-      descend-keeps (λ w. Kept others (v .arrays) (w .arrays)) d m t v (λ k x w _ h. kept-on others (v .arrays) (w .arrays) _ h (vals-kept k w x)) (all-any (sees-same (v .arrays)) others)
+      descend-keeps (λ w. Kept others (v .arrays) (w .arrays)) d m t v (λ k x w _ h. kept-on others (v .arrays) (w .arrays) _ h (vals-kept k w x))
+      (all-any (sees-same (v .arrays)) others)
 
   -- what stands at and above m is as it was
-  pub descend-above : (d m t : ℕ) (v : View) (h : ℕ) → m ≤ h → (valsOf (descend others d m t v) h ≡ valsOf v h) × (sumsOf (descend others d m t v) h ≡ sumsOf v h)
+  pub descend-above : (d m t : ℕ) (v : View) (h : ℕ) → m ≤ h →
+      (valsOf (descend others d m t v) h ≡ valsOf v h) × (sumsOf (descend others d m t v) h ≡ sumsOf v h)
   descend-above d m t v h l =
       descend-keeps (λ w. (valsOf w h ≡ valsOf v h) × (sumsOf w h ≡ sumsOf v h)) d m t v
       (λ k x w b e. (
@@ -135,7 +158,8 @@ module _ (others : List (ℕ → ℕ)) where
 
   -- from the values of the nodes that start before t, and the sums, come those of all nodes on the way; the sums stay, since the one array whose
   -- sums are still read, at the turn, is the path's alone
-  pub descend-good : (d m : ℕ) (ys : List ℤ) (u : List ℕ) (t : ℕ) (v : View) → t < 2 ^ m → valsOf v m ≡ ys → Prior d m ys u t (valsOf v) → Sums m u t (sumsOf v) → (0 < t → Alone others (turn m t) (v .ids)) →
+  pub descend-good : (d m : ℕ) (ys : List ℤ) (u : List ℕ) (t : ℕ) (v : View) → t < 2 ^ m → valsOf v m ≡ ys → Prior d m ys u t (valsOf v) →
+      Sums m u t (sumsOf v) → (0 < t → Alone others (turn m t) (v .ids)) →
       Vals d m ys u t (valsOf (descend others d m t v)) × Sums m u t (sumsOf (descend others d m t v))
   unfolding descend Vals Prior Sums
   descend-good zero m ys u t v lt e p q a = (tt, q)
@@ -165,8 +189,11 @@ module _ (others : List (ℕ → ℕ)) where
           let v′ : View = putVals others m x v in
           let at : valsOf v′ m ≡ zs = ap (λ g. g m) (vals-put m v x) ∙ upd-same (valsOf v) m x ∙ right in
           let up = descend-above d m (rest m t) v′ m (omega arith) in
-          let k = ih v′ at (prior-zero d m zs (restBits m t u) (rest m t) (valsOf v′) z) (sums-zero m (restBits m t u) (rest m t) (sumsOf v′) z) (λ w. absurd (omega arith)) in
-          let mine : 2 ^ m ≤ t → Alone others m (v .ids) = λ l. subst (λ (y : ℕ). Alone others y (v .ids)) (turn-high m t l z) (a (omega (arith, pow-pos m))) in
+          let k =
+          ih v′ at (prior-zero d m zs (restBits m t u) (rest m t) (valsOf v′) z) (sums-zero m (restBits m t u) (rest m t) (sumsOf v′) z)
+          (λ w. absurd (omega arith)) in
+          let mine : 2 ^ m ≤ t → Alone others m (v .ids) =
+          λ l. subst (λ (y : ℕ). Alone others y (v .ids)) (turn-high m t l z) (a (omega (arith, pow-pos m))) in
           ((up .0 ∙ at, k .0), (λ l. up .1 ∙ ap (λ g. g m) (sums-stay m v x (mine l)) ∙ q .0 l, k .1))
       go false f ih =
           let n : rest m t ≡ 0 → ⊥ = eqb-false (rest m t) 0 f in

@@ -27,7 +27,8 @@ use Rattle.reader.proofs.Moments.{Moment, momentsOf, extractAt, copyAt,
 
 module _ (B : Book) (ys : List ℤ) (ok : Valid B) (ly : length ys ≡ 2 ^ (B .m)) (L D : ℕ) (A : Arrays) (e : A .vals (B .m) 1 ≡ ys) (l : 0 < L) where
   pub steps-most : length (runOf B L D A .steps) ≤ L * length (B .blocks) + 1
-  steps-most = subst (λ (steps : List Step). length steps ≤ L * length (B .blocks) + 1) (sym (valid-agree B ok L D ys A l ly e .0)) (run-steps B L D ys)
+  steps-most =
+      subst (λ (steps : List Step). length steps ≤ L * length (B .blocks) + 1) (sym (valid-agree B ok L D ys A l ly e .0)) (run-steps B L D ys)
 
   pub entries-most : (b : ℕ) → b < length (B .blocks) → entries b (runOf B L D A .steps) ≤ L
   entries-most b h = subst (λ (steps : List Step). entries b steps ≤ L) (sym (valid-agree B ok L D ys A l ly e .0)) (run-entries b B L D ys l h)
@@ -40,10 +41,12 @@ pub record Alive (B : Book) (D : ℕ) (t : Moment) : Type 0 where
   pub copied : length (copyAt B D t .queue) < D
 
 module _ (B : Book) (L D : ℕ) (two : 2 ≤ D) where
-  copyWith-length : (A : Arrays) (p : Path) (b : ℕ) (ps : List Path) (n : ℕ) (o : Option Word) → length ps < D → length (copyWith B D A p b ps n o .queue) < D
+  copyWith-length : (A : Arrays) (p : Path) (b : ℕ) (ps : List Path) (n : ℕ) (o : Option Word) → length ps < D →
+      length (copyWith B D A p b ps n o .queue) < D
   unfolding copyWith roomFor
   copyWith-length A p b ps n none h = h
-  copyWith-length A p b ps n (some y) h = subst (λ (k : ℕ). k < D) (sym (insert-length (keyOf B) _ (take (D - 2) ps))) (omega (arith, length-take (D - 2) ps))
+  copyWith-length A p b ps n (some y) h =
+      subst (λ (k : ℕ). k < D) (sym (insert-length (keyOf B) _ (take (D - 2) ps))) (omega (arith, length-take (D - 2) ps))
 
   copy-length : (A : Arrays) (p : Path) (ps : List Path) (n b : ℕ) → length ps < D → length (copy B D A p ps n b .queue) < D
   unfolding copy
@@ -52,7 +55,8 @@ module _ (B : Book) (L D : ℕ) (two : 2 ≤ D) where
 
   staying-length : (b : ℕ) (visits : List ℕ) (ps : List Path) → length (staying B L b visits ps) ≤ length ps
   unfolding staying ahead
-  staying-length b visits ps = cond-case (λ (qs : List Path). length qs ≤ length ps) (eqb (getD visits b 0) L) (λ _. keep-length _ ps) (λ _. omega arith)
+  staying-length b visits ps =
+      cond-case (λ (qs : List Path). length qs ≤ length ps) (eqb (getD visits b 0) L) (λ _. keep-length _ ps) (λ _. omega arith)
 
   pub alive : (t : Moment) → length (t .state .queue) < D → Alive B D t
   unfolding copyAt

@@ -25,14 +25,15 @@ use Rattle.codec.specs.Ties.{fillBlock}
 use Rattle.outer.specs.Words.{Word}
 use Rattle.reader.specs.Paths.{Path, scoreOf, lastWord, ownWord, place, viewOf}
 use Rattle.reader.specs.Reader.{commit}
-use Rattle.reader.proofs.Upd.{upd-other}
+use Rattle.reader.proofs.Upd.{upd-other, upd-agree}
 use Rattle.reader.proofs.Tree.{Vals, Prior, Sums, vals-same, sums-same, vals-prior, prior-zero, sums-zero, prior-turn, turn-low, turn-less, root-join}
 use Rattle.codec.proofs.Ties.{paritiesOf, filled, filled-take, filled-drop}
 use Rattle.outer.proofs.Blocks.{Placed, placed, start-less}
 use Rattle.outer.proofs.Words.{Matches, filled-after}
 use Rattle.reader.proofs.Arrays.{Sees, sees-same, Kept, Alone, sums-kept, sums-put, vals-lost, sums-alone}
 
--- the path p, whose last block is b, has the bits u, and v is what it sees
+-- the path p, whose last block is b, has the bits u, and v is what it sees: the values of the way to its block, but where the block's word
+-- will go; and the block's own
 pub record Good (B : Book) (ys : List ℤ) (v : View) (u : List ℕ) (p : Path) (b : ℕ) : Type 0 where
   pub within : b < length (B .blocks)
   pub size : length u ≡ startOf (B .blocks) b + 2 ^ (blockAt B b .j)
@@ -41,8 +42,11 @@ pub record Good (B : Book) (ys : List ℤ) (v : View) (u : List ℕ) (p : Path) 
   pub cost : p .cost ≡ costs (B .m) ys u (startOf (B .blocks) b) (2 ^ (blockAt B b .j))
   pub setting : u ≡ filled B (take (startOf (B .blocks) b) u) b (p .setting)
   pub earlier : p .earlier ≡ paritiesOf B (take (startOf (B .blocks) b) u)
-  pub root : valsOf v (B .m) ≡ ys
-  pub vals : Vals (B .m - blockAt B b .j) (B .m) ys u (startOf (B .blocks) b) (valsOf v)
+  pub way : ℕ → List ℤ
+  pub root : way (B .m) ≡ ys
+  pub vals : Vals (B .m - blockAt B b .j) (B .m) ys u (startOf (B .blocks) b) way
+  pub same : (k : ℕ) → (k ≡ place B b → ⊥) → valsOf v k ≡ way k
+  pub own : valsOf v (blockAt B b .j) ≡ way (blockAt B b .j)
   pub sums : Sums (suc (B .m)) u (startOf (B .blocks) b) (sumsOf v)
 
 -- path 0, before its first block
@@ -73,7 +77,8 @@ pub record StandsFor (B : Book) (ys : List ℤ) (A : Arrays) (q : M.Path) (p : P
 
 -- ---- the frame: a path that sees what it saw is as it was
 
-inv-frame : (B : Book) (ys : List ℤ) (v v′ : View) (u : List ℕ) (p : Path) (b : ℕ) → valsOf v′ ≡ valsOf v → sumsOf v′ ≡ sumsOf v → Inv B ys v u p b → Inv B ys v′ u p b
+inv-frame : (B : Book) (ys : List ℤ) (v v′ : View) (u : List ℕ) (p : Path) (b : ℕ) → valsOf v′ ≡ valsOf v → sumsOf v′ ≡ sumsOf v → Inv B ys v u p b →
+    Inv B ys v′ u p b
 unfolding Inv
 inv-frame B ys v v′ u p zero e f h = record { bits = h .bits; spent = h .spent; cost = h .cost; root = ap (λ S. S (B .m)) e ∙ h .root }
 inv-frame B ys v v′ u p (suc b) e f h =
@@ -85,14 +90,18 @@ inv-frame B ys v v′ u p (suc b) e f h =
       cost = h .cost;
       setting = h .setting;
       earlier = h .earlier;
-      root = ap (λ S. S (B .m)) e ∙ h .root;
-      vals = subst (Vals (B .m - blockAt B b .j) (B .m) ys u (startOf (B .blocks) b)) (sym e) (h .vals);
+      way = h .way;
+      root = h .root;
+      vals = h .vals;
+      same = λ k n. ap (λ S. S k) e ∙ h .same k n;
+      own = ap (λ S. S (blockAt B b .j)) e ∙ h .own;
       sums = subst (Sums (suc (B .m)) u (startOf (B .blocks) b)) (sym f) (h .sums);
     }
 
 module _ (B : Book) (ys : List ℤ) (A A′ : Arrays) where
   pub holds-frame : (u : List ℕ) (p : Path) → Sees A A′ (p .ids) → Holds B ys A u p → Holds B ys A′ u p
-  holds-frame u p e h = record { parities = h .parities; inv = inv-frame B ys (viewOf A p) (viewOf A′ p) u p (p .blocks) (e .vals) (e .sums) (h .inv) }
+  holds-frame u p e h =
+      record { parities = h .parities; inv = inv-frame B ys (viewOf A p) (viewOf A′ p) u p (p .blocks) (e .vals) (e .sums) (h .inv) }
 
   pub stands-frame : (q : M.Path) (p : Path) → Sees A A′ (p .ids) → StandsFor B ys A q p → StandsFor B ys A′ q p
   stands-frame q p e h = record { same = h .same; holds = holds-frame (q .bits) p e (h .holds) }
@@ -209,37 +218,45 @@ module _ (B : Book) (ys : List ℤ) (ok : Valid B) where
         sums =
             subst (λ (x : ℕ). Sums (suc m) u x (sumsOf (commit B others p (suc b) v))) (sym (o .next))
             (subst (Sums (suc m) u (s + 2 ^ j)) (sym after) (root-join (m - j) j m s (o .small) (o .starts) u (sumsOf v) (h .size) (h .sums)));
-        root = λ l. ap (λ f. f m) (vals-lost others a v w) ∙ upd-other (valsOf v) a lost m (λ x. omega (arith, same l, turn-less m t above (less l))) ∙ h .root;
+        root = λ l.
+            let n : m ≡ a → ⊥ = λ x. omega (arith, same l, turn-less m t above (less l)) in
+            ap (λ f. f m) (vals-lost others a v w) ∙ upd-other (valsOf v) a lost m n ∙ h .same m n ∙ h .root;
         prior = λ l k.
-            subst (Prior k m ys u t) (sym (vals-lost others a v w))
-            (subst (λ (x : ℕ). Prior k m ys u t (upd (valsOf v) x lost)) (sym (same l))
-            (prior-turn k m ys u t (valsOf v) lost above (less l) (vals-prior (m - j) k j m ys u s t (valsOf v) (o .small) (o .starts) (o .next) (less l) (h .vals))));
+            subst (Prior k m ys u t) (sym (vals-lost others a v w ∙ upd-agree (valsOf v) (h .way) a lost (h .same)))
+            (subst (λ (x : ℕ). Prior k m ys u t (upd (h .way) x lost)) (sym (same l))
+            (prior-turn k m ys u t (h .way) lost above (less l) (vals-prior (m - j) k j m ys u s t (h .way) (o .small) (o .starts) (o .next) (less l) (h .vals))));
         alone = λ l z. subst (λ (x : ℕ). Alone others x (commit B others p (suc b) v .ids)) (same l) (sums-alone others a v w);
       }
 
   -- ---- the word y, the machine's x, enters block b after the bits z, and makes p
 
-  module _ (v : View) (b : ℕ) (z : List ℕ) (x : Ranked) (y : Word) (p : Path) where
+  module _ (v : View) (way : ℕ → List ℤ) (b : ℕ) (z : List ℕ) (x : Ranked) (y : Word) (p : Path) where
     pub enter : b < length (B .blocks) → length ys ≡ 2 ^ (B .m) → length z ≡ startOf (B .blocks) b → All Bit z →
-        valsOf v (B .m) ≡ ys → Vals (B .m - blockAt B b .j) (B .m) ys z (startOf (B .blocks) b) (valsOf v) → Sums (suc (B .m)) z (startOf (B .blocks) b) (sumsOf v) →
-        Matches B ys z b x y → p .spent ≡ costs (B .m) ys z 0 (startOf (B .blocks) b) → p .earlier ≡ paritiesOf B z → p .cost ≡ y .cost → p .setting ≡ y .setting →
+        way (B .m) ≡ ys → Vals (B .m - blockAt B b .j) (B .m) ys z (startOf (B .blocks) b) way →
+        ((k : ℕ) → (k ≡ place B b → ⊥) → valsOf v k ≡ way k) → valsOf v (blockAt B b .j) ≡ way (blockAt B b .j) →
+        Sums (suc (B .m)) z (startOf (B .blocks) b) (sumsOf v) →
+        Matches B ys z b x y → p .spent ≡ costs (B .m) ys z 0 (startOf (B .blocks) b) → p .earlier ≡ paritiesOf B z → p .cost ≡ y .cost →
+        p .setting ≡ y .setting →
         Good B ys v (x .bits) p b
-    enter l ly lz bz root vals sums k spent earlier cost setting =
+    enter l ly lz bz root vals same own sums k spent earlier cost setting =
         let j : ℕ = blockAt B b .j in
         let m : ℕ = B .m in
         let s : ℕ = startOf (B .blocks) b in
         let a : After z (2 ^ j) (x .bits) = subst (After z (2 ^ j)) (sym (k .bits)) (filled-after B ys z b (placed B ok b l) ly lz bz (y .setting)) in
         let front : take s (x .bits) ≡ z = ap (take s) (k .bits) ∙ filled-take B z b (y .setting) lz in
-        let same : Same s z (x .bits) = take-all s z (omega arith) ∙ sym front in
+        let alike : Same s z (x .bits) = take-all s z (omega arith) ∙ sym front in
         record {
           within = l;
           size = a .size ∙ ap (λ n. n + 2 ^ j) lz;
           bits = a .bits;
-          spent = spent ∙ costs-same m ys z (x .bits) 0 s s (omega arith) same;
+          spent = spent ∙ costs-same m ys z (x .bits) 0 s s (omega arith) alike;
           cost = cost ∙ k .cost;
           setting = k .bits ∙ ap₂ (λ (c : List ℕ) (w : ℕ). filled B c b w) (sym front) (sym setting);
           earlier = earlier ∙ ap (paritiesOf B) (sym front);
+          way = way;
           root = root;
-          vals = vals-same (m - j) m ys z (x .bits) s (valsOf v) same vals;
-          sums = sums-same (suc m) z (x .bits) s (sumsOf v) same sums;
+          vals = vals-same (m - j) m ys z (x .bits) s way alike vals;
+          same = same;
+          own = own;
+          sums = sums-same (suc m) z (x .bits) s (sumsOf v) alike sums;
         }

@@ -1,7 +1,7 @@
 -- How many arrays the reader needs: at each height the paths alive hold no more arrays than they are, and all ids held run to D, so that with D
 -- arrays of each height one is free whenever a path takes one. The ids are kept within D by each extraction, since at most D paths are alive.
 -- Assumes nothing.
-use mathlib.Core.Path.{_≡_, refl}
+use mathlib.Core.Path.{_≡_, refl, sym, _∙_, subst}
 use mathlib.Core.Bool.{Bool, true, false, cond, _||_}
 use mathlib.Core.List.{List, [], _∷_, map}
 use mathlib.Core.Option.{Option, none, some}
@@ -13,15 +13,16 @@ use borrow.Author.Tests.{eqb-true, leb-true, leb-false}
 use Rattle.laws.specs.Lists.{All}
 use Rattle.laws.proofs.Tests.{cond-case}
 use Rattle.laws.proofs.Lists.{all-map, all-take, all-keep}
-use Rattle.codebook.specs.Book.{Book}
+use Rattle.codebook.specs.Book.{Book, blockAt}
 use Rattle.machine.specs.Queue.{insert, ahead, roomFor, visit}
 use Rattle.runs.proofs.Order.{all-insert}
 use Rattle.reader.specs.Arrays.{Arrays, View, upd, among, writes, putVals, putSums, claim, descend}
 use Rattle.outer.specs.Words.{Word}
 use Rattle.reader.specs.Paths.{Path, keyOf, firstPath, place, idsOf, viewOf}
 use Rattle.reader.specs.Reader.{commit, copyWith, copy, moveWith, move, staying, extract}
+use Rattle.reader.proofs.Upd.{upd-same}
 use Rattle.reader.proofs.Own.{own-most}
-use Rattle.reader.proofs.Arrays.{descend-keeps}
+use Rattle.reader.proofs.Arrays.{writes-new, writes-alone, claim-ids, descend-keeps}
 use Rattle.reader.proofs.Moments.{Moment, momentsOf, extractAt, copyAt, movedAt, Taken, run-all}
 use Rattle.reader.proofs.Bounds.{Alive, alive, extract-length}
 
@@ -43,7 +44,8 @@ unfolding heldOf among
 held-more zero i is = omega arith
 held-more (suc n) i is = go (eqb i (suc n)) refl (among (suc n) is) (leb i n) refl (leb i (suc n)) refl (held-more n i is)
   where
-    go : (b : Bool) → eqb i (suc n) ≡ b → (h c : Bool) → leb i n ≡ c → (d : Bool) → leb i (suc n) ≡ d → heldOf n (i ∷ is) ≤ cond c 1 0 + heldOf n is → cond (b || h) 1 0 + heldOf n (i ∷ is) ≤ cond d 1 0 + (cond h 1 0 + heldOf n is)
+    go : (b : Bool) → eqb i (suc n) ≡ b → (h c : Bool) → leb i n ≡ c → (d : Bool) → leb i (suc n) ≡ d →
+        heldOf n (i ∷ is) ≤ cond c 1 0 + heldOf n is → cond (b || h) 1 0 + heldOf n (i ∷ is) ≤ cond d 1 0 + (cond h 1 0 + heldOf n is)
     go true e h true f d g k = absurd (omega (arith, eqb-true i (suc n) e, leb-true i n f))
     go true e h false f false g k = absurd (omega (arith, eqb-true i (suc n) e, leb-false i (suc n) g))
     go true e true false f true g k = omega arith
@@ -76,18 +78,29 @@ abbrev Housed : ℕ → Path → Type 0
 Housed N p = Within N (p .ids)
 
 module _ (N : ℕ) (others : List (ℕ → ℕ)) (few : length others < N) where
-  -- an array to write to is there
   writes-within : (h : ℕ) (v : View) → Within N (v .ids) → writes others h v ≤ N
   unfolding writes
   writes-within h v w = own-most N (v .ids h) (map (λ (o : ℕ → ℕ). o h) others) (w h) (omega (arith, length-map others (λ (o : ℕ → ℕ). o h)))
+
+  -- whenever a path writes, the array is one of the N, and no other path's
+  pub writes-free : (h : ℕ) (v : View) → Within N (v .ids) →
+      (0 < writes others h v) × (writes others h v ≤ N) × All (λ (o : ℕ → ℕ). o h ≡ writes others h v → ⊥) others
+  writes-free h v w = (
+    above (writes others h v) (λ e. writes-alone others h v .0 (upd-same (v .ids) h (writes others h v) ∙ e)),
+    writes-within h v w,
+    writes-new others h v,
+  )
+    where
+      above : (i : ℕ) → (i ≡ 0 → ⊥) → 0 < i
+      above zero n = absurd (n refl)
+      above (suc i) n = omega arith
 
   upd-within : (h : ℕ) (v : View) → Within N (v .ids) → Within N (upd (v .ids) h (writes others h v))
   unfolding upd
   upd-within h v w k = cond-case (λ (i : ℕ). i ≤ N) (eqb k h) (λ _. writes-within h v w) (λ _. w k)
 
-  claim-within : (h : ℕ) (v : View) → Within N (v .ids) → Within N (claim others h v .ids)
-  unfolding claim
-  claim-within h v w = upd-within h v w
+  claim-within : (j h : ℕ) (v : View) → Within N (v .ids) → Within N (claim others j h v .ids)
+  claim-within j h v w = subst (Within N) (sym (claim-ids others h v j)) (upd-within h v w)
 
   commit-within : (B : Book) (p : Path) (b : ℕ) (v : View) → Within N (v .ids) → Within N (commit B others p b v .ids)
   unfolding commit putSums
@@ -101,13 +114,15 @@ module _ (N : ℕ) (others : List (ℕ → ℕ)) (few : length others < N) where
 -- ---- one extraction
 
 module _ (B : Book) (L D : ℕ) (two : 2 ≤ D) where
-  copyWith-housed : (A : Arrays) (p : Path) (b : ℕ) (ps : List Path) (n : ℕ) (o : Option Word) → Housed D p → All (Housed D) ps → All (Housed D) (copyWith B D A p b ps n o .queue)
+  copyWith-housed : (A : Arrays) (p : Path) (b : ℕ) (ps : List Path) (n : ℕ) (o : Option Word) → Housed D p → All (Housed D) ps →
+      All (Housed D) (copyWith B D A p b ps n o .queue)
   unfolding copyWith roomFor
   copyWith-housed A p b ps n none w h = h
   copyWith-housed A p b ps n (some y) w h =
       let left : List Path = take (D - 2) ps in
       let few : length (p .ids ∷ idsOf left) < D = omega (arith, length-map left (λ (q : Path). q .ids), length-take (D - 2) ps) in
-      all-insert (keyOf B) (Housed D) _ left (claim-within D (p .ids ∷ idsOf left) few (place B b) (viewOf A p) w) (all-take (Housed D) (D - 2) ps h)
+      all-insert (keyOf B) (Housed D) _ left (claim-within D (p .ids ∷ idsOf left) few (blockAt B b .j) (place B b) (viewOf A p) w)
+      (all-take (Housed D) (D - 2) ps h)
 
   copy-housed : (A : Arrays) (p : Path) (ps : List Path) (n b : ℕ) → Housed D p → All (Housed D) ps → All (Housed D) (copy B D A p ps n b .queue)
   unfolding copy
@@ -124,7 +139,7 @@ module _ (B : Book) (L D : ℕ) (two : 2 ≤ D) where
   move-housed A p ps l w =
       let few : length (idsOf ps) < D = omega (arith, length-map ps (λ (q : Path). q .ids)) in
       moveWith-housed A p _ _ w
-      (claim-within D (idsOf ps) few (place B (p .blocks)) _ (descend-within D (idsOf ps) few _ _ _ _ (commit-within D (idsOf ps) few B p (p .blocks) (viewOf A p) w)))
+      (claim-within D (idsOf ps) few (blockAt B (p .blocks) .j) (place B (p .blocks)) _ (descend-within D (idsOf ps) few _ _ _ _ (commit-within D (idsOf ps) few B p (p .blocks) (viewOf A p) w)))
 
   -- ---- the run
 
@@ -140,13 +155,15 @@ module _ (B : Book) (L D : ℕ) (two : 2 ≤ D) where
   unfolding copyAt movedAt
   housed t l w h =
       let a : Alive B D t = alive B L D two t l in
-      let c : All (Housed D) (copyAt B D t .queue) = copy-housed (t .state .arrays) (t .path) (t .state .queue) (t .state .next) (t .path .blocks) w h in
+      let c : All (Housed D) (copyAt B D t .queue) =
+      copy-housed (t .state .arrays) (t .path) (t .state .queue) (t .state .next) (t .path .blocks) w h in
       record { alive = a; taken = w; queue = h; copied = c; moved = move-housed (copyAt B D t .arrays) (t .path) (copyAt B D t .queue) (a .copied) w }
 
   extract-housed : (t : Moment) → AllHoused t → All (Housed D) (extractAt B L D t .state .queue)
   unfolding extractAt extract copyAt movedAt staying ahead
   extract-housed t h =
-      let q : All (Housed D) (insert (keyOf B) (movedAt B D t) (copyAt B D t .queue)) = all-insert (keyOf B) (Housed D) (movedAt B D t) (copyAt B D t .queue) (h .moved) (h .copied) in
+      let q : All (Housed D) (insert (keyOf B) (movedAt B D t) (copyAt B D t .queue)) =
+      all-insert (keyOf B) (Housed D) (movedAt B D t) (copyAt B D t .queue) (h .moved) (h .copied) in
       cond-case (All (Housed D)) (eqb (getD (visit (t .state .visits) (t .path .blocks)) (t .path .blocks) 0) L)
       (λ _. all-map (λ p k. k .0) _ (all-keep (Housed D) _ _ q))
       (λ _. q)
@@ -162,4 +179,6 @@ module _ (B : Book) (L D : ℕ) (two : 2 ≤ D) where
 
   pub run-housed : (A : Arrays) → All AllHoused (momentsOf B L D A)
   unfolding All
-  run-housed A = run-all B L D AllHoused (λ t h. taken-housed _ _ _ _ (extract-length B L D two t (h .alive)) (extract-housed t h)) A (taken-housed _ _ _ _ (omega arith) (first-housed, tt))
+  run-housed A =
+      run-all B L D AllHoused (λ t h. taken-housed _ _ _ _ (extract-length B L D two t (h .alive)) (extract-housed t h)) A
+      (taken-housed _ _ _ _ (omega arith) (first-housed, tt))

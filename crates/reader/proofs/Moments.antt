@@ -8,7 +8,7 @@ use Prim.Native.Nat.{ℕ, zero, suc, _+_, _*_, _^_}
 use lib.ListN.{length, replicate}
 use lib.IntN.{ℤ}
 use lib.Dec.{eqb}
-use borrow.Author.Tests.{eqb-false}
+use borrow.Author.Tests.{eqb-false, ne-eqb}
 use Rattle.laws.specs.Lists.{All}
 use Rattle.laws.proofs.Tests.{cond-case}
 use Rattle.laws.proofs.Pairs.{Paired}
@@ -63,15 +63,23 @@ queuedAt B D t = insert (keyOf B) (movedAt B D t) (copyAt B D t .queue)
 -- its step; a path that has all blocks is taken last, and nothing is removed
 unfoldable pub stepAt : Book → ℕ → ℕ → Moment → Step
 stepAt B L D t =
-    let last : Step = record { path = t .path .number; blocks = t .path .blocks; score = scoreOf B (t .path) (t .path .blocks); crowded = []; outrun = [] } in
+    let last : Step =
+    record { path = t .path .number; blocks = t .path .blocks; score = scoreOf B (t .path) (t .path .blocks); crowded = []; outrun = [] } in
     let more = extractAt B L D t .step in
     cond (eqb (t .path .blocks) (length (B .blocks))) last more
 
-steps-are : (fuel : ℕ) (B : Book) (L D : ℕ) (A : Arrays) (ps : List Path) (n : ℕ) (visits : List ℕ) → run fuel B L D A ps n visits .steps ≡ map (stepAt B L D) (moments fuel B L D A ps n visits)
+-- while the run goes on
+pub step-more : (B : Book) (L D : ℕ) (t : Moment) → (t .path .blocks ≡ length (B .blocks) → ⊥) → stepAt B L D t ≡ extractAt B L D t .step
+unfolding stepAt
+step-more B L D t n = rw (ne-eqb (t .path .blocks) (length (B .blocks)) n)
+
+steps-are : (fuel : ℕ) (B : Book) (L D : ℕ) (A : Arrays) (ps : List Path) (n : ℕ) (visits : List ℕ) →
+    run fuel B L D A ps n visits .steps ≡ map (stepAt B L D) (moments fuel B L D A ps n visits)
 unfolding run moments stepAt extractAt stopped after
 steps-are zero B L D A ps n visits = refl
 steps-are (suc fuel) B L D A [] n visits = refl
-steps-are (suc fuel) B L D A (p ∷ ps) n visits = go (eqb (p .blocks) (length (B .blocks))) (steps-are fuel B L D (x .arrays) (x .queue) (x .next) (x .visits))
+steps-are (suc fuel) B L D A (p ∷ ps) n visits =
+    go (eqb (p .blocks) (length (B .blocks))) (steps-are fuel B L D (x .arrays) (x .queue) (x .next) (x .visits))
   where
     x : State
     x = extract B L D A p ps n visits .state
@@ -82,7 +90,9 @@ steps-are (suc fuel) B L D A (p ∷ ps) n visits = go (eqb (p .blocks) (length (
     last : Step
     last = record { path = p .number; blocks = p .blocks; score = scoreOf B p (p .blocks); crowded = []; outrun = [] }
 
-    go : (t : Bool) → run fuel B L D (x .arrays) (x .queue) (x .next) (x .visits) .steps ≡ map (stepAt B L D) (moments fuel B L D (x .arrays) (x .queue) (x .next) (x .visits))
+    go : (t : Bool) →
+        run fuel B L D (x .arrays) (x .queue) (x .next) (x .visits) .steps
+        ≡ map (stepAt B L D) (moments fuel B L D (x .arrays) (x .queue) (x .next) (x .visits))
         → cond t (stopped B A p ps) (after s (run fuel B L D (x .arrays) (x .queue) (x .next) (x .visits))) .steps
         ≡ cond t last s ∷ map (stepAt B L D) (cond t [] (moments fuel B L D (x .arrays) (x .queue) (x .next) (x .visits)))
     go true e = refl
@@ -101,10 +111,11 @@ Taken P A (p ∷ ps) n visits = P (record { path = p; state = record { arrays = 
 
 module _ (B : Book) (L D : ℕ) (P : Moment → Type 0) where
   -- kept by each extraction
-  abbrev pub Kept : Type 0
-  Kept = (t : Moment) → P t → Taken P (extractAt B L D t .state .arrays) (extractAt B L D t .state .queue) (extractAt B L D t .state .next) (extractAt B L D t .state .visits)
+  abbrev pub Stays : Type 0
+  Stays = (t : Moment) → P t → let x = extractAt B L D t .state in Taken P (x .arrays) (x .queue) (x .next) (x .visits)
 
-  moments-all : Kept → (fuel : ℕ) (A : Arrays) (ps : List Path) (n : ℕ) (visits : List ℕ) → Taken P A ps n visits → All P (moments fuel B L D A ps n visits)
+  moments-all : Stays → (fuel : ℕ) (A : Arrays) (ps : List Path) (n : ℕ) (visits : List ℕ) → Taken P A ps n visits →
+      All P (moments fuel B L D A ps n visits)
   unfolding moments extractAt Taken All
   moments-all k zero A ps n visits h = tt
   moments-all k (suc fuel) A [] n visits h = tt
@@ -113,7 +124,7 @@ module _ (B : Book) (L D : ℕ) (P : Moment → Type 0) where
     cond-case (All P) (eqb (p .blocks) (length (B .blocks))) (λ _. tt) (λ _. moments-all k fuel _ _ _ _ (k _ h)),
   )
 
-  pub run-all : Kept → (A : Arrays) → Taken P A (firstPath B ∷ []) 1 (replicate (length (B .blocks)) 0) → All P (momentsOf B L D A)
+  pub run-all : Stays → (A : Arrays) → Taken P A (firstPath B ∷ []) 1 (replicate (length (B .blocks)) 0) → All P (momentsOf B L D A)
   unfolding momentsOf
   run-all k A h = moments-all k _ A _ _ _ h
 
@@ -140,7 +151,8 @@ module _ (B : Book) (ys : List ℤ) (ok : Valid B) (ly : length ys ≡ 2 ^ (B .m
   moments-are (suc fuel) L D A (q ∷ qs) [] n visits h = absurd h
   moments-are (suc fuel) L D A (q ∷ qs) (p ∷ ps) n visits h = (
     record { queue = h; next = refl; visits = refl },
-    subst (λ (b : ℕ). Paired (MomentIs B ys) (cond (eqb (q .blocks) V′) [] (more (x .state .next) (x .state .visits))) (cond (eqb b V′) [] more′)) (stands-blocks B ys A q p (h .0))
+    subst (λ (b : ℕ). Paired (MomentIs B ys) (cond (eqb (q .blocks) V′) [] (more (x .state .next) (x .state .visits))) (cond (eqb b V′) [] more′))
+        (stands-blocks B ys A q p (h .0))
         (go (eqb (q .blocks) V′) refl (moments-are fuel L D)),
   )
     where
@@ -159,7 +171,8 @@ module _ (B : Book) (ys : List ℤ) (ok : Valid B) (ly : length ys ≡ 2 ^ (B .m
       more′ : List Moment
       more′ = moments fuel B L D (x′ .state .arrays) (x′ .state .queue) (x′ .state .next) (x′ .state .visits)
 
-      go : (t : Bool) → eqb (q .blocks) (length (B .blocks)) ≡ t → MomentsAgree fuel L D → Paired (MomentIs B ys) (cond t [] (more (x .state .next) (x .state .visits))) (cond t [] more′)
+      go : (t : Bool) → eqb (q .blocks) (length (B .blocks)) ≡ t → MomentsAgree fuel L D →
+          Paired (MomentIs B ys) (cond t [] (more (x .state .next) (x .state .visits))) (cond t [] more′)
       go true e ih = tt
       go false e ih =
           let i : StepIs B ys x x′ = extract-is B ys ok ly L D A q p qs ps n visits (h .0) (h .1) (eqb-false (q .blocks) V′ e) in

@@ -73,7 +73,8 @@ above-among i (k ∷ ks) e = go (eqb k i) refl e (above-among i ks)
     here q false true e f = omega arith
     here q false false e f = absurd (omega (arith, leb-false i k f))
 
-    go : (b : Bool) → eqb k i ≡ b → (b || among i ks) ≡ true → (among i ks ≡ true → above (suc i) ks < above i ks) → cond (leb (suc i) k) 1 0 + above (suc i) ks < cond (leb i k) 1 0 + above i ks
+    go : (b : Bool) → eqb k i ≡ b → (b || among i ks) ≡ true → (among i ks ≡ true → above (suc i) ks < above i ks) →
+        cond (leb (suc i) k) 1 0 + above (suc i) ks < cond (leb i k) 1 0 + above i ks
     go true f e ih = omega (arith, here (eqb-true k i f) (leb (suc i) k) (leb i k) refl refl, above-less i ks)
     go false f e ih = omega (arith, one-less i k, ih e)
 
@@ -86,7 +87,8 @@ first-free zero i is h = (go (among i is) refl, omega arith)
     go false e = refl
 first-free (suc n) i is h = go (among i is) refl (first-free n (suc i) is)
   where
-    go : (b : Bool) → among i is ≡ b → (above (suc i) is ≤ n → (among (firstFree n (suc i) is) is ≡ false) × (firstFree n (suc i) is ≤ suc i + n)) → (among (cond b (firstFree n (suc i) is) i) is ≡ false) × (cond b (firstFree n (suc i) is) i ≤ i + suc n)
+    go : (b : Bool) → among i is ≡ b → (above (suc i) is ≤ n → (among (firstFree n (suc i) is) is ≡ false) × (firstFree n (suc i) is ≤ suc i + n)) →
+        (among (cond b (firstFree n (suc i) is) i) is ≡ false) × (cond b (firstFree n (suc i) is) i ≤ i + suc n)
     go true e ih = let k = ih (omega (arith, above-among i is e)) in (k .0, omega (arith, k .1))
     go false e ih = (e, omega arith)
 

@@ -17,7 +17,8 @@ module _ {A B : Type 0} (key : A → Key) (key′ : B → Key) (P : A → B → 
   insert-paired x y (x′ ∷ xs) (y′ ∷ ys) h k =
       rw (same x y h, same x′ y′ (k .0)) (go (before (key′ y) (key′ y′)) (insert-paired x y xs ys h (k .1)))
     where
-      go : (b : Bool) → Paired P (insert key x xs) (insert key′ y ys) → Paired P (cond b (x ∷ x′ ∷ xs) (x′ ∷ insert key x xs)) (cond b (y ∷ y′ ∷ ys) (y′ ∷ insert key′ y ys))
+      go : (b : Bool) → Paired P (insert key x xs) (insert key′ y ys) →
+          Paired P (cond b (x ∷ x′ ∷ xs) (x′ ∷ insert key x xs)) (cond b (y ∷ y′ ∷ ys) (y′ ∷ insert key′ y ys))
       go true e = (h, k)
       go false e = (k .0, e)
 

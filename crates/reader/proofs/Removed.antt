@@ -29,7 +29,7 @@ use Rattle.reader.specs.Reader.{Cut, copyWith, copy, moveWith, move, sta
 use Rattle.reader.proofs.Good.{StandsFor}
 use Rattle.reader.proofs.Queue.{numbers-paired}
 use Rattle.reader.proofs.Step.{stands-key}
-use Rattle.reader.proofs.Moments.{Moment, momentsOf, extractAt, copyAt, movedAt, queuedAt, MomentIs, run-moments}
+use Rattle.reader.proofs.Moments.{Moment, momentsOf, stepAt, step-more, extractAt, copyAt, movedAt, queuedAt, MomentIs, run-moments}
 
 -- ---- a path queued
 
@@ -39,7 +39,9 @@ module _ {A : Type 0} (key : A → Key) where
   insert-in p [] x m = List·Memᴰ·cases-cons m
   insert-in p (q ∷ qs) x m = go (before (key p) (key q)) m (insert-in p qs x)
     where
-      go : (b : Bool) → In x (numbers key (cond b (p ∷ q ∷ qs) (q ∷ insert key p qs))) → (In x (numbers key (insert key p qs)) → (x ≡ key p .number) ⊎ In x (numbers key qs)) → (x ≡ key p .number) ⊎ In x (key q .number ∷ numbers key qs)
+      go : (b : Bool) → In x (numbers key (cond b (p ∷ q ∷ qs) (q ∷ insert key p qs))) →
+          (In x (numbers key (insert key p qs)) → (x ≡ key p .number) ⊎ In x (numbers key qs)) →
+          (x ≡ key p .number) ⊎ In x (key q .number ∷ numbers key qs)
       go true m ih = List·Memᴰ·cases-cons m
       go false m ih = two (List·Memᴰ·cases-cons m)
         where
@@ -56,7 +58,8 @@ module _ {A : Type 0} (key : A → Key) where
   in-insert p [] x m = List·Memᴰ·tail m
   in-insert p (q ∷ qs) x m = go (before (key p) (key q)) (in-insert p qs x)
     where
-      go : (b : Bool) → (In x (numbers key qs) → In x (numbers key (insert key p qs))) → In x (numbers key (cond b (p ∷ q ∷ qs) (q ∷ insert key p qs)))
+      go : (b : Bool) → (In x (numbers key qs) → In x (numbers key (insert key p qs))) →
+          In x (numbers key (cond b (p ∷ q ∷ qs) (q ∷ insert key p qs)))
       go true ih = List·Memᴰ·tail m
       go false ih = two (List·Memᴰ·cases-cons m)
         where
@@ -66,7 +69,9 @@ module _ {A : Type 0} (key : A → Key) where
 
   all-numbers : (P : ℕ → Type 0) (p : A) (qs : List A) → P (key p .number) → All P (numbers key qs) → All P (numbers key (insert key p qs))
   unfolding numbers
-  all-numbers P p qs h k = all-mapped (λ (q : A). key q .number) P (insert key p qs) (all-insert key (λ (q : A). P (key q .number)) p qs h (all-unmapped (λ (q : A). key q .number) P qs k))
+  all-numbers P p qs h k =
+      all-mapped (λ (q : A). key q .number) P (insert key p qs)
+      (all-insert key (λ (q : A). P (key q .number)) p qs h (all-unmapped (λ (q : A). key q .number) P qs k))
 
   distinct-insert : (p : A) (qs : List A) → Distinct (key p .number ∷ numbers key qs) → Distinct (numbers key (insert key p qs))
   unfolding insert numbers Distinct All
@@ -78,8 +83,10 @@ module _ {A : Type 0} (key : A → Key) where
       go false ih = (all-numbers (λ y. key q .number ≢ y) p qs (λ e. d .0 .0 (sym e)) (d .1 .0), ih)
 
   -- with a number that is not in the queue, it is not removed
-  insert-removes : (gone old : List ℕ) (p : A) (qs : List A) → (In (key p .number) old → ⊥) → Removes gone old (numbers key qs) → Removes gone old (numbers key (insert key p qs))
-  insert-removes gone old p qs n r x = (λ m. (r x .0 m .0, λ k. out (r x .0 m) (insert-in p qs x k)), λ h. r x .1 (h .0, λ k. h .1 (in-insert p qs x k)))
+  insert-removes : (gone old : List ℕ) (p : A) (qs : List A) → (In (key p .number) old → ⊥) → Removes gone old (numbers key qs) →
+      Removes gone old (numbers key (insert key p qs))
+  insert-removes gone old p qs n r x =
+      (λ m. (r x .0 m .0, λ k. out (r x .0 m) (insert-in p qs x k)), λ h. r x .1 (h .0, λ k. h .1 (in-insert p qs x k)))
     where
       out : In x old × (In x (numbers key qs) → ⊥) → (x ≡ key p .number) ⊎ In x (numbers key qs) → ⊥
       out h (inl e) = n (subst (λ (y : ℕ). In y old) e (h .0))
@@ -88,14 +95,16 @@ module _ {A : Type 0} (key : A → Key) where
   -- the queue's numbers, in order, are those that stay and those crowded out
   pub numbers-cut : (D : ℕ) (qs : List A) → numbers key qs ≡ numbers key (roomFor D qs) ++ numbers key (crowdedOut D qs)
   unfolding numbers roomFor crowdedOut
-  numbers-cut D qs = ap (map (λ (p : A). key p .number)) (sym (take-append-drop (D - 2) qs)) ∙ map-append (λ (p : A). key p .number) (take (D - 2) qs) (drop (D - 2) qs)
+  numbers-cut D qs =
+      ap (map (λ (p : A). key p .number)) (sym (take-append-drop (D - 2) qs))
+      ∙ map-append (λ (p : A). key p .number) (take (D - 2) qs) (drop (D - 2) qs)
 
 -- ---- step 2
 
 -- the numbers of these paths are distinct, and below n
-pub record Fresh (B : Book) (ps : List Path) (n : ℕ) : Type 0 where
-  pub below : All (λ (x : ℕ). x < n) (numbers (keyOf B) ps)
-  pub distinct : Distinct (numbers (keyOf B) ps)
+record Fresh (B : Book) (ps : List Path) (n : ℕ) : Type 0 where
+  below : All (λ (x : ℕ). x < n) (numbers (keyOf B) ps)
+  distinct : Distinct (numbers (keyOf B) ps)
 
 module _ (B : Book) (D : ℕ) (A : Arrays) (p : Path) (ps : List Path) (n : ℕ) where
   -- after step 2 the numbers are still distinct, p's among them, and those crowded out are those removed
@@ -104,7 +113,8 @@ module _ (B : Book) (D : ℕ) (A : Arrays) (p : Path) (ps : List Path) (n : ℕ)
     distinct : Distinct (numbers (keyOf B) (p ∷ queue))
 
   -- a copy c numbered n
-  made-removes : (c : Path) → c .number ≡ n → Fresh B (p ∷ ps) n → CopyRemoves (numbers (keyOf B) (crowdedOut D ps)) (insert (keyOf B) c (roomFor D ps))
+  made-removes : (c : Path) → c .number ≡ n → Fresh B (p ∷ ps) n →
+      CopyRemoves (numbers (keyOf B) (crowdedOut D ps)) (insert (keyOf B) c (roomFor D ps))
   unfolding numbers Distinct All keyOf
   made-removes c en f =
       let left : List Path = roomFor D ps in
@@ -118,12 +128,15 @@ module _ (B : Book) (D : ℕ) (A : Arrays) (p : Path) (ps : List Path) (n : ℕ)
             subst (λ (old : List ℕ). Removes gone old (numbers (keyOf B) (insert (keyOf B) c left))) (sym e)
             (insert-removes (keyOf B) gone (room ++ gone) c left (λ m. lt-irrefl n (subst (λ (x : ℕ). x < n) en (all-in (λ x. x < n) low m))) (removes-cut room gone d));
         distinct = (
-          all-numbers (keyOf B) (λ x. p .number ≢ x) c left (λ z. lt-irrefl n (subst (λ (x : ℕ). x < n) (z ∙ en) (f .below .0))) (all-front (λ x. p .number ≢ x) room gone (subst (All (λ (x : ℕ). p .number ≢ x)) e (f .distinct .0))),
-          distinct-insert (keyOf B) c left (all-map (λ x l z. lt-irrefl n (subst (λ (y : ℕ). y < n) (sym z ∙ en) l)) room (all-front (λ x. x < n) room gone low), distinct-front room gone d),
+          all-numbers (keyOf B) (λ x. p .number ≢ x) c left (λ z. lt-irrefl n (subst (λ (x : ℕ). x < n) (z ∙ en) (f .below .0)))
+              (all-front (λ x. p .number ≢ x) room gone (subst (All (λ (x : ℕ). p .number ≢ x)) e (f .distinct .0))),
+          distinct-insert (keyOf B) c left
+              (all-map (λ x l z. lt-irrefl n (subst (λ (y : ℕ). y < n) (sym z ∙ en) l)) room (all-front (λ x. x < n) room gone low), distinct-front room gone d),
         );
       }
 
-  copyWith-removes : (b : ℕ) (o : Option Word) → Fresh B (p ∷ ps) n → CopyRemoves (copyWith B D A p b ps n o .crowded) (copyWith B D A p b ps n o .queue)
+  copyWith-removes : (b : ℕ) (o : Option Word) → Fresh B (p ∷ ps) n →
+      CopyRemoves (copyWith B D A p b ps n o .crowded) (copyWith B D A p b ps n o .queue)
   unfolding copyWith
   copyWith-removes b none f = record { crowded = removes-none (numbers (keyOf B) ps); distinct = f .distinct }
   copyWith-removes b (some y) f = made-removes _ refl f
@@ -144,32 +157,43 @@ move-number : (B : Book) (A : Arrays) (p : Path) (ps : List Path) → move B A p
 unfolding move
 move-number B A p ps = moveWith-number A p _ _
 
-outrun-removes : (B : Book) (L b : ℕ) (visits : List ℕ) (ps : List Path) → Distinct (numbers (keyOf B) ps) → Removes (numbers (keyOf B) (outrunBy B L b visits ps)) (numbers (keyOf B) ps) (numbers (keyOf B) (staying B L b visits ps))
+outrun-removes : (B : Book) (L b : ℕ) (visits : List ℕ) (ps : List Path) → Distinct (numbers (keyOf B) ps) →
+    Removes (numbers (keyOf B) (outrunBy B L b visits ps)) (numbers (keyOf B) ps) (numbers (keyOf B) (staying B L b visits ps))
 unfolding outrunBy staying numbers ahead behind
 outrun-removes B L b visits ps d = go (eqb (getD visits b 0) L)
   where
-    go : (t : Bool) → Removes (numbers (keyOf B) (cond t (behind (keyOf B) b ps) [])) (numbers (keyOf B) ps) (numbers (keyOf B) (cond t (ahead (keyOf B) b ps) ps))
+    go : (t : Bool) →
+        Removes (numbers (keyOf B) (cond t (behind (keyOf B) b ps) [])) (numbers (keyOf B) ps) (numbers (keyOf B) (cond t (ahead (keyOf B) b ps) ps))
     go true =
-        removes-keep (λ (p : Path). keyOf B p .number) (λ (p : Path). ltb b (keyOf B p .blocks)) (λ (p : Path). leb (keyOf B p .blocks) b) (λ p. leb-ltb (keyOf B p .blocks) b) ps d
+        removes-keep (λ (p : Path). keyOf B p .number) (λ (p : Path). ltb b (keyOf B p .blocks)) (λ (p : Path). leb (keyOf B p .blocks) b)
+        (λ p. leb-ltb (keyOf B p .blocks) b) ps d
     go false = removes-none (numbers (keyOf B) ps)
 
 -- ---- the extractions of the run
 
+-- what the step at a moment says of the queue before and after step 2, and before and after step 4
 pub record Removed (B : Book) (L D : ℕ) (t : Moment) : Type 0 where
-  pub crowded : Removes (extractAt B L D t .step .crowded) (numbers (keyOf B) (t .state .queue)) (numbers (keyOf B) (copyAt B D t .queue))
-  pub outrun : Removes (extractAt B L D t .step .outrun) (numbers (keyOf B) (queuedAt B D t)) (numbers (keyOf B) (extractAt B L D t .state .queue))
+  pub crowded : Removes (stepAt B L D t .crowded) (numbers (keyOf B) (t .state .queue)) (numbers (keyOf B) (copyAt B D t .queue))
+  pub outrun : Removes (stepAt B L D t .outrun) (numbers (keyOf B) (queuedAt B D t)) (numbers (keyOf B) (extractAt B L D t .state .queue))
 
-fresh-removed : (B : Book) (L D : ℕ) (t : Moment) → Fresh B (t .path ∷ t .state .queue) (t .state .next) → Removed B L D t
+fresh-removed : (B : Book) (L D : ℕ) (t : Moment) → Fresh B (t .path ∷ t .state .queue) (t .state .next) →
+    (t .path .blocks ≡ length (B .blocks) → ⊥) →
+    Removed B L D t
 unfolding extractAt copyAt movedAt queuedAt extract
-fresh-removed B L D t f =
+fresh-removed B L D t f n =
     let p : Path = t .path in
     let second : Cut = copy B D (t .state .arrays) p (t .state .queue) (t .state .next) (p .blocks) in
     let third : Path = move B (second .arrays) p (second .queue) .path in
-    let r : CopyRemoves B D (t .state .arrays) p (t .state .queue) (t .state .next) (second .crowded) (second .queue) = copy-removes B D (t .state .arrays) p (t .state .queue) (t .state .next) (p .blocks) f in
-    let d : Distinct (numbers (keyOf B) (third ∷ second .queue)) = subst Distinct (same third (second .queue) (move-number B (second .arrays) p (second .queue))) (r .distinct) in
+    let r : CopyRemoves B D (t .state .arrays) p (t .state .queue) (t .state .next) (second .crowded) (second .queue) =
+    copy-removes B D (t .state .arrays) p (t .state .queue) (t .state .next) (p .blocks) f in
+    let d : Distinct (numbers (keyOf B) (third ∷ second .queue)) =
+    subst Distinct (same third (second .queue) (move-number B (second .arrays) p (second .queue))) (r .distinct) in
     record {
-      crowded = r .crowded;
-      outrun = outrun-removes B L (p .blocks) (visit (t .state .visits) (p .blocks)) (insert (keyOf B) third (second .queue)) (distinct-insert (keyOf B) third (second .queue) (one third (second .queue) d));
+      crowded = rw (step-more B L D t n) (r .crowded);
+      outrun =
+          rw (step-more B L D t n)
+          (outrun-removes B L (p .blocks) (visit (t .state .visits) (p .blocks)) (insert (keyOf B) third (second .queue))
+          (distinct-insert (keyOf B) third (second .queue) (one third (second .queue) d)));
     }
   where
     same : (q : Path) (qs : List Path) → q .number ≡ t .path .number → numbers (keyOf B) (t .path ∷ qs) ≡ numbers (keyOf B) (q ∷ qs)
@@ -178,17 +202,22 @@ fresh-removed B L D t f =
     one : (q : Path) (qs : List Path) → Distinct (numbers (keyOf B) (q ∷ qs)) → Distinct (keyOf B q .number ∷ numbers (keyOf B) qs)
     one q qs d = unfold numbers in d
 
--- every extraction of the run removes what its step says
-pub run-removed : (B : Book) (ys : List ℤ) → Valid B → length ys ≡ 2 ^ (B .m) → (L D : ℕ) (A : Arrays) → A .vals (B .m) 1 ≡ ys → All (Removed B L D) (momentsOf B L D A)
+-- every step of the run (Moments: run-steps-are) but the last, which removes nothing, says what its extraction removes
+pub run-removed : (B : Book) (ys : List ℤ) → Valid B → length ys ≡ 2 ^ (B .m) → (L D : ℕ) (A : Arrays) → A .vals (B .m) 1 ≡ ys →
+    All (λ (t : Moment). (t .path .blocks ≡ length (B .blocks) → ⊥) → Removed B L D t) (momentsOf B L D A)
 run-removed B ys ok ly L D A e =
     paired-all (λ s t h k. fresh-removed B L D t (fresh s t h k)) _ _ (run-numbers B L D ys) (run-moments B ys ok ly L D A e)
   where
     fresh : (s : M.State) (t : Moment) → Numbered s → MomentIs B ys s t → Fresh B (t .path ∷ t .state .queue) (t .state .next)
     fresh s t h k =
         let same : numbers M.keyOf (s .queue) ≡ numbers (keyOf B) (t .path ∷ t .state .queue) =
-        numbers-paired M.keyOf (keyOf B) (StandsFor B ys (t .state .arrays)) (stands-key B ys (t .state .arrays)) (s .queue) (t .path ∷ t .state .queue) (k .queue) in
-        let low : All (λ (x : ℕ). x < s .next) (numbers M.keyOf (s .queue)) = unfold numbers M.keyOf in all-mapped (λ (q : M.Path). q .number) (λ (x : ℕ). x < s .next) (s .queue) (h .below) in
+        numbers-paired M.keyOf (keyOf B) (StandsFor B ys (t .state .arrays)) (stands-key B ys (t .state .arrays)) (s .queue)
+        (t .path ∷ t .state .queue) (k .queue) in
+        let low : All (λ (x : ℕ). x < s .next) (numbers M.keyOf (s .queue)) =
+        unfold numbers M.keyOf in all-mapped (λ (q : M.Path). q .number) (λ (x : ℕ). x < s .next) (s .queue) (h .below) in
         record {
-          below = subst (λ (n : ℕ). All (λ (x : ℕ). x < n) (numbers (keyOf B) (t .path ∷ t .state .queue))) (k .next) (subst (All (λ (x : ℕ). x < s .next)) same low);
+          below =
+              subst (λ (n : ℕ). All (λ (x : ℕ). x < n) (numbers (keyOf B) (t .path ∷ t .state .queue))) (k .next)
+              (subst (All (λ (x : ℕ). x < s .next)) same low);
           distinct = subst Distinct same (h .distinct);
         }

@@ -47,30 +47,39 @@ unfolding M.emptyPath firstPath plain scoreOf Inv
 first-stands B ys A e =
     record {
       same = refl;
-      holds = record { parities = parities-none B; inv = record { bits = refl; spent = refl; cost = refl; root = ap (A .vals (B .m)) (upd-same (λ _. 0) (B .m) 1) ∙ e } };
+      holds =
+          record {
+            parities = parities-none B;
+            inv = record { bits = refl; spent = refl; cost = refl; root = ap (A .vals (B .m)) (upd-same (λ _. 0) (B .m) 1) ∙ e };
+          };
     }
 
 module _ (B : Book) (ys : List ℤ) (ok : Valid B) (ly : length ys ≡ 2 ^ (B .m)) where
   -- ---- where step 1 stops
 
-  stopped-plain : (A : Arrays) (u : List ℕ) (p : Path) (ps : List Path) → Holds B ys A u p → p .blocks ≡ length (B .blocks) → RunIs B ys (M.stopped (plain B p u)) (R.stopped B A p ps)
+  stopped-plain : (A : Arrays) (u : List ℕ) (p : Path) (ps : List Path) → Holds B ys A u p → p .blocks ≡ length (B .blocks) →
+      RunIs B ys (M.stopped (plain B p u)) (R.stopped B A p ps)
   unfolding M.stopped R.stopped plain finalFrom finalOf readData
   stopped-plain A u p ps h e =
       let v : View = commit B (idsOf ps) p (p .blocks) (viewOf A p) in
       let z : Sized B ys u p (p .blocks) = sized B ys (viewOf A p) u p ok (p .blocks) (h .inv) in
       let r : Ready B ys (idsOf ps) u (p .blocks) v = ready B ys ok (idsOf ps) u p (p .blocks) (viewOf A p) (h .inv) in
       let f : startOf (B .blocks) (p .blocks) ≡ 2 ^ (B .m) = ap (startOf (B .blocks)) e ∙ ok .covered in
-      let word : sumsOf v (B .m) ≡ transform (B .m) u = root-word (B .m) u (sumsOf v) (z .size ∙ f) (subst (λ (t : ℕ). Sums (suc (B .m)) u t (sumsOf v)) f (r .sums)) in
+      let word : sumsOf v (B .m) ≡ transform (B .m) u =
+      root-word (B .m) u (sumsOf v) (z .size ∙ f) (subst (λ (t : ℕ). Sums (suc (B .m)) u t (sumsOf v)) f (r .sums)) in
       let back : transform (B .m) (sumsOf v (B .m)) ≡ u = ap (transform (B .m)) word ∙ transform-twice (B .m) u (z .size ∙ f) (z .bits) in
-      let total : p .spent + p .cost ≡ natAbs (Value.R (B .m) ys u) = z .total ∙ sym (ap natAbs (R-costs (B .m) ys u) ∙ neg-abs (pos (costs (B .m) ys u 0 (length u)))) in
+      let total : p .spent + p .cost ≡ natAbs (Value.R (B .m) ys u) =
+      z .total ∙ sym (ap natAbs (R-costs (B .m) ys u) ∙ neg-abs (pos (costs (B .m) ys u 0 (length u)))) in
       let make : List ℕ → List ℕ → ℕ → Final = λ w x n. record { word = w; bits = freeBits (B .kinds) x; discrepancy = n } in
       record {
         steps = refl;
         final = ap some (ap₂ (λ (w x : List ℕ). make w x (p .spent + p .cost)) word back ∙ ap (make (transform (B .m) u) u) total);
       }
 
-  stopped-is : (A : Arrays) (q : M.Path) (p : Path) (ps : List Path) → StandsFor B ys A q p → p .blocks ≡ length (B .blocks) → RunIs B ys (M.stopped q) (R.stopped B A p ps)
-  stopped-is A q p ps h e = subst (λ (x : M.Path). RunIs B ys (M.stopped x) (R.stopped B A p ps)) (sym (h .same)) (stopped-plain A (q .bits) p ps (h .holds) e)
+  stopped-is : (A : Arrays) (q : M.Path) (p : Path) (ps : List Path) → StandsFor B ys A q p → p .blocks ≡ length (B .blocks) →
+      RunIs B ys (M.stopped q) (R.stopped B A p ps)
+  stopped-is A q p ps h e =
+      subst (λ (x : M.Path). RunIs B ys (M.stopped x) (R.stopped B A p ps)) (sym (h .same)) (stopped-plain A (q .bits) p ps (h .holds) e)
 
   -- ---- the run
 
@@ -107,7 +116,8 @@ module _ (B : Book) (ys : List ℤ) (ok : Valid B) (ly : length ys ≡ 2 ^ (B .m
       more′ = R.run fuel B L D (x′ .state .arrays) (x′ .state .queue) (x′ .state .next) (x′ .state .visits)
 
       go : (t : Bool) → eqb (q .blocks) (length (B .blocks)) ≡ t → RunsAgree fuel L D →
-          RunIs B ys (cond t (M.stopped q) (M.after (x .step) (more (x .state .next) (x .state .visits)))) (cond t (R.stopped B A p ps) (R.after (x′ .step) more′))
+          RunIs B ys (cond t (M.stopped q) (M.after (x .step) (more (x .state .next) (x .state .visits))))
+          (cond t (R.stopped B A p ps) (R.after (x′ .step) more′))
       go true e ih = stopped-is A q p ps (h .0) (sym (stands-blocks B ys A q p (h .0)) ∙ eqb-true (q .blocks) (length (B .blocks)) e)
       go false e ih =
           let i : StepIs B ys x x′ = extract-is B ys ok ly L D A q p qs ps n visits (h .0) (h .1) (eqb-false (q .blocks) (length (B .blocks)) e) in

@@ -18,16 +18,16 @@ use Rattle.laws.proofs.Tests.{cond-case, lt-or}
 use Rattle.laws.proofs.Lists.{all-map, all-both, all-take, all-keep, all-mapped, all-unmapped}
 use Rattle.polar.specs.Node.{rest, child}
 use Rattle.polar.proofs.Node.{rest-low, rest-less}
-use Rattle.codebook.specs.Book.{Book}
+use Rattle.codebook.specs.Book.{Book, blockAt}
 use Rattle.machine.specs.Queue.{before, insert, ahead, roomFor, visit}
 use Rattle.runs.proofs.Order.{all-insert}
 use Rattle.reader.specs.Arrays.{Arrays, View, valsOf, sumsOf, upd, writes, putVals, putSums, claim, turn, descend}
 use Rattle.outer.specs.Words.{Word}
 use Rattle.reader.specs.Paths.{Path, keyOf, firstPath, place, idsOf, viewOf}
-use Rattle.reader.specs.Reader.{commit, copyWith, copy, moveWith, move, staying, extract}
+use Rattle.reader.specs.Reader.{Cut, commit, copyWith, copy, moveWith, move, staying, extract}
 use Rattle.reader.proofs.Upd.{upd-other, upd-self}
 use Rattle.reader.proofs.Tree.{turn-high, turn-past}
-use Rattle.reader.proofs.Arrays.{Alone, writes-new, writes-keep, writes-alone, descend-keeps}
+use Rattle.reader.proofs.Arrays.{Alone, writes-new, writes-keep, writes-alone, claim-ids, descend-keeps}
 use Rattle.reader.proofs.Moments.{Moment, momentsOf, extractAt, copyAt, Taken, run-all}
 
 module _ (B : Book) where
@@ -71,10 +71,12 @@ module _ (B : Book) where
   unfolding keep Solo
   solo-keep f [] h = tt
   solo-keep f (p ∷ ps) h =
-      cond-case Solo (f p) (λ _. ((h .0 .0, all-map (λ q k. k .0) (keep f ps) (all-keep (Apart p) f ps (h .0 .1))), solo-keep f ps (h .1))) (λ _. solo-keep f ps (h .1))
+      cond-case Solo (f p) (λ _. ((h .0 .0, all-map (λ q k. k .0) (keep f ps) (all-keep (Apart p) f ps (h .0 .1))), solo-keep f ps (h .1)))
+      (λ _. solo-keep f ps (h .1))
 
   -- a path whose last block is b, which holds the array of that block's place alone and stays off the others'
-  solo-of : (p : Path) (b : ℕ) (ps : List Path) → p .blocks ≡ suc b → Alone (idsOf ps) (place B b) (p .ids) → All (λ (q : Path). Off q (p .ids)) ps → Has p × All (Apart p) ps
+  solo-of : (p : Path) (b : ℕ) (ps : List Path) → p .blocks ≡ suc b → Alone (idsOf ps) (place B b) (p .ids) → All (λ (q : Path). Off q (p .ids)) ps →
+      Has p × All (Apart p) ps
   solo-of p b ps e a h = (
     λ c f z. a .0 (ap (λ y. p .ids (place B y)) (suc-inj (sym e ∙ f)) ∙ z),
     all-both
@@ -101,11 +103,12 @@ module _ (B : Book) where
             go false f z = o b e z
 
     off-write : (k : ℕ) (v : View) → OffAll (v .ids) → OffAll (upd (v .ids) k (writes (idsOf ps) k v))
-    off-write k v h = off-new k (writes (idsOf ps) k v) (v .ids) (all-unmapped (λ (q : Path). q .ids) (λ (o : ℕ → ℕ). o k ≡ writes (idsOf ps) k v → ⊥) ps (writes-new (idsOf ps) k v)) h
+    off-write k v h =
+        off-new k (writes (idsOf ps) k v) (v .ids)
+        (all-unmapped (λ (q : Path). q .ids) (λ (o : ℕ → ℕ). o k ≡ writes (idsOf ps) k v → ⊥) ps (writes-new (idsOf ps) k v)) h
 
-    off-claim : (k : ℕ) (v : View) → OffAll (v .ids) → OffAll (claim (idsOf ps) k v .ids)
-    unfolding claim
-    off-claim k v h = off-write k v h
+    off-claim : (j k : ℕ) (v : View) → OffAll (v .ids) → OffAll (claim (idsOf ps) j k v .ids)
+    off-claim j k v h = subst OffAll (sym (claim-ids (idsOf ps) k v j)) (off-write k v h)
 
     off-commit : (p : Path) (b : ℕ) (v : View) → OffAll (v .ids) → OffAll (commit B (idsOf ps) p b v .ids)
     unfolding commit putSums
@@ -116,26 +119,29 @@ module _ (B : Book) where
     unfolding putVals
     off-descend d m t v h = descend-keeps (idsOf ps) (λ w. OffAll (w .ids)) d m t v (λ k x w _ o. off-write k w o) h
 
-  claim-alone : (others : List (ℕ → ℕ)) (h : ℕ) (v : View) → Alone others h (claim others h v .ids)
-  unfolding claim
-  claim-alone others h v = writes-alone others h v
+  claim-alone : (others : List (ℕ → ℕ)) (j h : ℕ) (v : View) → Alone others h (claim others j h v .ids)
+  claim-alone others j h v = subst (Alone others h) (sym (claim-ids others h v j)) (writes-alone others h v)
 
   -- ---- one extraction
 
-  copyWith-solo : (D : ℕ) (A : Arrays) (p : Path) (b : ℕ) (ps : List Path) (n : ℕ) (o : Option Word) → p .blocks ≡ suc b → Solo (p ∷ ps) → Solo (p ∷ copyWith B D A p b ps n o .queue)
-  unfolding copyWith roomFor Solo All OffAll claim
+  copyWith-solo : (D : ℕ) (A : Arrays) (p : Path) (b : ℕ) (ps : List Path) (n : ℕ) (o : Option Word) → p .blocks ≡ suc b → Solo (p ∷ ps) →
+      Solo (p ∷ copyWith B D A p b ps n o .queue)
+  unfolding copyWith roomFor Solo All OffAll
   copyWith-solo D A p b ps n none e h = h
   copyWith-solo D A p b ps n (some y) e h =
       let left : List Path = take (D - 2) ps in
       let others : List (ℕ → ℕ) = p .ids ∷ idsOf left in
-      let v : View = claim others (place B b) (viewOf A p) in
-      let c : Path = record { number = n; blocks = suc b; spent = p .spent; cost = y .cost; setting = y .setting; earlier = p .earlier; parities = y .parities; ids = v .ids } in
-      let a : Alone others (place B b) (v .ids) = claim-alone others (place B b) (viewOf A p) in
+      let j : ℕ = blockAt B b .j in
+      let v : View = claim others j (place B b) (viewOf A p) in
+      let c : Path =
+      record { number = n; blocks = suc b; spent = p .spent; cost = y .cost; setting = y .setting; earlier = p .earlier; parities = y .parities; ids = v .ids } in
+      let a : Alone others (place B b) (v .ids) = claim-alone others j (place B b) (viewOf A p) in
       let rest : All (Apart p) left = all-take (Apart p) (D - 2) ps (h .0 .1) in
       let off : All (λ (q : Path). Off q (v .ids)) left =
-      off-new left (place B b) (writes others (place B b) (viewOf A p)) (p .ids)
+      subst (OffAll left) (sym (claim-ids others (place B b) (viewOf A p) j))
+      (off-new left (place B b) (writes others (place B b) (viewOf A p)) (p .ids)
       (all-unmapped (λ (q : Path). q .ids) (λ (o : ℕ → ℕ). o (place B b) ≡ writes others (place B b) (viewOf A p) → ⊥) left (writes-new others (place B b) (viewOf A p) .1))
-      (all-map (λ q k. k .two) left rest) in
+      (all-map (λ q k. k .two) left rest)) in
       let pc : Apart p c =
       record {
         one = λ d f z. a .1 .0 (subst (λ (x : ℕ). p .ids (place B x) ≡ v .ids (place B x)) (sym (suc-inj (sym e ∙ f))) (sym z));
@@ -148,7 +154,8 @@ module _ (B : Book) where
   copy-solo D A p ps n zero e h = h
   copy-solo D A p ps n (suc b) e h = copyWith-solo D A p b ps n _ e h
 
-  moveWith-solo : (A : Arrays) (p : Path) (v : View) (ps : List Path) (o : Option Word) → Solo (p ∷ ps) → Alone (idsOf ps) (place B (p .blocks)) (v .ids) → OffAll ps (v .ids) → Solo (moveWith A p v o .path ∷ ps)
+  moveWith-solo : (A : Arrays) (p : Path) (v : View) (ps : List Path) (o : Option Word) → Solo (p ∷ ps) →
+      Alone (idsOf ps) (place B (p .blocks)) (v .ids) → OffAll ps (v .ids) → Solo (moveWith A p v o .path ∷ ps)
   unfolding moveWith Solo OffAll
   moveWith-solo A p v ps none h a f = h
   moveWith-solo A p v ps (some y) h a f = (solo-of _ (p .blocks) ps refl a f, h .1)
@@ -156,8 +163,8 @@ module _ (B : Book) where
   move-solo : (A : Arrays) (p : Path) (ps : List Path) → Solo (p ∷ ps) → Solo (move B A p ps .path ∷ ps)
   unfolding move Solo OffAll
   move-solo A p ps h =
-      moveWith-solo A p _ ps _ h (claim-alone (idsOf ps) (place B (p .blocks)) _)
-      (off-claim ps (place B (p .blocks)) _ (off-descend ps _ _ _ _ (off-commit ps p (p .blocks) (viewOf A p) (all-map (λ q k. k .two) ps (h .0 .1)))))
+      moveWith-solo A p _ ps _ h (claim-alone (idsOf ps) (blockAt B (p .blocks) .j) (place B (p .blocks)) _)
+      (off-claim ps (blockAt B (p .blocks) .j) (place B (p .blocks)) _ (off-descend ps _ _ _ _ (off-commit ps p (p .blocks) (viewOf A p) (all-map (λ q k. k .two) ps (h .0 .1)))))
 
   module _ (L D : ℕ) where
     -- so it is at a moment, and once the copy is made
@@ -172,8 +179,10 @@ module _ (B : Book) where
     extract-solo : (t : Moment) → Lone t → Solo (extractAt B L D t .state .queue)
     unfolding extractAt extract copyAt staying ahead
     extract-solo t h =
-        let second = copyAt B D t in
-        let q : Solo (insert (keyOf B) (move B (second .arrays) (t .path) (second .queue) .path) (second .queue)) = solo-insert (move B (second .arrays) (t .path) (second .queue) .path) (second .queue) (move-solo (second .arrays) (t .path) (second .queue) (h .copied)) in
+        let second : Cut = copyAt B D t in
+        let third : Path = move B (second .arrays) (t .path) (second .queue) .path in
+        let q : Solo (insert (keyOf B) third (second .queue)) =
+        solo-insert third (second .queue) (move-solo (second .arrays) (t .path) (second .queue) (h .copied)) in
         cond-case Solo (eqb (getD (visit (t .state .visits) (t .path .blocks)) (t .path .blocks) 0) L) (λ _. solo-keep _ _ q) (λ _. q)
 
     taken-lone : (A : Arrays) (ps : List Path) (n : ℕ) (visits : List ℕ) → Solo ps → Taken Lone A ps n visits
@@ -191,15 +200,21 @@ module _ (B : Book) where
   -- ---- what follows
 
   -- the last word goes into the sums with no array taken
-  pub commit-takes-none : (A : Arrays) (p : Path) (ps : List Path) (b : ℕ) → p .blocks ≡ b → Solo (p ∷ ps) → commit B (idsOf ps) p b (viewOf A p) .ids ≡ p .ids
-  unfolding commit putSums Solo
-  commit-takes-none A p ps zero e h = refl
-  commit-takes-none A p ps (suc b) e h =
-      let a : Alone (idsOf ps) (place B b) (p .ids) = (h .0 .0 b e, all-mapped (λ (q : Path). q .ids) (λ (o : ℕ → ℕ). o (place B b) ≡ p .ids (place B b) → ⊥) ps (all-map (λ q k. k .one b e) ps (h .0 .1))) in
-      ap (upd (p .ids) (place B b)) (writes-keep (idsOf ps) (place B b) (viewOf A p) a) ∙ upd-self (p .ids) (place B b)
+  abbrev pub TakesNone : Arrays → Path → List Path → ℕ → Type 0
+  TakesNone A p ps b = commit B (idsOf ps) p b (viewOf A p) .ids ≡ p .ids
 
-  pub run-takes-none : (L D : ℕ) (A : Arrays) → All (λ (t : Moment). commit B (idsOf (copyAt B D t .queue)) (t .path) (t .path .blocks) (viewOf (copyAt B D t .arrays) (t .path)) .ids ≡ t .path .ids) (momentsOf B L D A)
-  run-takes-none L D A = all-map (λ t h. commit-takes-none (copyAt B D t .arrays) (t .path) (copyAt B D t .queue) (t .path .blocks) refl (h .copied)) (momentsOf B L D A) (run-lone L D A)
+  takes-none : (A : Arrays) (p : Path) (ps : List Path) (b : ℕ) → p .blocks ≡ b → Solo (p ∷ ps) → TakesNone A p ps b
+  unfolding commit putSums Solo
+  takes-none A p ps zero e h = refl
+  takes-none A p ps (suc b) e h =
+      let k : ℕ = place B b in
+      let others : All (λ (o : ℕ → ℕ). o k ≡ p .ids k → ⊥) (idsOf ps) =
+      all-mapped (λ (q : Path). q .ids) _ ps (all-map (λ q a. a .one b e) ps (h .0 .1)) in
+      ap (upd (p .ids) k) (writes-keep (idsOf ps) k (viewOf A p) (h .0 .0 b e, others)) ∙ upd-self (p .ids) k
+
+  pub run-takes-none : (L D : ℕ) (A : Arrays) →
+      All (λ (t : Moment). TakesNone (copyAt B D t .arrays) (t .path) (copyAt B D t .queue) (t .path .blocks)) (momentsOf B L D A)
+  run-takes-none L D A = all-map (λ t h. takes-none _ (t .path) _ _ refl (h .copied)) (momentsOf B L D A) (run-lone L D A)
 
 -- a descent takes no array at or above where it starts
 descend-top : (others : List (ℕ → ℕ)) (d m t : ℕ) (v : View) (h : ℕ) → m ≤ h → descend others d m t v .ids h ≡ v .ids h
@@ -208,19 +223,22 @@ descend-top others d m t v h l =
     descend-keeps others (λ w. w .ids h ≡ v .ids h) d m t v (λ k x w b e. upd-other (w .ids) k (writes others k w) h (λ z. omega arith) ∙ e) refl
 
 -- nor at the turn, where it writes to an array that the path holds alone (the P line)
-pub descend-takes-below : (others : List (ℕ → ℕ)) (d m t : ℕ) (v : View) (h : ℕ) → 0 < t → t < 2 ^ m → turn m t ≤ h → Alone others (turn m t) (v .ids) → descend others d m t v .ids h ≡ v .ids h
+pub descend-takes-below : (others : List (ℕ → ℕ)) (d m t : ℕ) (v : View) (h : ℕ) → 0 < t → t < 2 ^ m → turn m t ≤ h →
+    Alone others (turn m t) (v .ids) → descend others d m t v .ids h ≡ v .ids h
 unfolding descend putVals
 descend-takes-below others zero m t v h p lt l a = refl
 descend-takes-below others (suc d) zero t v h p lt l a = refl
 descend-takes-below others (suc d) (suc m) t v h p lt l a =
-    go (eqb (rest m t) 0) refl (child m t (sumsOf v m) (valsOf v (suc m))) (λ q k b. descend-takes-below others d m (rest m t) v h q (rest-less m t lt) k b)
+    go (eqb (rest m t) 0) refl (child m t (sumsOf v m) (valsOf v (suc m)))
+    (λ q k b. descend-takes-below others d m (rest m t) v h q (rest-less m t lt) k b)
   where
     -- a node that starts at t is a last half
     late : rest m t ≡ 0 → (t < 2 ^ m) ⊎ (2 ^ m ≤ t) → 2 ^ m ≤ t
     late z (inl x) = absurd (omega (arith, rest-low m t x))
     late z (inr x) = x
 
-    go : (b : Bool) → eqb (rest m t) 0 ≡ b → (x : List ℤ) → (0 < rest m t → turn m (rest m t) ≤ h → Alone others (turn m (rest m t)) (v .ids) → descend others d m (rest m t) v .ids h ≡ v .ids h) →
+    go : (b : Bool) → eqb (rest m t) 0 ≡ b → (x : List ℤ) →
+        (0 < rest m t → turn m (rest m t) ≤ h → Alone others (turn m (rest m t)) (v .ids) → descend others d m (rest m t) v .ids h ≡ v .ids h) →
         descend others d m (rest m t) (cond b (putVals others m x v) v) .ids h ≡ v .ids h
     go true e x ih =
         let z : rest m t ≡ 0 = eqb-true (rest m t) 0 e in

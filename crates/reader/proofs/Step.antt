@@ -23,18 +23,18 @@ use Rattle.machine.specs.Queue.{Key, insert, ahead, behind, numbers, roomFor, c
 use Rattle.machine.specs.Words as MW
 use Rattle.machine.specs.Words.{Ranked, rank}
 use Rattle.machine.specs.Machine as M
-use Rattle.reader.specs.Arrays.{Arrays, View, valsOf, sumsOf, claim, descend}
+use Rattle.reader.specs.Arrays.{Arrays, View, valsOf, sumsOf, writes, claim, descend}
 use Rattle.codec.specs.Ties.{Parities}
 use Rattle.outer.specs.Words as RW
 use Rattle.outer.specs.Words.{Word}
 use Rattle.reader.specs.Paths.{Path, keyOf, scoreOf, ownWord, place, idsOf, viewOf}
 use Rattle.reader.specs.Reader as R
 use Rattle.reader.specs.Reader.{Moved, commit}
-use Rattle.reader.proofs.Tree.{Vals, Sums, vals-node, vals-same, sums-same, sums-root, sums-unroot}
+use Rattle.reader.proofs.Tree.{Vals, Sums, vals-node, vals-same, sums-same, sums-root, sums-unroot, root-turn}
 use Rattle.codec.proofs.Ties.{paritiesOf}
 use Rattle.outer.proofs.Blocks.{Placed, placed, start-less}
 use Rattle.outer.proofs.Words.{Matches, nearer-matches, nearest-matches}
-use Rattle.reader.proofs.Arrays.{Sees, sees-same, Kept, kept-on, claim-kept, claim-vals, claim-sums, descend-kept, descend-above, descend-good}
+use Rattle.reader.proofs.Arrays.{Sees, sees-same, Kept, kept-on, claim-kept, claim-vals, claim-own, claim-sums, descend-kept, descend-above, descend-good}
 use Rattle.reader.proofs.Good.{Good, Inv, Holds, plain, StandsFor, holds-frame, stands-frame, Sized, sized, plain-path, own-matches, commit-kept, Ready, ready, enter}
 use Rattle.reader.proofs.Queue.{insert-paired, ahead-paired, behind-paired, numbers-paired}
 
@@ -57,7 +57,8 @@ pub record StepIs (B : Book) (ys : List ℤ) (x : M.Extracted) (x′ : R.Extract
 
 module _ (B : Book) (ys : List ℤ) (ok : Valid B) (ly : length ys ≡ 2 ^ (B .m)) where
   -- a path that is good for its last block stands for the machine's
-  stands : (A : Arrays) (u : List ℕ) (p : Path) (b : ℕ) → p .blocks ≡ suc b → p .parities ≡ paritiesOf B u → Good B ys (viewOf A p) u p b → StandsFor B ys A (M.path B ys (p .number) (p .blocks) u) p
+  stands : (A : Arrays) (u : List ℕ) (p : Path) (b : ℕ) → p .blocks ≡ suc b → p .parities ≡ paritiesOf B u → Good B ys (viewOf A p) u p b →
+      StandsFor B ys A (M.path B ys (p .number) (p .blocks) u) p
   unfolding M.path Inv
   stands A u p b e f g =
       let i : Inv B ys (viewOf A p) u p (p .blocks) = subst (Inv B ys (viewOf A p) u p) (sym e) g in
@@ -76,9 +77,10 @@ module _ (B : Book) (ys : List ℤ) (ok : Valid B) (ly : length ys ≡ 2 ^ (B .m
     sees : Sees A (c′ .arrays) (p .ids)
 
   module _ (D : ℕ) (A : Arrays) (u : List ℕ) (p : Path) (qs : List M.Path) (ps : List Path) (n : ℕ) (hs : Paired (StandsFor B ys A) qs ps) where
-    copyWith-is : (b : ℕ) (o : Option Ranked) (o′ : Option Word) → Good B ys (viewOf A p) u p b → MayPair (Matches B ys (take (startOf (B .blocks) b) u) b) o o′ →
+    copyWith-is : (b : ℕ) (o : Option Ranked) (o′ : Option Word) → Good B ys (viewOf A p) u p b →
+        MayPair (Matches B ys (take (startOf (B .blocks) b) u) b) o o′ →
         CopyIs A p (M.cut D qs n (M.copyWith B ys n (suc b) o)) (R.copyWith B D A p b ps n o′)
-    unfolding M.cut M.copyWith R.copyWith MayPair All roomFor crowdedOut
+    unfolding M.cut M.copyWith R.copyWith MayPair All roomFor crowdedOut place
     copyWith-is b none none g k = record { queue = hs; next = refl; crowded = refl; sees = sees-same A (p .ids) }
     copyWith-is b none (some y) g k = absurd k
     copyWith-is b (some x) none g k = absurd k
@@ -89,33 +91,41 @@ module _ (B : Book) (ys : List ℤ) (ok : Valid B) (ly : length ys ≡ 2 ^ (B .m
         let u′ : List ℕ = take s u in
         let left : List Path = take (D - 2) ps in
         let others : List (ℕ → ℕ) = p .ids ∷ idsOf left in
-        let v : View = claim others (place B b) (viewOf A p) in
-        let kept : Kept others A (v .arrays) = claim-kept others (place B b) (viewOf A p) in
-        let vals : valsOf v ≡ valsOf (viewOf A p) = claim-vals others (place B b) (viewOf A p) in
-        let sums : sumsOf v ≡ sumsOf (viewOf A p) = claim-sums others (place B b) (viewOf A p) in
-        let c : Path = record { number = n; blocks = suc b; spent = p .spent; cost = y .cost; setting = y .setting; earlier = p .earlier; parities = y .parities; ids = v .ids } in
+        let v₀ : View = viewOf A p in
+        let v : View = claim others j (place B b) v₀ in
+        let kept : Kept others A (v .arrays) = claim-kept others (place B b) v₀ j in
+        let lost : List ℕ = A .sums (place B b) (writes others (place B b) v₀) in
+        let o : Placed B b = placed B ok b (g .within) in
+        let c : Path =
+        record { number = n; blocks = suc b; spent = p .spent; cost = y .cost; setting = y .setting; earlier = p .earlier; parities = y .parities; ids = v .ids } in
         let same : Same s u u′ = sym (take-take s s u (omega arith)) in
         let good : Good B ys v (x .bits) c b =
-        enter B ys ok v b u′ x y c (g .within) ly (length-take-le s u (omega (arith, g .size))) (all-take Bit s u (g .bits))
-        (ap (λ f. f m) vals ∙ g .root)
-        (subst (Vals (m - j) m ys u′ s) (sym vals) (vals-same (m - j) m ys u u′ s (valsOf (viewOf A p)) same (g .vals)))
-        (subst (Sums (suc m) u′ s) (sym sums) (sums-same (suc m) u u′ s (sumsOf (viewOf A p)) same (g .sums)))
+        enter B ys ok v (g .way) b u′ x y c (g .within) ly (length-take-le s u (omega (arith, g .size))) (all-take Bit s u (g .bits))
+        (g .root)
+        (vals-same (m - j) m ys u u′ s (g .way) same (g .vals))
+        (λ i n. claim-vals others (place B b) v₀ j i n ∙ g .same i n)
+        (claim-own others (place B b) v₀ j ∙ g .own)
+        (subst (Sums (suc m) u′ s) (sym (claim-sums others (place B b) v₀ j))
+        (root-turn (m - j) j m s (o .small) (o .starts) u′ (sumsOf v₀) lost (sums-same (suc m) u u′ s (sumsOf v₀) same (g .sums))))
         k
         (g .spent ∙ costs-same m ys u u′ 0 s s (omega arith) same)
         (g .earlier) refl refl in
         let rest : Paired (StandsFor B ys (v .arrays)) (take (D - 2) qs) left =
-        paired-with (λ q r. stands-frame B ys A (v .arrays) q r) (take (D - 2) qs) left (all-unmapped (λ (r : Path). r .ids) (Sees A (v .arrays)) left (kept .1))
+        paired-with (λ q r. stands-frame B ys A (v .arrays) q r) (take (D - 2) qs) left
+        (all-unmapped (λ (r : Path). r .ids) (Sees A (v .arrays)) left (kept .1))
         (paired-take (StandsFor B ys A) (D - 2) qs ps hs) in
         record {
           queue =
-              insert-paired M.keyOf (keyOf B) (StandsFor B ys (v .arrays)) (stands-key B ys (v .arrays)) (M.path B ys n (suc b) (x .bits)) c (take (D - 2) qs) left
+              insert-paired M.keyOf (keyOf B) (StandsFor B ys (v .arrays)) (stands-key B ys (v .arrays)) (M.path B ys n (suc b) (x .bits)) c
+              (take (D - 2) qs) left
               (stands (v .arrays) (x .bits) c b refl (k .parities) good) rest;
           next = refl;
           crowded = numbers-paired M.keyOf (keyOf B) (StandsFor B ys A) (stands-key B ys A) _ _ (paired-drop (StandsFor B ys A) (D - 2) qs ps hs);
           sees = kept .0;
         }
 
-    copy-is : (b : ℕ) → p .parities ≡ paritiesOf B u → Inv B ys (viewOf A p) u p b → CopyIs A p (M.cut D qs n (M.copyOf B ys n b u)) (R.copy B D A p ps n b)
+    copy-is : (b : ℕ) → p .parities ≡ paritiesOf B u → Inv B ys (viewOf A p) u p b →
+        CopyIs A p (M.cut D qs n (M.copyOf B ys n b u)) (R.copy B D A p ps n b)
     unfolding M.cut M.copyOf R.copy Inv MW.nextAfter RW.nextAfter
     copy-is zero e g = record { queue = hs; next = refl; crowded = refl; sees = sees-same A (p .ids) }
     copy-is (suc b) e g =
@@ -126,12 +136,14 @@ module _ (B : Book) (ys : List ℤ) (ok : Valid B) (ly : length ys ≡ 2 ^ (B .m
         let o : Placed B b = placed B ok b (g .within) in
         let v : View = viewOf A p in
         let at : valsOf v j ≡ node (m - j) m ys u′ s =
-        vals-node (m - j) j m ys u s (valsOf v) (o .small) (g .root) (g .vals) ∙ node-same (m - j) m ys u u′ s (sym (take-take s s u (omega arith))) in
+        g .own ∙ vals-node (m - j) j m ys u s (g .way) (o .small) (g .root) (g .vals)
+        ∙ node-same (m - j) m ys u u′ s (sym (take-take s s u (omega arith))) in
         let own : Matches B ys u′ b (rank B ys b u) (ownWord B p b) = own-matches B ys v u p b g e in
         let next : Option Ranked = MW.nextAfter B ys u b in
         let next′ : Parities → Option Word = λ x. RW.nextAfter (ownWord B p b) B (valsOf v j) x b in
         let found : MayPair (Matches B ys u′ b) next (next′ (paritiesOf B u′)) =
-        nearest-matches B ys u′ b o ly (length-take-le s u (omega (arith, g .size))) (all-take Bit s u (g .bits)) (valsOf v j) at (MW.nearer (rank B ys b u)) (RW.nearer (ownWord B p b))
+        nearest-matches B ys u′ b o ly (length-take-le s u (omega (arith, g .size))) (all-take Bit s u (g .bits)) (valsOf v j) at
+        (MW.nearer (rank B ys b u)) (RW.nearer (ownWord B p b))
         (λ x y k. nearer-matches B ys u′ b (rank B ys b u) x (ownWord B p b) y own k) in
         copyWith-is b next (next′ (p .earlier)) g (subst (λ x. MayPair (Matches B ys u′ b) next (next′ x)) (sym (g .earlier)) found)
 
@@ -142,57 +154,67 @@ module _ (B : Book) (ys : List ℤ) (ok : Valid B) (ly : length ys ≡ 2 ^ (B .m
     queue : Paired (StandsFor B ys (x .arrays)) qs ps
     path : StandsFor B ys (x .arrays) q (x .path)
 
-  module _ (A : Arrays) (u : List ℕ) (p : Path) (qs : List M.Path) (ps : List Path) (hs : Paired (StandsFor B ys A) qs ps) (h : Holds B ys A u p) (l : p .blocks < length (B .blocks)) where
-    now : Sized B ys u p (p .blocks)
-    now = sized B ys (viewOf A p) u p ok (p .blocks) (h .inv)
+  module _ (A : Arrays) (u : List ℕ) (p : Path) (qs : List M.Path) (ps : List Path) where
+    module _ (hs : Paired (StandsFor B ys A) qs ps) (h : Holds B ys A u p) (l : p .blocks < length (B .blocks)) where
+      now : Sized B ys u p (p .blocks)
+      now = sized B ys (viewOf A p) u p ok (p .blocks) (h .inv)
 
-    moveWith-is : (v : View) (o : Option Ranked) (o′ : Option Word) → Kept (idsOf ps) A (v .arrays) → valsOf v (B .m) ≡ ys →
-        Vals (B .m - blockAt B (p .blocks) .j) (B .m) ys u (startOf (B .blocks) (p .blocks)) (valsOf v) → Sums (suc (B .m)) u (startOf (B .blocks) (p .blocks)) (sumsOf v) →
-        MayPair (Matches B ys u (p .blocks)) o o′ → MoveIs qs ps (M.advanceWith B ys (plain B p u) o) (R.moveWith A p v o′)
-    unfolding M.advanceWith R.moveWith MayPair plain now
-    moveWith-is v none none kept root vals sums k = record { queue = hs; path = record { same = refl; holds = h } }
-    moveWith-is v none (some y) kept root vals sums k = absurd k
-    moveWith-is v (some x) none kept root vals sums k = absurd k
-    moveWith-is v (some x) (some y) kept root vals sums k =
-        let b : ℕ = p .blocks in
-        let c : Path =
-        record { number = p .number; blocks = suc b; spent = p .spent + p .cost; cost = y .cost; setting = y .setting; earlier = p .parities; parities = y .parities; ids = v .ids } in
-        let good : Good B ys v (x .bits) c b =
-        enter B ys ok v b u x y c l ly (now .size) (now .bits) root vals sums k (now .total ∙ ap (costs (B .m) ys u 0) (now .size)) (h .parities) refl refl in
-        record {
-          queue = paired-with (λ q r. stands-frame B ys A (v .arrays) q r) qs ps (all-unmapped (λ (r : Path). r .ids) (Sees A (v .arrays)) ps kept) hs;
-          path = stands (v .arrays) (x .bits) c b refl (k .parities) good;
-        }
+      moveWith-is : (v : View) (way : ℕ → List ℤ) (o : Option Ranked) (o′ : Option Word) → Kept (idsOf ps) A (v .arrays) → way (B .m) ≡ ys →
+          Vals (B .m - blockAt B (p .blocks) .j) (B .m) ys u (startOf (B .blocks) (p .blocks)) way →
+          ((k : ℕ) → (k ≡ place B (p .blocks) → ⊥) → valsOf v k ≡ way k) → valsOf v (blockAt B (p .blocks) .j) ≡ way (blockAt B (p .blocks) .j) →
+          Sums (suc (B .m)) u (startOf (B .blocks) (p .blocks)) (sumsOf v) →
+          MayPair (Matches B ys u (p .blocks)) o o′ → MoveIs qs ps (M.advanceWith B ys (plain B p u) o) (R.moveWith A p v o′)
+      unfolding M.advanceWith R.moveWith MayPair plain now
+      moveWith-is v way none none kept root vals same own sums k = record { queue = hs; path = record { same = refl; holds = h } }
+      moveWith-is v way none (some y) kept root vals same own sums k = absurd k
+      moveWith-is v way (some x) none kept root vals same own sums k = absurd k
+      moveWith-is v way (some x) (some y) kept root vals same own sums k =
+          let b : ℕ = p .blocks in
+          let c : Path =
+          record { number = p .number; blocks = suc b; spent = p .spent + p .cost; cost = y .cost; setting = y .setting; earlier = p .parities; parities = y .parities; ids = v .ids } in
+          let good : Good B ys v (x .bits) c b =
+          enter B ys ok v way b u x y c l ly (now .size) (now .bits) root vals same own sums k (now .total ∙ ap (costs (B .m) ys u 0) (now .size))
+          (h .parities) refl refl in
+          record {
+            queue =
+                paired-with (λ q r. stands-frame B ys A (v .arrays) q r) qs ps (all-unmapped (λ (r : Path). r .ids) (Sees A (v .arrays)) ps kept) hs;
+            path = stands (v .arrays) (x .bits) c b refl (k .parities) good;
+          }
 
-    move-is : MoveIs qs ps (M.advance B ys (plain B p u)) (R.move B A p ps)
-    unfolding M.advance R.move MW.nearest RW.nearest plain now
-    move-is =
-        let b : ℕ = p .blocks in
-        let j : ℕ = blockAt B b .j in
-        let m : ℕ = B .m in
-        let d : ℕ = m - j in
-        let t : ℕ = startOf (B .blocks) b in
-        let o : Placed B b = placed B ok b l in
-        let others : List (ℕ → ℕ) = idsOf ps in
-        let v₁ : View = commit B others p b (viewOf A p) in
-        let v₂ : View = descend others d m t v₁ in
-        let v : View = claim others (place B b) v₂ in
-        let r : Ready B ys others u b v₁ = ready B ys ok others u p b (viewOf A p) (h .inv) in
-        let lt : t < 2 ^ m = start-less B ok b l in
-        let down = descend-good others d m ys u t v₁ lt (r .root l) (r .prior l d) (sums-root m u t (sumsOf v₁) lt (r .sums)) (r .alone l) in
-        let sameVals : valsOf v ≡ valsOf v₂ = claim-vals others (place B b) v₂ in
-        let vals : Vals d m ys u t (valsOf v) = subst (Vals d m ys u t) (sym sameVals) (down .0) in
-        let sums : Sums (suc m) u t (sumsOf v) = subst (Sums (suc m) u t) (sym (claim-sums others (place B b) v₂)) (sums-unroot m u t (sumsOf v₂) lt (down .1)) in
-        let root : valsOf v m ≡ ys = ap (λ f. f m) sameVals ∙ descend-above others d m t v₁ m (omega arith) .0 ∙ r .root l in
-        let kept : Kept others A (v .arrays) =
-        kept-on others A (v₂ .arrays) (v .arrays)
-        (kept-on others A (v₁ .arrays) (v₂ .arrays) (commit-kept B others p b (viewOf A p)) (descend-kept others d m t v₁))
-        (claim-kept others (place B b) v₂) in
-        let near : Option Ranked = MW.nearest B ys u b in
-        let near′ : Parities → Option Word = λ x. RW.nearest B (valsOf v j) x b in
-        let found : MayPair (Matches B ys u b) near (near′ (paritiesOf B u)) =
-        nearest-matches B ys u b o ly (now .size) (now .bits) (valsOf v j) (vals-node d j m ys u t (valsOf v) (o .small) root vals) (λ _. true) (λ _. true) (λ _ _ _. refl) in
-        moveWith-is v near (near′ (p .parities)) kept root vals sums (subst (λ x. MayPair (Matches B ys u b) near (near′ x)) (sym (h .parities)) found)
+      move-is : MoveIs qs ps (M.advance B ys (plain B p u)) (R.move B A p ps)
+      unfolding M.advance R.move MW.nearest RW.nearest plain now place
+      move-is =
+          let b : ℕ = p .blocks in
+          let j : ℕ = blockAt B b .j in
+          let m : ℕ = B .m in
+          let d : ℕ = m - j in
+          let t : ℕ = startOf (B .blocks) b in
+          let o : Placed B b = placed B ok b l in
+          let others : List (ℕ → ℕ) = idsOf ps in
+          let v₁ : View = commit B others p b (viewOf A p) in
+          let v₂ : View = descend others d m t v₁ in
+          let v : View = claim others j (place B b) v₂ in
+          let r : Ready B ys others u b v₁ = ready B ys ok others u p b (viewOf A p) (h .inv) in
+          let lt : t < 2 ^ m = start-less B ok b l in
+          let down = descend-good others d m ys u t v₁ lt (r .root l) (r .prior l d) (sums-root m u t (sumsOf v₁) lt (r .sums)) (r .alone l) in
+          let root : valsOf v₂ m ≡ ys = descend-above others d m t v₁ m (omega arith) .0 ∙ r .root l in
+          let lost : List ℕ = v₂ .arrays .sums (place B b) (writes others (place B b) v₂) in
+          let sums : Sums (suc m) u t (sumsOf v) =
+          subst (Sums (suc m) u t) (sym (claim-sums others (place B b) v₂ j))
+          (root-turn d j m t (o .small) (o .starts) u (sumsOf v₂) lost (sums-unroot m u t (sumsOf v₂) lt (down .1))) in
+          let own : valsOf v j ≡ valsOf v₂ j = claim-own others (place B b) v₂ j in
+          let kept : Kept others A (v .arrays) =
+          kept-on others A (v₂ .arrays) (v .arrays)
+          (kept-on others A (v₁ .arrays) (v₂ .arrays) (commit-kept B others p b (viewOf A p)) (descend-kept others d m t v₁))
+          (claim-kept others (place B b) v₂ j) in
+          let near : Option Ranked = MW.nearest B ys u b in
+          let near′ : Parities → Option Word = λ x. RW.nearest B (valsOf v j) x b in
+          let found : MayPair (Matches B ys u b) near (near′ (paritiesOf B u)) =
+          nearest-matches B ys u b o ly (now .size) (now .bits) (valsOf v j) (own ∙ vals-node d j m ys u t (valsOf v₂) (o .small) root (down .0))
+          (λ _. true)
+          (λ _. true) (λ _ _ _. refl) in
+          moveWith-is v (valsOf v₂) near (near′ (p .parities)) kept root (down .0) (claim-vals others (place B b) v₂ j) own sums
+          (subst (λ x. MayPair (Matches B ys u b) near (near′ x)) (sym (h .parities)) found)
 
   -- ---- step 4, and the whole extraction
 
@@ -213,7 +235,8 @@ module _ (B : Book) (ys : List ℤ) (ok : Valid B) (ly : length ys ≡ 2 ^ (B .m
         go true = behind-paired M.keyOf (keyOf B) (StandsFor B ys A) (stands-key B ys A) b qs ps hs
         go false = unfold Paired in tt
 
-  extract-plain : (L D : ℕ) (A : Arrays) (u : List ℕ) (p : Path) (qs : List M.Path) (ps : List Path) (n : ℕ) (visits : List ℕ) → Holds B ys A u p → Paired (StandsFor B ys A) qs ps → p .blocks < length (B .blocks) →
+  extract-plain : (L D : ℕ) (A : Arrays) (u : List ℕ) (p : Path) (qs : List M.Path) (ps : List Path) (n : ℕ) (visits : List ℕ) → Holds B ys A u p →
+      Paired (StandsFor B ys A) qs ps → p .blocks < length (B .blocks) →
       StepIs B ys (M.extract B L D ys (plain B p u) qs n visits) (R.extract B L D A p ps n visits)
   unfolding M.extract R.extract plain
   extract-plain L D A u p qs ps n visits h hs l =
@@ -223,9 +246,11 @@ module _ (B : Book) (ys : List ℤ) (ok : Valid B) (ly : length ys ≡ 2 ^ (B .m
       let i : CopyIs A p c c′ = copy-is D A u p qs ps n hs b (h .parities) (h .inv) in
       let q : M.Path = M.advance B ys (plain B p u) in
       let x : Moved = R.move B (c′ .arrays) p (c′ .queue) in
-      let k : MoveIs (c .queue) (c′ .queue) q x = move-is (c′ .arrays) u p (c .queue) (c′ .queue) (i .queue) (holds-frame B ys A (c′ .arrays) u p (i .sees) h) l in
+      let k : MoveIs (c .queue) (c′ .queue) q x =
+      move-is (c′ .arrays) u p (c .queue) (c′ .queue) (i .queue) (holds-frame B ys A (c′ .arrays) u p (i .sees) h) l in
       let queued : Paired (StandsFor B ys (x .arrays)) (insert M.keyOf q (c .queue)) (insert (keyOf B) (x .path) (c′ .queue)) =
-      insert-paired M.keyOf (keyOf B) (StandsFor B ys (x .arrays)) (stands-key B ys (x .arrays)) q (x .path) (c .queue) (c′ .queue) (k .path) (k .queue) in
+      insert-paired M.keyOf (keyOf B) (StandsFor B ys (x .arrays)) (stands-key B ys (x .arrays)) q (x .path) (c .queue) (c′ .queue) (k .path)
+      (k .queue) in
       record {
         queue = staying-is (x .arrays) L b (visit visits b) _ _ queued;
         next = i .next;
@@ -236,7 +261,8 @@ module _ (B : Book) (ys : List ℤ) (ok : Valid B) (ly : length ys ≡ 2 ^ (B .m
       }
 
   -- of a path that has not all blocks
-  pub extract-is : (L D : ℕ) (A : Arrays) (q : M.Path) (p : Path) (qs : List M.Path) (ps : List Path) (n : ℕ) (visits : List ℕ) → StandsFor B ys A q p → Paired (StandsFor B ys A) qs ps → (q .blocks ≡ length (B .blocks) → ⊥) →
+  pub extract-is : (L D : ℕ) (A : Arrays) (q : M.Path) (p : Path) (qs : List M.Path) (ps : List Path) (n : ℕ) (visits : List ℕ) →
+      StandsFor B ys A q p → Paired (StandsFor B ys A) qs ps → (q .blocks ≡ length (B .blocks) → ⊥) →
       StepIs B ys (M.extract B L D ys q qs n visits) (R.extract B L D A p ps n visits)
   extract-is L D A q p qs ps n visits h hs ne =
       let z : Sized B ys (q .bits) p (p .blocks) = sized B ys (viewOf A p) (q .bits) p ok (p .blocks) (h .holds .inv) in

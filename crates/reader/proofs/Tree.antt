@@ -37,7 +37,8 @@ Vals (suc d) (suc m) ys u t S = (S m ≡ child m t (first m u) ys) × Vals d m (
 unfoldable pub Prior : ℕ → ℕ → List ℤ → List ℕ → ℕ → (ℕ → List ℤ) → Type 0
 Prior zero m ys u t S = Unit {0}
 Prior (suc d) zero ys u t S = Unit {0}
-Prior (suc d) (suc m) ys u t S = ((rest m t ≡ 0 → ⊥) → S m ≡ child m t (first m u) ys) × Prior d m (child m t (first m u) ys) (restBits m t u) (rest m t) S
+Prior (suc d) (suc m) ys u t S =
+    ((rest m t ≡ 0 → ⊥) → S m ≡ child m t (first m u) ys) × Prior d m (child m t (first m u) ys) (restBits m t u) (rest m t) S
 
 -- C holds the words of the first halves that lie before t
 unfoldable pub Sums : ℕ → List ℕ → ℕ → (ℕ → List ℕ) → Type 0
@@ -60,7 +61,8 @@ vals-same (suc d) zero ys u v t S e h = tt
 vals-same (suc d) (suc m) ys u v t S e h =
     let c = same-child m t u v ys e in (
       h .0 ∙ c,
-      subst (λ zs. Vals d m zs (restBits m t v) (rest m t) S) c (vals-same d m (child m t (first m u) ys) (restBits m t u) (restBits m t v) (rest m t) S (same-rest m t u v e) (h .1)),
+      subst (λ zs. Vals d m zs (restBits m t v) (rest m t) S) c
+          (vals-same d m (child m t (first m u) ys) (restBits m t u) (restBits m t v) (rest m t) S (same-rest m t u v e) (h .1)),
     )
 
 pub sums-same : (m : ℕ) (u v : List ℕ) (t : ℕ) (C : ℕ → List ℕ) → Same t u v → Sums m u t C → Sums m v t C
@@ -156,7 +158,8 @@ turn-less (suc m) t p l = go (lt-or t (2 ^ m)) (decLt 0 (rest m t)) (turn-less m
     go (inr x) (no z) ih = omega (arith, turn-high m t x (omega arith))
 
 -- the values that the block at t finds are not at the turn
-pub prior-turn : (k m : ℕ) (ys : List ℤ) (u : List ℕ) (t : ℕ) (S : ℕ → List ℤ) (x : List ℤ) → 0 < t → t < 2 ^ m → Prior k m ys u t S → Prior k m ys u t (upd S (turn m t) x)
+pub prior-turn : (k m : ℕ) (ys : List ℤ) (u : List ℕ) (t : ℕ) (S : ℕ → List ℤ) (x : List ℤ) → 0 < t → t < 2 ^ m → Prior k m ys u t S →
+    Prior k m ys u t (upd S (turn m t) x)
 unfolding Prior
 prior-turn zero m ys u t S x p l h = tt
 prior-turn (suc k) zero ys u t S x p l h = tt
@@ -165,7 +168,8 @@ prior-turn (suc k) (suc m) ys u t S x p l h =
   where
     go : Dec (0 < rest m t)
         → (0 < rest m t → rest m t < 2 ^ m → Prior k m (child m t (first m u) ys) (restBits m t u) (rest m t) (upd S (turn m (rest m t)) x))
-        → ((rest m t ≡ 0 → ⊥) → upd S (turn (suc m) t) x m ≡ child m t (first m u) ys) × Prior k m (child m t (first m u) ys) (restBits m t u) (rest m t) (upd S (turn (suc m) t) x)
+        → ((rest m t ≡ 0 → ⊥) → upd S (turn (suc m) t) x m ≡ child m t (first m u) ys)
+        × Prior k m (child m t (first m u) ys) (restBits m t u) (rest m t) (upd S (turn (suc m) t) x)
     go (yes z) ih =
         let e : turn (suc m) t ≡ turn m (rest m t) = turn-past m t (λ f. omega arith) in
         let q : turn m (rest m t) < m = turn-less m (rest m t) z (rest-less m t l) in (
@@ -183,7 +187,8 @@ abbrev JoinedAt : ℕ → ℕ → List ℕ → ℕ → (ℕ → List ℕ) → Li
 JoinedAt j m u t C w = Sums m u t (upd C (turn m t) (joined C j (turn m t - j) w))
 
 -- the block ends inside the node, or with it: then the word joined up to the node is the node's
-join : (d j m : ℕ) (u : List ℕ) (s t : ℕ) (C : ℕ → List ℕ) (w : List ℕ) → m ≡ d + j → Starts d m s → t ≡ s + 2 ^ j → length u ≡ t → w ≡ transform j (drop s u) → Sums m u s C →
+join : (d j m : ℕ) (u : List ℕ) (s t : ℕ) (C : ℕ → List ℕ) (w : List ℕ) → m ≡ d + j → Starts d m s → t ≡ s + 2 ^ j → length u ≡ t →
+    w ≡ transform j (drop s u) → Sums m u s C →
     (t < 2 ^ m → JoinedAt j m u t C w) × (t ≡ 2 ^ m → joined C j d w ≡ transform m u)
 unfolding Sums Starts joined
 join zero j m u s t C w e b f g h q =
@@ -201,17 +206,20 @@ join (suc d) j (suc m) u s t C w e b f g h q = go (lt-or s (2 ^ m)) (λ v s′ t
     put y = upd C y (joined C j (y - j) w)
 
     -- in the first half: the block ends inside it, or with it
-    low : (t < 2 ^ m) ⊎ (2 ^ m ≤ t) → t ≤ 2 ^ m → (t < 2 ^ m → JoinedAt j m u t C w) × (t ≡ 2 ^ m → joined C j d w ≡ transform m u) → JoinedAt j (suc m) u t C w
+    low : (t < 2 ^ m) ⊎ (2 ^ m ≤ t) → t ≤ 2 ^ m → (t < 2 ^ m → JoinedAt j m u t C w) × (t ≡ 2 ^ m → joined C j d w ≡ transform m u) →
+        JoinedAt j (suc m) u t C w
     low (inl y) le k =
         subst (λ (z : ℕ). Sums (suc m) u t (put z)) (sym (turn-low m t y)) (
           λ n. absurd (omega arith),
-          subst (λ (z : ℕ). Sums m (restBits m t u) z (put (turn m t))) (sym (rest-low m t y)) (subst (λ (v : List ℕ). Sums m v t (put (turn m t))) (sym (restBits-low m t u y)) (k .0 y)),
+          subst (λ (z : ℕ). Sums m (restBits m t u) z (put (turn m t))) (sym (rest-low m t y))
+              (subst (λ (v : List ℕ). Sums m v t (put (turn m t))) (sym (restBits-low m t u y)) (k .0 y)),
         )
     low (inr y) le k =
         let z : rest m t ≡ 0 = rest-high m t y ∙ omega arith in
         let n : m - j ≡ d = omega arith in
         subst (λ (z : ℕ). Sums (suc m) u t (put z)) (sym (turn-high m t y z)) (
-          λ _. upd-same C m (joined C j (m - j) w) ∙ ap (λ i. joined C j i w) n ∙ k .1 (omega arith) ∙ ap (transform m) (sym (take-all (2 ^ m) u (omega arith))),
+          λ _. upd-same C m (joined C j (m - j) w) ∙ ap (λ i. joined C j i w) n ∙ k .1 (omega arith)
+              ∙ ap (transform m) (sym (take-all (2 ^ m) u (omega arith))),
           sums-zero m (restBits m t u) (rest m t) (put m) z,
         )
 
@@ -226,7 +234,8 @@ join (suc d) j (suc m) u s t C w e b f g h q = go (lt-or s (2 ^ m)) (λ v s′ t
         let y : turn (suc m) t ≡ turn m t′ = turn-past m t (λ z. omega arith) ∙ ap (turn m) r in
         subst (λ (z : ℕ). Sums (suc m) u t (put z)) (sym y) (
           λ _. upd-other C (turn m t′) (joined C j (turn m t′ - j) w) m (λ z. omega (arith, turn-less m t′ p l′)) ∙ q .0 x,
-          subst (λ (z : ℕ). Sums m (restBits m t u) z (put (turn m t′))) (sym r) (subst (λ (v : List ℕ). Sums m v t′ (put (turn m t′))) (sym (restBits-high m t u le)) k),
+          subst (λ (z : ℕ). Sums m (restBits m t u) z (put (turn m t′))) (sym r)
+              (subst (λ (v : List ℕ). Sums m v t′ (put (turn m t′))) (sym (restBits-high m t u le)) k),
         )
 
     go : (s < 2 ^ m) ⊎ (2 ^ m ≤ s)
@@ -236,7 +245,9 @@ join (suc d) j (suc m) u s t C w e b f g h q = go (lt-or s (2 ^ m)) (λ v s′ t
     go (inl x) ih =
         let rs : rest m s ≡ s = rest-low m s x in
         let le : t ≤ 2 ^ m = omega (arith, fit) in
-        let k = ih u s t (subst (Starts d m) rs b) f g h (subst (λ (y : ℕ). Sums m u y C) rs (subst (λ (v : List ℕ). Sums m v (rest m s) C) (restBits-low m s u x) (q .1))) in
+        let k =
+        ih u s t (subst (Starts d m) rs b) f g h
+        (subst (λ (y : ℕ). Sums m u y C) rs (subst (λ (v : List ℕ). Sums m v (rest m s) C) (restBits-low m s u x) (q .1))) in
         (λ l. low (lt-or t (2 ^ m)) le k, λ l. absurd (omega (arith, two-pow-succ m, pow-pos m)))
     go (inr x) ih =
         let s′ : ℕ = s - 2 ^ m in
@@ -251,10 +262,49 @@ join (suc d) j (suc m) u s t C w e b f g h q = go (lt-or s (2 ^ m)) (λ v s′ t
           λ l. ap₂ (λ (c z : List ℕ). addBits c z ++ z) (ap C jd ∙ q .0 x) (k .1 (omega (arith, two-pow-succ m))) ∙ sym (transform-suc m u),
         )
 
+-- ---- the sums of a block do not have the turn of its end
+
+sums-upd : (m : ℕ) (u : List ℕ) (t : ℕ) (C : ℕ → List ℕ) (h : ℕ) (x : List ℕ) → m ≤ h → Sums m u t C → Sums m u t (upd C h x)
+unfolding Sums
+sums-upd zero u t C h x l p = tt
+sums-upd (suc m) u t C h x l p = (
+  λ n. upd-other C h x m (λ e. omega arith) ∙ p .0 n,
+  sums-upd m (restBits m t u) (rest m t) C h x (omega arith) (p .1),
+)
+
+sums-turn : (d j m : ℕ) (u : List ℕ) (s t : ℕ) (C : ℕ → List ℕ) (x : List ℕ) → m ≡ d + j → Starts d m s → t ≡ s + 2 ^ j → t < 2 ^ m → Sums m u s C →
+    Sums m u s (upd C (turn m t) x)
+unfolding Sums Starts
+sums-turn zero j m u s t C x e a f l q = sums-zero m u s (upd C (turn m t) x) a
+sums-turn (suc d) j zero u s t C x e a f l q = absurd a
+sums-turn (suc d) j (suc m) u s t C x e a f l q =
+    go (lt-or s (2 ^ m)) (lt-or t (2 ^ m)) (λ t′. sums-turn d j m (restBits m s u) (rest m s) t′ C x (omega arith) a)
+  where
+    go : (s < 2 ^ m) ⊎ (2 ^ m ≤ s) → (t < 2 ^ m) ⊎ (2 ^ m ≤ t)
+        → ((t′ : ℕ) → t′ ≡ rest m s + 2 ^ j → t′ < 2 ^ m → Sums m (restBits m s u) (rest m s) C → Sums m (restBits m s u) (rest m s) (upd C (turn m t′) x))
+        → (2 ^ m ≤ s → upd C (turn (suc m) t) x m ≡ first m u) × Sums m (restBits m s u) (rest m s) (upd C (turn (suc m) t) x)
+    go (inl y) (inl z) ih = (
+      λ n. absurd (omega arith),
+      subst (λ (k : ℕ). Sums m (restBits m s u) (rest m s) (upd C k x)) (sym (turn-low m t z)) (ih t (omega (arith, rest-low m s y)) z (q .1)),
+    )
+    go (inl y) (inr z) ih =
+        let fit : rest m s + 2 ^ j ≤ 2 ^ m = starts-fits d j m (rest m s) (omega arith) a in
+        let w : rest m t ≡ 0 = rest-high m t z ∙ omega (arith, rest-low m s y) in
+        (λ n. absurd (omega arith), sums-upd m (restBits m s u) (rest m s) C (turn (suc m) t) x (omega (arith, turn-high m t z w)) (q .1))
+    go (inr y) (inl z) ih = absurd (omega arith)
+    go (inr y) (inr z) ih =
+        let r : rest m t ≡ rest m s + 2 ^ j = omega (arith, rest-high m t z, rest-high m s y) in
+        let k : turn (suc m) t ≡ turn m (rest m t) = turn-past m t (λ w. omega (arith, pow-pos j)) in
+        let b : rest m t < 2 ^ m = rest-less m t l in
+        let c : turn m (rest m t) < m = turn-less m (rest m t) (omega (arith, pow-pos j)) b in (
+          λ n. upd-other C (turn (suc m) t) x m (λ w. omega arith) ∙ q .0 n,
+          subst (λ (h : ℕ). Sums m (restBits m s u) (rest m s) (upd C h x)) (sym k) (ih (rest m t) r b (q .1)),
+        )
+
 -- ---- the root taken as the first half of a node of height m + 1
 
 module _ (d j m s : ℕ) (e : m ≡ d + j) (a : Starts d m s) where
-  pub block-less : s < 2 ^ m
+  block-less : s < 2 ^ m
   block-less = omega (arith, starts-fits d j m s e a, pow-pos j)
 
   root-starts : Starts (suc d) (suc m) s
@@ -262,10 +312,17 @@ module _ (d j m s : ℕ) (e : m ≡ d + j) (a : Starts d m s) where
   root-starts = subst (Starts d m) (sym (rest-low m s block-less)) a
 
   -- with its word joined upwards, the sums of a block are those of the next
-  pub root-join : (u : List ℕ) (C : ℕ → List ℕ) → length u ≡ s + 2 ^ j → Sums (suc m) u s C → JoinedAt j (suc m) u (s + 2 ^ j) C (transform j (drop s u))
+  pub root-join : (u : List ℕ) (C : ℕ → List ℕ) → length u ≡ s + 2 ^ j → Sums (suc m) u s C →
+      JoinedAt j (suc m) u (s + 2 ^ j) C (transform j (drop s u))
   root-join u C g h =
       join (suc d) j (suc m) u s (s + 2 ^ j) C (transform j (drop s u)) (omega arith) root-starts refl g refl h .0
       (omega (arith, starts-fits d j m s e a, two-pow-succ m, pow-pos m))
+
+  -- what stands where its word will go does not matter to the sums of a block
+  pub root-turn : (u : List ℕ) (C : ℕ → List ℕ) (x : List ℕ) → Sums (suc m) u s C → Sums (suc m) u s (upd C (turn (suc m) (s + 2 ^ j)) x)
+  root-turn u C x h =
+      sums-turn (suc d) j (suc m) u s (s + 2 ^ j) C x (omega arith) root-starts refl
+      (omega (arith, starts-fits d j m s e a, two-pow-succ m, pow-pos m)) h
 
 -- past the last block they have the word of all bits
 pub root-word : (m : ℕ) (u : List ℕ) (C : ℕ → List ℕ) → length u ≡ 2 ^ m → Sums (suc m) u (2 ^ m) C → C m ≡ transform m u

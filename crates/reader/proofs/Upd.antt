@@ -3,7 +3,7 @@ use mathlib.Core.Path.{_≡_, refl, sym, ap, _∙_, fun-ext}
 use mathlib.Core.Bool.{Bool, true, false, cond}
 use Prim.Native.Nat.{ℕ}
 use lib.Dec.{eqb}
-use borrow.Author.Tests.{eqb-true, eq-eqb, ne-eqb}
+use borrow.Author.Tests.{eqb-true, eqb-false, eq-eqb, ne-eqb}
 use Rattle.reader.specs.Arrays.{upd, store}
 
 module _ {A : Type 0} where
@@ -22,6 +22,15 @@ module _ {A : Type 0} where
       go : (k : ℕ) (t : Bool) → eqb k i ≡ t → cond t (f i) (f k) ≡ f k
       go k true e = ap f (sym (eqb-true k i e))
       go k false e = refl
+
+  -- functions that agree elsewhere
+  pub upd-agree : (f g : ℕ → A) (i : ℕ) (x : A) → ((k : ℕ) → (k ≡ i → ⊥) → f k ≡ g k) → upd f i x ≡ upd g i x
+  unfolding upd
+  upd-agree f g i x h = fun-ext (λ k. go k (eqb k i) refl)
+    where
+      go : (k : ℕ) (t : Bool) → eqb k i ≡ t → cond t x (f k) ≡ cond t x (g k)
+      go k true e = refl
+      go k false e = h k (eqb-false k i e)
 
   -- ---- what a path sees by its ids
 

@@ -71,18 +71,18 @@ putSums others h x v =
     let i = writes others h v in
     record { arrays = record { vals = v .arrays .vals; sums = store (v .arrays .sums) h i x }; ids = upd (v .ids) h i }
 
--- take an array of height h to write to later, with what the path sees there now
-unfoldable pub claim : List (ℕ → ℕ) → ℕ → View → View
-claim others h v =
-    let i = writes others h v in
-    record {
-      arrays = record { vals = store (v .arrays .vals) h i (valsOf v h); sums = store (v .arrays .sums) h i (sumsOf v h) };
-      ids = upd (v .ids) h i;
-    }
+-- take an array of height h; what it held is of no use
+unfoldable pub takeArray : List (ℕ → ℕ) → ℕ → View → View
+takeArray others h v = record { arrays = v .arrays; ids = upd (v .ids) h (writes others h v) }
+
+-- take the array where the word of a block of height j will go; the block's own values go along, since the next word is found from them
+unfoldable pub claim : List (ℕ → ℕ) → ℕ → ℕ → View → View
+claim others j h v = cond (eqb h j) (putVals others h (valsOf v h) v) (takeArray others h v)
 
 -- ---- down and up the tree
 
--- the height of the first half that ends at t: the largest power of two in t (002's λ - δ), for t up to 2^m
+-- the height of the first half that ends at t, for 0 < t < 2^m: the exponent of the largest power of two that divides t (m less 002's layer
+-- λ - δ)
 unfoldable pub turn : ℕ → ℕ → ℕ
 turn zero t = 0
 turn (suc m) t = let lower = turn m (rest m t) in cond (leb (2 ^ m) t && eqb (rest m t) 0) m lower

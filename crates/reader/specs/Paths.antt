@@ -52,7 +52,7 @@ lastWord B p b = transform (blockAt B b .j) (fillBlock B (p .earlier) b (p .sett
 unfoldable pub ownWord : Book → Path → ℕ → Word
 ownWord B p b = record { setting = p .setting; parities = p .parities; cost = p .cost; number = number (lastWord B p b) }
 
--- the height where block b's word goes: the turn of the block's end
+-- the height where block b's word goes: the turn of the block's end, the root counted as a first half
 unfoldable pub place : Book → ℕ → ℕ
 place B b = turn (suc (B .m)) (startOf (B .blocks) b + 2 ^ (blockAt B b .j))
 

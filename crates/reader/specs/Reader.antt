@@ -26,8 +26,8 @@ pub record Cut : Type 0 where
 unfoldable pub copyWith : Book → ℕ → Arrays → Path → ℕ → List Path → ℕ → Option Word → Cut
 copyWith B D A p b qs n none = record { arrays = A; queue = qs; next = n; crowded = [] }
 copyWith B D A p b qs n (some x) =
-    let v = claim (p .ids ∷ idsOf (roomFor D qs)) (place B b) (viewOf A p) in
-    let copy : Path =
+    let v = claim (p .ids ∷ idsOf (roomFor D qs)) (blockAt B b .j) (place B b) (viewOf A p) in
+    let made : Path =
     record {
       number = n;
       blocks = suc b;
@@ -40,7 +40,7 @@ copyWith B D A p b qs n (some x) =
     } in
     record {
       arrays = v .arrays;
-      queue = insert (keyOf B) copy (roomFor D qs);
+      queue = insert (keyOf B) made (roomFor D qs);
       next = suc n;
       crowded = numbers (keyOf B) (crowdedOut D qs);
     }
@@ -65,7 +65,7 @@ pub record Moved : Type 0 where
   pub arrays : Arrays
   pub path : Path
 
--- p with the word x in its next block, v what it sees then
+-- p with the word x in its next block, v what it sees then; a block always has a nearest word
 unfoldable pub moveWith : Arrays → Path → View → Option Word → Moved
 moveWith A p v none = record { arrays = A; path = p }
 moveWith A p v (some x) =
@@ -90,7 +90,7 @@ move B A p qs =
     let b = p .blocks in
     let j = blockAt B b .j in
     let others = idsOf qs in
-    let v = claim others (place B b) (descend others (B .m - j) (B .m) (startOf (B .blocks) b) (commit B others p b (viewOf A p))) in
+    let v = claim others j (place B b) (descend others (B .m - j) (B .m) (startOf (B .blocks) b) (commit B others p b (viewOf A p))) in
     moveWith A p v (nearest B (valsOf v j) (p .parities) b)
 
 -- ---- step 4
