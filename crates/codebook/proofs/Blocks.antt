@@ -25,7 +25,7 @@ pub start-next : (B : Book) (b : ℕ) → b < length (B .blocks) → startOf (B 
 unfolding blockAt
 start-next B b h = next-start (B .blocks) b _ h
 
-start-append : (bs cs : List Block) (b : ℕ) → b ≤ length bs → startOf (bs ++ cs) b ≡ startOf bs b
+pub start-append : (bs cs : List Block) (b : ℕ) → b ≤ length bs → startOf (bs ++ cs) b ≡ startOf bs b
 unfolding startOf
 start-append bs cs zero h = refl
 start-append [] cs (suc b) h = absurd (not-suc-le-zero h)

@@ -40,7 +40,7 @@ placed-command s byte operands h =
 
 -- ---- the end
 
-total-begun : (s : Loading) → s .m ≢ 0 → total s ≡ 2 ^ (s .m)
+pub total-begun : (s : Loading) → s .m ≢ 0 → total s ≡ 2 ^ (s .m)
 unfolding total
 total-begun s h = cond-case (λ (n : ℕ). n ≡ 2 ^ (s .m)) (eqb (s .m) 0) (λ t. absurd (h (eqb→eq (s .m) 0 t))) (λ _. refl)
 

@@ -3,3 +3,4 @@ pub mod Book
 pub mod Loading
 pub mod Limits
 pub mod Tables
+pub mod Progress

@@ -9,7 +9,7 @@ use Rattle.codebook.specs.declared.Outcome.{Outcome}
 use Rattle.codebook.specs.declared.Outcome.the-variants.{Done, Refused}
 
 -- a refusal's number
-unfoldable pub number : Refusal → ℕ
+abbrev pub number : Refusal → ℕ
 number Truncated = 1
 number Unknown = 2
 number Misplaced = 3
@@ -37,7 +37,7 @@ word AboveLimit = "faint"
 word Unreadable = "unreadable"
 
 -- an outcome's number: 0, or the refusal's
-unfoldable pub outcomeNumber : Outcome → ℕ
+abbrev pub outcomeNumber : Outcome → ℕ
 outcomeNumber Done = 0
 outcomeNumber (Refused r) = number r
 

@@ -6,6 +6,8 @@ use Prim.Native.Nat.{ℕ, suc, _+_, _^_}
 use lib.ListN.{length}
 use lib.IntN.{ℤ}
 use Rattle.laws.specs.Lists.{tab, over}
+use Rattle.codebook.specs.declared.Outcome.the-variants.{Done, Refused}
+use Rattle.codebook.specs.declared.Sizes.{Sizes}
 use Rattle.codebook.specs.Book.{Kind, free, frozen, tied, Block, Book, freeCount, startOf, kindsOf}
 use Rattle.codebook.specs.Loading.{Load, refused, loaded, member}
 
@@ -61,3 +63,8 @@ overlaid new old =
 unfoldable pub Filled : Load → Tables → Tables → Type 0
 Filled (refused r) old new = Unit {0}
 Filled (loaded B) old new = new ≡ overlaid (tablesOf B) old
+
+-- what loading answers beside the tables: m, n, k and V, zeros on a refusal
+unfoldable pub sizesOf : Load → Sizes
+sizesOf (refused r) = record { outcome = Refused r; m = 0; n = 0; k = 0; blocks = 0 }
+sizesOf (loaded B) = record { outcome = Done; m = B .m; n = 2 ^ (B .m); k = freeCount (B .kinds); blocks = length (B .blocks) }

@@ -1,5 +1,5 @@
-// The types of the code book: its commands, the refusals, and what the load call answers.
-// specs/Refusals.antt gives document 01's number and word for each refusal; specs/Loading.antt says what loading is.
+// The code book: its types, and the loader. specs/Refusals.antt gives document 01's number and word for each refusal; specs/Loading.antt says
+// what loading is, specs/Tables.antt what the loader fills.
 
 // Why a call is refused: document 01, "Refusal table".
 pub enum Refusal {
@@ -56,3 +56,52 @@ pub struct Shape {
     pub k: u32,
     pub blocks: u32,
 }
+
+// What stands at a place of a code book.
+pub enum Read {
+    // A listed command, the place after it, and whether its operands are whole: where the book ends in them, they are read as 0.
+    Found(Command, usize, bool),
+    // A byte that is not listed.
+    Unlisted,
+}
+
+// How far a code book is loaded: m and n, 0 before the length; the indices filled, the ties among them, and whether the last command was a
+// tie or a term; the blocks, the indices in them, and the free ones of these.
+pub struct Progress {
+    pub m: u32,
+    pub n: u32,
+    pub filled: u32,
+    pub ties: u32,
+    pub tying: bool,
+    pub free: u32,
+    pub blocks: u32,
+    pub covered: u32,
+}
+
+// What one command comes to.
+pub enum Step {
+    Next(Progress),
+    // The end command.
+    End(Progress),
+    Refused(Refusal),
+}
+
+// What loading answers with the tables: m, n, k and the number of blocks; zeros where it is refused.
+pub struct Sizes {
+    pub outcome: Outcome,
+    pub m: u32,
+    pub n: u32,
+    pub k: u32,
+    pub blocks: u32,
+}
+
+pub mod loader;
+mod numbers;
+mod reading;
+mod steps;
+mod stores;
+
+pub use loader::load;
+pub use loader::load_tables;
+pub use numbers::outcome_number;
+pub use numbers::refusal_number;

@@ -7,10 +7,10 @@ use Prim.Native.Nat.{ℕ, zero, suc, _+_, _-_, _*_, _≤_, _<_, min, zero-le}
 use native.Mathlib.Nat.{not-suc-le-zero, le-of-suc-le-suc, mul-suc, sub-zero, zero-sub, suc-sub-suc}
 use native.Mathlib.Numerals.{add-one}
 use native.Mathlib.Omega.{arith}
-use lib.ListN.{length, getD, take, drop, set, replicate, length-append, List·getD-append}
-use lib.Seq.{take-nil, getD-at, getD-take, getD-drop, getD-append-add, length-take-le, paste, paste-suc, length-paste-head}
+use lib.ListN.{length, getD, take, drop, set, replicate, length-append, List·getD-append, length-drop, length-set, replicate-append-replicate}
+use lib.Seq.{take-nil, getD-at, getD-take, getD-drop, getD-append-add, length-take-le, paste, paste-suc, length-paste-head, drop-cons, set-at, set-append-left, ext-getD, getD-set-same, getD-set-other}
 use lib.Dec.{T}
-use Rattle.laws.specs.Lists.{All, Distinct, keep, tab, sum}
+use Rattle.laws.specs.Lists.{All, Distinct, keep, tab, sum, over}
 use Rattle.laws.proofs.Tests.{cond-case, lt-or}
 
 module _ {A : Type 0} where
@@ -103,6 +103,10 @@ module _ {A : Type 0} where
   keep-length f (x ∷ xs) =
       cond-case (λ (ys : List A). length ys ≤ suc (length xs)) (f x) (λ _. omega (arith, keep-length f xs)) (λ _. omega (arith, keep-length f xs))
 
+  pub length-none : (xs : List A) → length xs ≡ 0 → xs ≡ []
+  length-none [] e = refl
+  length-none (x ∷ xs) e = absurd (omega arith)
+
   pub length-snoc : (xs : List A) (x : A) → length (xs ++ x ∷ []) ≡ suc (length xs)
   length-snoc xs x = length-append xs (x ∷ []) ∙ omega arith
 
@@ -129,6 +133,57 @@ module _ {A : Type 0} where
       go (inr l) ih =
           let e : n ≡ i = omega arith in
           getD-at (tab n f) (f n) [] d i (length-tab n f ∙ e) ∙ ap f e
+
+  -- lists tabulated by functions that agree
+  pub tab-same : (n : ℕ) (f g : ℕ → A) → ((i : ℕ) → i < n → f i ≡ g i) → tab n f ≡ tab n g
+  unfolding tab
+  tab-same zero f g h = refl
+  tab-same (suc n) f g h = λ k. tab-same n f g (λ i l. h i (omega arith)) k ++ h n (omega arith) k ∷ []
+
+  pub tab-last : (n : ℕ) (f g : ℕ → A) (x : A) → ((i : ℕ) → i < n → f i ≡ g i) → g n ≡ x → tab (suc n) g ≡ tab n f ++ x ∷ []
+  unfolding tab
+  tab-last n f g x h e = rw (e, tab-same n f g h)
+
+  pub tab-replicate : (n : ℕ) (f : ℕ → A) (x : A) → ((i : ℕ) → f i ≡ x) → tab n f ≡ replicate n x
+  unfolding tab
+  tab-replicate zero f x h = refl
+  tab-replicate (suc n) f x h = rw (tab-replicate n f x h, h n, replicate-append-replicate n 1 x, add-one)
+
+  -- one value changed
+  pub set-tab : (n : ℕ) (f g : ℕ → A) (i : ℕ) (v : A) → i < n → v ≡ g i → ((k : ℕ) → k < n → k ≢ i → f k ≡ g k) → set (tab n f) i v ≡ tab n g
+  set-tab n f g i v l e h =
+      ext-getD v (set (tab n f) i v) (tab n g) (length-set (tab n f) i v ∙ length-tab n f ∙ sym (length-tab n g))
+      (λ k b. go k (omega (arith, length-set (tab n f) i v, length-tab n f)) (lt-or k i) (lt-or i k))
+    where
+      other : (k : ℕ) → k < n → k ≢ i → getD (set (tab n f) i v) k v ≡ getD (tab n g) k v
+      other k b ne = getD-set-other (tab n f) i k v v ne ∙ getD-tab n f k v b ∙ h k b ne ∙ sym (getD-tab n g k v b)
+
+      go : (k : ℕ) → k < n → (k < i) ⊎ (i ≤ k) → (i < k) ⊎ (k ≤ i) → getD (set (tab n f) i v) k v ≡ getD (tab n g) k v
+      go k b (inl a) y = other k b (omega arith)
+      go k b (inr a) (inl c) = other k b (omega arith)
+      go k b (inr a) (inr c) =
+          let q : k ≡ i = omega arith in
+          rw (q, getD-set-same (tab n f) i v v (omega (arith, length-tab n f)), getD-tab n g i v l) e
+
+  -- ---- a list written over the start of another
+
+  pub over-last : (xs old : List A) (v : A) (n : ℕ) → length xs ≡ n → n < length old → set (over xs old) n v ≡ over (xs ++ v ∷ []) old
+  unfolding over
+  over-last xs old v n e h =
+      let l : length (xs ++ v ∷ []) ≡ suc (length xs) = length-append xs (v ∷ []) ∙ add-one (length xs) in
+      rw (drop-cons old (length xs) v (omega arith), set-at xs (getD old (length xs) v) (drop (suc (length xs)) old) v n e, l, append-assoc)
+
+  pub over-length : (xs old : List A) → length xs ≤ length old → length (over xs old) ≡ length old
+  unfolding over
+  over-length xs old h = length-append xs (drop (length xs) old) ∙ omega (arith, length-drop (length xs) old)
+
+  pub over-set : (xs old : List A) (i : ℕ) (v : A) → i < length xs → set (over xs old) i v ≡ over (set xs i v) old
+  unfolding over
+  over-set xs old i v h = rw (set-append-left xs (drop (length xs) old) i v h, length-set)
+
+  pub over-getD : (xs old : List A) (i : ℕ) (d : A) → i < length xs → getD (over xs old) i d ≡ getD xs i d
+  unfolding over
+  over-getD xs old i d h = List·getD-append xs (drop (length xs) old) d i h
 
 pub all-mapped : {A B : Type 0} (f : A → B) (P : B → Type 0) (xs : List A) → All (λ (x : A). P (f x)) xs → All P (map f xs)
 unfolding All

@@ -13,6 +13,20 @@ pub cond-case : {A : Type 0} (P : A → Type 0) (b : Bool) {x y : A} → (T b �
 cond-case P true f g = f tt
 cond-case P false f g = g tt
 
+-- a test that holds is true
+pub T-true : (b : Bool) → T b → b ≡ true
+T-true true t = refl
+T-true false t = absurd t
+
+pub T-false : (b : Bool) → T (not b) → b ≡ false
+T-false true t = absurd t
+T-false false t = refl
+
+-- choices by one test
+pub cond-same : {A : Type 0} (b : Bool) {x y z w : A} → (T b → x ≡ z) → y ≡ w → cond b x y ≡ cond b z w
+cond-same true e f = e tt
+cond-same false e f = f
+
 pub and-left : (a b : Bool) → T (a && b) → T a
 and-left true b t = tt
 and-left false b t = t
