@@ -36,7 +36,7 @@ snoc-at u b i = go (decLt i (length u)) (decLt (length u) i)
         let o : b * cond (eqb i (length u)) 1 0 ≡ b = ap (λ (t : Bool). b * cond t 1 0) (eq-eqb i (length u) e) ∙ omega arith in
         ap (λ n. getD (u ++ b ∷ []) n 0) e ∙ getD-append-seam u b [] 0 ∙ omega arith
 
-parity-snoc : (u : List ℕ) (b : ℕ) (ts : List ℕ) → parity (u ++ b ∷ []) ts ≡ (parity u ts + b * times (length u) ts) % 2
+pub parity-snoc : (u : List ℕ) (b : ℕ) (ts : List ℕ) → parity (u ++ b ∷ []) ts ≡ (parity u ts + b * times (length u) ts) % 2
 unfolding parity times
 parity-snoc u b [] = omega arith
 parity-snoc u b (i ∷ ts) =

@@ -43,6 +43,19 @@ unfolding setOf
 set-same zero f g e = refl
 set-same (suc n) f g e = ap₂ (λ x y. x * 2 ^ n + y) (e n (omega arith)) (set-same n f g (λ t l. e t (omega arith)))
 
+-- the empty set
+pub set-none : (n : ℕ) → setOf n (λ t. 0) ≡ 0
+unfolding setOf
+set-none zero = refl
+set-none (suc n) = omega (arith, set-none n)
+
+-- the lowest member first
+pub set-low : (n : ℕ) (f : ℕ → ℕ) → setOf (suc n) f ≡ f 0 + 2 * setOf n (λ t. f (suc t))
+unfolding setOf
+set-low zero f = omega arith
+set-low (suc n) f =
+    omega (arith, set-low n f, ap (λ x. f (suc n) * x) (two-pow-succ n), mul-add (f (suc n)) (2 ^ n) (2 ^ n))
+
 -- ---- members
 
 -- a member that is not the highest

@@ -1,0 +1,3 @@
+-- The proofs of capi. Assumes nothing.
+pub mod Slices
+pub mod Fields

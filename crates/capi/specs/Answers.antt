@@ -1,0 +1,71 @@
+-- What each C function answers, and what its lent slices then hold: the numbers of document 01's refusal table, 0 for success. A shape and a
+-- record are written with every answer, zeros on a refusal; but one that is lent at another length is refused as 7, where 7 stands in the
+-- table's order, and keeps what it held. Assumes nothing.
+use mathlib.Core.Bool.{cond}
+use mathlib.Core.List.{List, [], _∷_}
+use mathlib.Core.Option.{Option, none, some}
+use Prim.Native.Nat.{ℕ}
+use lib.ListN.{length}
+use lib.Dec.{eqb}
+use Rattle.codebook.specs.declared.Outcome.{Outcome}
+use Rattle.codebook.specs.declared.Outcome.the-variants.{Done, Refused}
+use Rattle.codebook.specs.declared.Refusal.the-variants.{Mismatch, BadValue}
+use Rattle.codebook.specs.Refusals.{number, outcomeNumber}
+use Rattle.codebook.specs.Loading.{Load, refused, loaded, load, shapeOf}
+use Rattle.codec.specs.declared.Status.{Status}
+use Rattle.codec.specs.declared.Status.the-variants.{Passed}
+use Rattle.codec.specs.declared.HookRecord.{HookRecord}
+use Rattle.codec.specs.declared.Tested.{Tested}
+use Rattle.codec.specs.declared.Tested.the-variants.{InCode, NotInCode, Refused as NotTested}
+use Rattle.codec.specs.Record.{statusNumber}
+use Rattle.codec.specs.Calls.{Wrote, kept, holdsRecord, makeRecordCall, readRecordCall}
+
+-- a call's number, and what its slice then holds
+pub record Answer : Type 0 where
+  pub number : ℕ
+  pub slice : List ℕ
+
+-- the number where a slice is lent at a wrong length: the book's fault, else 7
+abbrev pub misfitNumber : Outcome → ℕ
+misfitNumber Done = number Mismatch
+misfitNumber (Refused r) = number r
+
+-- load: the shape is n, k and V
+unfoldable pub loadAnswer : List ℕ → List ℕ → Answer
+loadAnswer book shape =
+    let s = shapeOf (load book) in
+    let written : Answer = record { number = outcomeNumber (s .outcome); slice = s .n ∷ s .k ∷ s .blocks ∷ [] } in
+    let left : Answer = record { number = misfitNumber (s .outcome); slice = shape } in
+    cond (eqb (length shape) 3) written left
+
+-- test: 0 in the code, 255 not in the code, else the refusal
+abbrev pub testedNumber : Tested → ℕ
+testedNumber InCode = 0
+testedNumber NotInCode = 255
+testedNumber (NotTested r) = number r
+
+-- make record, where the status is above 4: a field too large for its bits
+unfoldable pub noStatus : Load → List ℕ → Wrote
+noStatus (refused r) ds = kept r ds
+noStatus (loaded B) ds = cond (holdsRecord B ds) (kept BadValue ds) (kept Mismatch ds)
+
+unfoldable pub makeRecordWrote : List ℕ → ℕ → ℕ → ℕ → Option Status → List ℕ → Wrote
+makeRecordWrote book plant carcass side none ds = noStatus (load book) ds
+makeRecordWrote book plant carcass side (some s) ds =
+    makeRecordCall book (record { plant = plant; carcass = carcass; side = side; status = s }) ds
+
+-- the record that these fields make for the record's own call: with no status, one that fits no bits
+unfoldable pub recordFrom : ℕ → ℕ → ℕ → Option Status → HookRecord
+recordFrom plant carcass side none = record { plant = 64; carcass = carcass; side = side; status = Passed }
+recordFrom plant carcass side (some s) = record { plant = plant; carcass = carcass; side = side; status = s }
+
+-- read record: the record is plant, carcass, side and status
+unfoldable pub recordSlice : HookRecord → List ℕ
+recordSlice h = h .plant ∷ h .carcass ∷ h .side ∷ statusNumber (h .status) ∷ []
+
+unfoldable pub readRecordAnswer : List ℕ → List ℕ → List ℕ → Answer
+readRecordAnswer book ds hook =
+    let x = readRecordCall book ds in
+    let written : Answer = record { number = outcomeNumber (x .outcome); slice = recordSlice (x .hook) } in
+    let left : Answer = record { number = misfitNumber (shapeOf (load book) .outcome); slice = hook } in
+    cond (eqb (length hook) 4) written left

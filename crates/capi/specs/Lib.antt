@@ -1,0 +1,2 @@
+-- The specifications of capi. Assumes nothing.
+pub mod Answers

@@ -1,0 +1,95 @@
+/*
+ * Saddlemint: the calls on code books, words, data and hook records, for C.
+ *
+ * Every function is proved, for every input: what it answers, what it leaves in each buffer, and that it ends. crates/capi/src/lib.rt holds
+ * the contracts, crates/capi/specs/Answers.antt the definitions that they cite.
+ *
+ * A buffer is a pointer and a length in entries. All that is asked of the caller is what C asks of any: each pointer leads to that many
+ * entries, never null (also where the length is 0), and a buffer that is written overlaps no other. No length and no value is taken on the
+ * caller's word. Nothing is kept between calls, nothing is allocated; a call needs at most 11 KB of stack, as measured.
+ *
+ * Words and data are bits, one to a byte, 0 or 1. A word has n entries and data k, where n and k are the book's.
+ *
+ * Each function answers 0 for success or the number of a refusal. A book's first faulty command decides (1 to 6); then 7, 9, 11.
+ */
+#ifndef SADDLEMINT_H
+#define SADDLEMINT_H
+
+#include <stddef.h>
+#include <stdint.h>
+
+#ifdef __cplusplus
+extern "C" {
+#endif
+
+enum saddlemint_answer {
+    SADDLEMINT_DONE = 0,
+    SADDLEMINT_SHORT = 1,       /* the book ends in a command, or where one is due */
+    SADDLEMINT_STRANGE = 2,     /* a command byte that is not listed */
+    SADDLEMINT_MISPLACED = 3,   /* a listed command where it may not stand, or bytes after the end */
+    SADDLEMINT_OFF_RANGE = 4,   /* an operand out of range */
+    SADDLEMINT_OVERTIED = 5,    /* more than 32 ties */
+    SADDLEMINT_HEAVY = 6,       /* a block with more than 8 free indices */
+    SADDLEMINT_MISFIT = 7,      /* a buffer whose length is not the one asked; a record, and k is not 32 */
+    SADDLEMINT_BAD_VALUE = 9,   /* an entry of a word or of data above 1; a field of a record too large for its bits */
+    SADDLEMINT_UNREADABLE = 11, /* data that hold no record: status 5 to 7, or a spare bit 1 */
+    SADDLEMINT_NOT_IN_CODE = 255 /* the answer "no" of saddlemint_test; no refusal */
+};
+
+enum saddlemint_status {
+    SADDLEMINT_PASSED = 0,
+    SADDLEMINT_HELD_FOR_LABORATORY = 1,
+    SADDLEMINT_HELD_FOR_VETERINARIAN = 2,
+    SADDLEMINT_HELD_FOR_OWNER = 3,
+    SADDLEMINT_CONDEMNED = 4
+};
+
+/*
+ * Loads a book. shape has 3 entries: the length n of a word, the length k of data, the number V of blocks.
+ * Answers 0, 1 to 6, or 7 where shape_len is not 3.
+ * shape is written with every answer, zeros on a refusal; where shape_len is not 3 it is left as it was.
+ */
+uint32_t saddlemint_load(const uint8_t *book, size_t book_len, uint32_t *shape, size_t shape_len);
+
+/*
+ * Encodes data into word: the word of the code whose data these are.
+ * Answers 0; 1 to 6; 7 where data_len is not k or word_len is not n; 9 where an entry of data is above 1.
+ * word is written on success alone.
+ */
+uint32_t saddlemint_encode(const uint8_t *book, size_t book_len, const uint8_t *data, size_t data_len, uint8_t *word, size_t word_len);
+
+/*
+ * Tests a word.
+ * Answers 0 where it is in the code and 255 where it is not; 1 to 6; 7 where word_len is not n; 9 where an entry is above 1.
+ */
+uint32_t saddlemint_test(const uint8_t *book, size_t book_len, const uint8_t *word, size_t word_len);
+
+/*
+ * Reads the data of a word into data. A word outside the code has data too: the bits at the free indices. Test first if that matters.
+ * Answers 0; 1 to 6; 7 where word_len is not n or data_len is not k; 9 where an entry of word is above 1.
+ * data is written on success alone.
+ */
+uint32_t saddlemint_read_data(const uint8_t *book, size_t book_len, const uint8_t *word, size_t word_len, uint8_t *data, size_t data_len);
+
+/*
+ * Makes the data of a record: plant below 64, carcass below 1048576, side 0 (left) or 1 (right), a status of the list above.
+ * Answers 0; 1 to 6; 7 where k or data_len is not 32; 9 where a field is larger.
+ * data is written on success alone.
+ */
+uint32_t saddlemint_make_record(const uint8_t *book, size_t book_len, uint32_t plant, uint32_t carcass, uint32_t side, uint32_t status,
+                                uint8_t *data, size_t data_len);
+
+/*
+ * Reads the record of data. record has 4 entries: plant, carcass, side, status.
+ * Answers 0; 1 to 6; 7 where k or data_len is not 32, or record_len is not 4; 9 where an entry of data is above 1; 11 where the data hold
+ * no record.
+ * record is written with every answer, zeros on a refusal; where record_len is not 4 it is left as it was.
+ */
+uint32_t saddlemint_read_record(const uint8_t *book, size_t book_len, const uint8_t *data, size_t data_len, uint32_t *record,
+                                size_t record_len);
+
+#ifdef __cplusplus
+}
+#endif
+
+#endif
