@@ -40,14 +40,14 @@ paritySet ks u = setOf 32 (λ t. parity u (tieTerms ks t))
 -- ---- the set of the ties that index i is a term of
 
 -- whether it is a term of the t-th
-mark : List Kind → ℕ → ℕ → ℕ
+unfoldable pub mark : List Kind → ℕ → ℕ → ℕ
 mark ks i t = cond (member i (tieTerms ks t)) 1 0
 
-mark-bit : (b : Bool) → cond b 1 0 < 2
+pub mark-bit : (b : Bool) → cond b 1 0 < 2
 mark-bit true = omega arith
 mark-bit false = omega arith
 
-tie-set : (s n : ℕ) (ks : List Kind) (i : ℕ) → tiedCount ks ≤ n → tieSet s ks i ≡ 2 ^ s * setOf n (λ t. mark ks i t)
+pub tie-set : (s n : ℕ) (ks : List Kind) (i : ℕ) → tiedCount ks ≤ n → tieSet s ks i ≡ 2 ^ s * setOf n (λ t. mark ks i t)
 unfolding tieSet tiedCount mark tieTerms member
 tie-set s n [] i h = sym (ap (λ x. 2 ^ s * x) (set-none n) ∙ mul-zero (2 ^ s))
 tie-set s n (free ∷ ks) i h = tie-set s n ks i h
@@ -70,7 +70,7 @@ unfolding times All
 times-none k [] h = refl
 times-none k (i ∷ ts) h = ap₂ (λ b n. cond b 1 0 + n) (ne-eqb i k (λ e. h .0 (sym e))) (times-none k ts (h .1))
 
-times-once : (k : ℕ) (ts : List ℕ) → Distinct ts → times k ts ≡ cond (member k ts) 1 0
+pub times-once : (k : ℕ) (ts : List ℕ) → Distinct ts → times k ts ≡ cond (member k ts) 1 0
 unfolding times member Distinct
 times-once k [] h = refl
 times-once k (i ∷ ts) h = go (eqb i k) refl (times-once k ts (h .1))
@@ -83,7 +83,7 @@ times-once k (i ∷ ts) h = go (eqb i k) refl (times-once k ts (h .1))
         let p : eqb k i ≡ false = ne-eqb k i (λ q. eqb-false i k e (sym q)) in
         ap₂ (λ b n. cond b 1 0 + n) e ih ∙ zero-add _ ∙ ap (λ b. cond (b || member k ts) 1 0) (sym p)
 
-terms-once : (i : ℕ) (ks : List Kind) (t : ℕ) → KindsOk i ks → Distinct (tieTerms ks t)
+pub terms-once : (i : ℕ) (ks : List Kind) (t : ℕ) → KindsOk i ks → Distinct (tieTerms ks t)
 unfolding tieTerms KindsOk KindOk Distinct
 terms-once i [] t h = tt
 terms-once i (free ∷ ks) t h = terms-once (suc i) ks t (h .1)

@@ -5,3 +5,4 @@ pub mod Removes
 pub mod Sets
 pub mod Integers
 pub mod Signed
+pub mod Stores

@@ -1,2 +1,12 @@
 pub mod Blocks
 pub mod Words
+pub mod Doubling
+pub mod Rows
+pub mod Sums
+pub mod Advance
+pub mod Least
+pub mod Found
+pub mod Numbers
+pub mod Parities
+pub mod Entries
+pub mod Nearest

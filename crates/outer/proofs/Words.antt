@@ -48,7 +48,7 @@ level a b r = go (decLt a b) (decLt b a)
 
 module _ {A B : Type 0} (P : A → B → Type 0) (ahead : A → A → Bool) (ahead′ : B → B → Bool) (test : A → Bool) (test′ : B → Bool) where
   -- where orders and tests agree on what is related, what is found is related
-  first-pair : ((x x′ : A) (y y′ : B) → P x y → P x′ y′ → ahead x x′ ≡ ahead′ y y′) → ((x : A) (y : B) → P x y → test x ≡ test′ y) →
+  pub first-pair : ((x x′ : A) (y y′ : B) → P x y → P x′ y′ → ahead x x′ ≡ ahead′ y y′) → ((x : A) (y : B) → P x y → test x ≡ test′ y) →
       (f : ℕ → A) (g : ℕ → B) →
       ((w : ℕ) → P (f w) (g w)) → (n : ℕ) → MayPair P (firstOf ahead test f n) (firstOf ahead′ test′ g n)
   unfolding firstOf MayPair choose

@@ -1,1 +1,3 @@
 pub mod Words
+pub mod Search
+pub mod Blocks

@@ -1,0 +1,33 @@
+-- `outer::settings::row` meets its contract: the table has the rows, by a test that is computed at each entry. Assumes nothing.
+use mathlib.Core.Bool.{Bool}
+use mathlib.Core.List.{List, [], _∷_, zipWith}
+use Prim.Native.Nat.{ℕ}
+use lib.Dec.{eqb, eqb→eq}
+use lib.ListN.{getD}
+use borrow.Author.Needs.{needs}
+use Rattle.polar.specs.Bits.{addBits, number}
+use Rattle.polar.specs.Transform.{transform}
+use Rattle.outer.specs.Search.{unit, rowOf}
+use Rattle.outer.proofs.Rows.{every-at}
+use Rattle.outer.proofs.settings.row.Statement.{statement}
+use Rattle.outer.proofs.settings.row.Tie as tie
+
+rows : List ℕ
+rows =
+    1 ∷ 3 ∷ 5 ∷ 15 ∷ 17 ∷ 51 ∷ 85 ∷ 255 ∷ 257 ∷ 771 ∷ 1285 ∷ 3855 ∷ 4369 ∷ 13107 ∷ 21845 ∷ 65535 ∷ 65537 ∷ 196611 ∷ 327685 ∷ 983055 ∷ 1114129 ∷ 3342387 ∷ 5570645 ∷ 16711935 ∷ 16843009 ∷ 50529027 ∷ 84215045 ∷ 252645135 ∷ 286331153 ∷ 858993459 ∷ 1431655765 ∷ 4294967295 ∷ []
+
+right : ℕ → Bool
+right i = eqb (getD rows i 0) (rowOf i)
+
+mul-result : tie.Need-mul-result
+mul-result c = search needs
+
+array-read-result : tie.Need-array-read-result
+array-read-result c = search needs
+
+returns : tie.Need-returns
+unfolding rows right rowOf unit transform number addBits zipWith
+returns c = eqb→eq (getD rows (c .args .i) 0) (rowOf (c .args .i)) (every-at right 32 tt (c .args .i) (search needs))
+
+pub row-spec : {M : Type 1} → statement M
+row-spec = tie.close (tie.spec mul-result array-read-result returns)

@@ -1,0 +1,200 @@
+// The nearest word of a block, and the next after one: the least key, cost before number, among all settings.
+ghost use mathlib.Core.Path.{_≡_};
+ghost use mathlib.Core.Option.{Option};
+ghost use Prim.Native.Nat.{ℕ, _+_, _^_, _≤_, _<_};
+ghost use lib.Dec.{leb};
+ghost use Rattle.polar.specs.Layers.{part};
+ghost use Rattle.machine.specs.Choice.{choose};
+ghost use Rattle.outer.specs.Search.{Small, keyOf, tableKey, lesser, leastFrom, bestOf, chosen, found, Scratch, Searchable};
+ghost use Rattle.codebook.specs.Book.{Book};
+ghost use Rattle.codec.specs.Ties.{Parities};
+ghost use Rattle.outer.specs.Words.{Word, nearest, nextAfter};
+ghost use Rattle.outer.specs.Blocks.{paritySet, Bits, BlockTabled, candidateOf};
+use crate::Best;
+use crate::Candidate;
+use crate::costs::cost_of;
+use crate::costs::prepare;
+use crate::settings::fill;
+
+fn key(cost: u32, number: u32) -> u64
+    ensures { λ r. ⌜ r ≡ keyOf cost number ⌝ }
+{
+    (cost as u64) * 4294967296 + number as u64
+}
+
+// The lesser of the best so far and a key that is not below the bound, the earlier of equals.
+fn better(best: Best, bound: u64, key: u64, setting: usize) -> Best
+    ensures { λ r. ⌜ ((k : ℕ → ℕ) (o : Option ℕ) → best ≡ bestOf k o → key ≡ k setting
+        → r ≡ bestOf k (choose (lesser k) (leb bound (k setting)) setting o)) ⌝ }
+{
+    if key < bound {
+        return best;
+    }
+    if best.some {
+        if best.key <= key {
+            return best;
+        }
+    }
+    Best {
+        some: true,
+        key,
+        setting,
+    }
+}
+
+// The least key from a bound on among the first `count` words, and its setting.
+fn least(words: &[u32; 256], count: usize, sums: &[u32; 128], runs: usize, bound: u64) -> Best
+    requires { ⌜ (count ≤ 256) × (runs ≤ 8) × Small (now sums) runs ⌝ }
+    ensures { λ r. ⌜ (let k = tableKey (now (sums .entry)) runs (now (words .entry)) in r ≡ bestOf k (leastFrom k bound count)) ⌝ }
+{
+    let mut best = Best {
+        some: false,
+        key: 0,
+        setting: 0,
+    };
+    let mut w: usize = 0;
+    while w < count {
+        let word = words[w];
+        best = better(best, bound, key(cost_of(sums, runs, word), word), w);
+        w += 1;
+    }
+    best
+}
+
+// The word found, as a candidate.
+fn candidate(
+    best: Best,
+    words: &[u32; 256],
+    sets: &[u32; 256],
+    sums: &[u32; 128],
+    runs: usize,
+) -> Candidate
+    requires { ⌜ (best .setting < 256) × (runs ≤ 8) × Small (now sums) runs ⌝ }
+    ensures { λ r. ⌜ r ≡ chosen (now (words .entry)) (now (sets .entry)) (now (sums .entry)) runs best ⌝ }
+{
+    let at = best.setting;
+    if best.some {
+        let number = words[at];
+        return Candidate {
+            some: true,
+            setting: at as u32,
+            parities: sets[at],
+            cost: cost_of(sums, runs, number),
+            number,
+        };
+    }
+    Candidate {
+        some: false,
+        setting: 0,
+        parities: 0,
+        cost: 0,
+        number: 0,
+    }
+}
+
+// The number of positions of a block of height j.
+fn positions(j: u32) -> usize
+    requires { ⌜ j ≤ 5 ⌝ }
+    ensures { λ r. ⌜ r ≡ 2 ^ j ⌝ }
+{
+    1 << j
+}
+
+// The word of least key from a bound on.
+fn search(
+    numbers: &[i32],
+    at: usize,
+    kinds: &[u8; 512],
+    terms: &[u32; 512],
+    start: usize,
+    j: u32,
+    parities: u32,
+    bound: u64,
+    words: &mut [u32; 256],
+    sets: &mut [u32; 256],
+    sums: &mut [u32; 128],
+) -> Candidate
+    requires { ⌜ Searchable (now numbers) at (now kinds) start j ⌝ }
+    requires { ⌜ Scratch (now words) (now sets) (now sums) ⌝ }
+    ensures { λ _. ⌜ Scratch (now (words .exit)) (now (sets .exit)) (now (sums .exit)) ⌝ }
+    ensures { λ r. ⌜ r ≡ found (now (kinds .entry)) (now (terms .entry)) start parities (2 ^ j) (part at (2 ^ j) (now (numbers .entry))) bound ⌝ }
+{
+    let n = positions(j);
+    let count = fill(kinds, terms, start, n, parities, words, sets);
+    let runs = prepare(numbers, at, n, sums);
+    let best = least(words, count, sums, runs, bound);
+    candidate(best, words, sets, sums, runs)
+}
+
+// The nearest word of a block: of all settings of its free bits, after the given parities, the least cost, equals by the smaller number. The
+// tables are scratch.
+pub fn nearest(
+    numbers: &[i32],
+    at: usize,
+    kinds: &[u8; 512],
+    terms: &[u32; 512],
+    start: usize,
+    j: u32,
+    parities: u32,
+    words: &mut [u32; 256],
+    sets: &mut [u32; 256],
+    sums: &mut [u32; 128],
+) -> Candidate
+    requires { ⌜ Searchable (now numbers) at (now kinds) start j ⌝ }
+    requires { ⌜ Scratch (now words) (now sets) (now sums) ⌝ }
+    ensures { λ _. ⌜ Scratch (now (words .exit)) (now (sets .exit)) (now (sums .exit)) ⌝ }
+    ensures { λ r. ⌜ ((B : Book) (b : ℕ) (x : Parities) → BlockTabled B b (now (kinds .entry)) (now (terms .entry)) start j
+        → Bits x → parities ≡ paritySet B x → r ≡ candidateOf B (nearest B (part at (2 ^ j) (now (numbers .entry))) x b)) ⌝ }
+{
+    search(
+        numbers,
+        at,
+        kinds,
+        terms,
+        start,
+        j,
+        parities,
+        0,
+        words,
+        sets,
+        sums,
+    )
+}
+
+// The next word of a block after the one with this cost and number.
+pub fn next_after(
+    numbers: &[i32],
+    at: usize,
+    kinds: &[u8; 512],
+    terms: &[u32; 512],
+    start: usize,
+    j: u32,
+    parities: u32,
+    cost: u32,
+    number: u32,
+    words: &mut [u32; 256],
+    sets: &mut [u32; 256],
+    sums: &mut [u32; 128],
+) -> Candidate
+    requires { ⌜ Searchable (now numbers) at (now kinds) start j ⌝ }
+    requires { ⌜ Scratch (now words) (now sets) (now sums) ⌝ }
+    requires { ⌜ cost < 4294967295 ⌝ }
+    ensures { λ _. ⌜ Scratch (now (words .exit)) (now (sets .exit)) (now (sums .exit)) ⌝ }
+    ensures { λ r. ⌜ ((B : Book) (b : ℕ) (x : Parities) (own : Word) → BlockTabled B b (now (kinds .entry)) (now (terms .entry)) start j
+        → Bits x → parities ≡ paritySet B x → own .cost ≡ cost → own .number ≡ number
+        → r ≡ candidateOf B (nextAfter own B (part at (2 ^ j) (now (numbers .entry))) x b)) ⌝ }
+{
+    search(
+        numbers,
+        at,
+        kinds,
+        terms,
+        start,
+        j,
+        parities,
+        key(cost, number) + 1,
+        words,
+        sets,
+        sums,
+    )
+}
