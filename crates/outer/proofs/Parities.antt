@@ -28,21 +28,19 @@ names-mark k (frozen ∷ ks) t h o = names-mark k ks t h o
 names-mark k (tied ts ∷ ks) zero h o = times-once k ts o
 names-mark k (tied ts ∷ ks) (suc t) h o = names-mark k ks t (omega arith) o
 
+-- the other kinds are not tied
+free-tied : {ts : List ℕ} → free ≡ tied ts → ⊥
+free-tied p = let z : _≡_ {A = ℕ} 0 1 = cc in omega arith
+
+frozen-tied : {ts : List ℕ} → frozen ≡ tied ts → ⊥
+frozen-tied p = let z : _≡_ {A = ℕ} 0 1 = cc in omega arith
+
 -- a tied index is that of as many ties as come before it
 index-at : (ks : List Kind) (i : ℕ) (ts : List ℕ) → getD ks i frozen ≡ tied ts → (tieIndex ks (tiedCount (take i ks)) ≡ i) × (tiedCount (take i ks) < tiedCount ks)
 unfolding tieIndex tiedCount
-index-at [] i ts e = absurd (never e)
-  where
-    never : frozen ≡ tied ts → ⊥
-    never p = let z : _≡_ {A = ℕ} 0 1 = cc in omega arith
-index-at (free ∷ ks) zero ts e = absurd (never e)
-  where
-    never : free ≡ tied ts → ⊥
-    never p = let z : _≡_ {A = ℕ} 0 1 = cc in omega arith
-index-at (frozen ∷ ks) zero ts e = absurd (never e)
-  where
-    never : frozen ≡ tied ts → ⊥
-    never p = let z : _≡_ {A = ℕ} 0 1 = cc in omega arith
+index-at [] i ts e = absurd (frozen-tied e)
+index-at (free ∷ ks) zero ts e = absurd (free-tied e)
+index-at (frozen ∷ ks) zero ts e = absurd (frozen-tied e)
 index-at (tied us ∷ ks) zero ts e = (refl, omega arith)
 index-at (free ∷ ks) (suc i) ts e = let r = index-at ks i ts e in (ap suc (r .0), r .1)
 index-at (frozen ∷ ks) (suc i) ts e = let r = index-at ks i ts e in (ap suc (r .0), r .1)

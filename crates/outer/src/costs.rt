@@ -17,6 +17,7 @@ fn value(numbers: &[i32], at: usize, n: usize, i: usize) -> i32
     if i < n { numbers[at + i] } else { 0 }
 }
 
+// The lowest bit of v.
 fn bit(v: usize) -> u8
     ensures { λ r. ⌜ r ≡ v % 2 ⌝ }
 {

@@ -16,6 +16,7 @@ use crate::costs::cost_of;
 use crate::costs::prepare;
 use crate::settings::fill;
 
+// A cost and a number as one key: the cost counts first.
 fn key(cost: u32, number: u32) -> u64
     ensures { λ r. ⌜ r ≡ keyOf cost number ⌝ }
 {

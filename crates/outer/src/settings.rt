@@ -41,6 +41,7 @@ const ROWS: [u32; 32] = [
     0xffffffff,
 ];
 
+// Row i.
 fn row(i: usize) -> u32
     requires { ⌜ i < 32 ⌝ }
     ensures { λ r. ⌜ r ≡ rowOf i ⌝ }
@@ -80,6 +81,7 @@ fn follow(words: &mut [u32; 256], sets: &mut [u32; 256], count: usize, t: u32, r
     }
 }
 
+// A byte, widened.
 fn wide(x: u8) -> u32
     ensures { λ r. ⌜ r ≡ x ⌝ }
 {

@@ -1,0 +1,173 @@
+/*
+ * The nearest word of a block of 32 with 8 free indices: the proved search beside a plain C loop over XORed words, and beside that loop with
+ * costs by half bytes, on the same values, turn by turn in the same run. Prints the nanoseconds that a search takes, the median of 15 turns
+ * of each, and the ratios; exits with 1 where a word differs. With 0, 8 and 16 tied indices. The C loops are given, before the clock starts,
+ * the word that each free bit alone makes, ties followed; the proved search goes by the loader's tables in every call.
+ */
+#include <stdint.h>
+#include <stdio.h>
+#include <stdlib.h>
+#include <time.h>
+
+uint32_t measured_nearest(const int32_t *numbers, size_t count, size_t at, const uint8_t *kinds, const uint32_t *terms, size_t start,
+                          uint32_t j, uint32_t parities, uint32_t *words, uint32_t *sets, uint32_t *sums);
+
+enum { BLOCKS = 512, LENGTH = 32, FREE = 8, SETTINGS = 256, TURNS = 15, ROUNDS = 20 };
+
+static int32_t numbers[BLOCKS * LENGTH];
+static uint8_t kinds[512];
+static uint32_t terms[512], words[256], sets[256], sums[128];
+static uint32_t expected[BLOCKS];
+
+static uint32_t state = 20261115;
+
+static uint32_t draw(void)
+{
+    state ^= state << 13;
+    state ^= state >> 17;
+    state ^= state << 5;
+    return state;
+}
+
+/* Row i of the matrix A as a number: position k is 1 where k has no bit that i lacks. */
+static uint32_t row(unsigned i)
+{
+    uint32_t r = 0;
+    for (unsigned k = 0; k < LENGTH; k++)
+        if ((k & ~i) == 0)
+            r |= (uint32_t)1 << k;
+    return r;
+}
+
+/* The plain loop: the words by XOR in the order of a Gray code, each word's cost position by position. */
+static uint32_t plain_nearest(const int32_t *values, const uint32_t *rows)
+{
+    uint32_t word = 0, best = 0, least = UINT32_MAX;
+    for (unsigned w = 0; w < SETTINGS; w++) {
+        uint32_t cost = 0;
+        if (w > 0)
+            word ^= rows[__builtin_ctz(w)];
+        for (unsigned i = 0; i < LENGTH; i++) {
+            int32_t s = values[i], bit = (int32_t)(word >> i & 1);
+            int32_t against = bit ? s : -s;
+            cost += (uint32_t)(against > 0 ? against : 0);
+        }
+        if (cost < least || (cost == least && word < best)) {
+            least = cost;
+            best = word;
+        }
+    }
+    return best;
+}
+
+/* The same loop with the costs of half bytes in a table, as the proved search has them. */
+static uint32_t table_nearest(const int32_t *values, const uint32_t *rows)
+{
+    uint32_t costs[8][16], word = 0, best = 0, least = UINT32_MAX;
+    for (unsigned p = 0; p < 8; p++)
+        for (unsigned v = 0; v < 16; v++) {
+            uint32_t cost = 0;
+            for (unsigned i = 0; i < 4; i++) {
+                int32_t s = values[4 * p + i], against = v >> i & 1 ? s : -s;
+                cost += (uint32_t)(against > 0 ? against : 0);
+            }
+            costs[p][v] = cost;
+        }
+    for (unsigned w = 0; w < SETTINGS; w++) {
+        uint32_t cost = 0;
+        if (w > 0)
+            word ^= rows[__builtin_ctz(w)];
+        for (unsigned p = 0; p < 8; p++)
+            cost += costs[p][word >> 4 * p & 15];
+        if (cost < least || (cost == least && word < best)) {
+            least = cost;
+            best = word;
+        }
+    }
+    return best;
+}
+
+static double now(void)
+{
+    struct timespec t;
+    clock_gettime(CLOCK_MONOTONIC, &t);
+    return (double)t.tv_sec * 1e9 + (double)t.tv_nsec;
+}
+
+static int by_size(const void *a, const void *b)
+{
+    double x = *(const double *)a, y = *(const double *)b;
+    return (x > y) - (x < y);
+}
+
+static double median(double *times)
+{
+    qsort(times, TURNS, sizeof *times, by_size);
+    return times[TURNS / 2];
+}
+
+/* Makes a block with so many ties, each of some free indices before it, and the words that each free bit alone makes. */
+static void make_block(unsigned ties, uint32_t *rows)
+{
+    static const unsigned free_at[FREE] = {0, 1, 2, 3, 4, 5, 8, 9};
+    static const unsigned tied_at[] = {31, 30, 29, 28, 27, 26, 25, 24, 23, 22, 21, 20, 19, 18, 17, 16};
+    for (unsigned i = 0; i < 512; i++) {
+        kinds[i] = 1;
+        terms[i] = 0;
+    }
+    for (unsigned f = 0; f < FREE; f++) {
+        kinds[free_at[f]] = 0;
+        rows[f] = row(free_at[f]);
+    }
+    for (unsigned t = 0; t < ties; t++) {
+        unsigned at = tied_at[ties - 1 - t], named = draw() % 255 + 1;
+        kinds[at] = (uint8_t)(2 + t);
+        for (unsigned f = 0; f < FREE; f++)
+            if (named >> f & 1) {
+                terms[free_at[f]] |= (uint32_t)1 << t;
+                rows[f] ^= row(at);
+            }
+    }
+}
+
+static int measure(unsigned ties)
+{
+    uint32_t rows[FREE];
+    double plain[TURNS], table[TURNS], proved[TURNS];
+    int differ = 0;
+    make_block(ties, rows);
+    for (unsigned t = 0; t < TURNS; t++) {
+        double a = now();
+        for (unsigned r = 0; r < ROUNDS; r++)
+            for (unsigned b = 0; b < BLOCKS; b++)
+                expected[b] = plain_nearest(numbers + b * LENGTH, rows);
+        double m = now();
+        for (unsigned r = 0; r < ROUNDS; r++)
+            for (unsigned b = 0; b < BLOCKS; b++)
+                differ |= table_nearest(numbers + b * LENGTH, rows) != expected[b];
+        double n = now();
+        for (unsigned r = 0; r < ROUNDS; r++)
+            for (unsigned b = 0; b < BLOCKS; b++)
+                differ |= measured_nearest(numbers, BLOCKS * LENGTH, b * LENGTH, kinds, terms, 0, 5, 0, words, sets, sums) != expected[b];
+        double z = now();
+        plain[t] = (m - a) / (ROUNDS * BLOCKS);
+        table[t] = (n - m) / (ROUNDS * BLOCKS);
+        proved[t] = (z - n) / (ROUNDS * BLOCKS);
+    }
+    double a = median(plain), b = median(table), c = median(proved);
+    printf("%2u ties: plain C loop %5.0f ns, C loop with table %5.0f ns, proved search %5.0f ns; ratio %.2f to the plain loop, %.2f to the table\n",
+           ties, a, b, c, c / a, c / b);
+    if (differ)
+        printf("a word differs\n");
+    return differ;
+}
+
+int main(void)
+{
+    for (unsigned i = 0; i < BLOCKS * LENGTH; i++)
+        numbers[i] = (int32_t)(draw() % 4095) - 2047;
+    int differ = measure(0);
+    differ |= measure(8);
+    differ |= measure(16);
+    return differ;
+}
