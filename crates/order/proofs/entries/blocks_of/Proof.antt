@@ -1,0 +1,16 @@
+-- `order::entries::blocks_of` meets its contract, by the definition. Assumes nothing.
+use mathlib.Core.Path.{refl}
+use borrow.Author.Needs.{needs}
+use Rattle.order.specs.Entries.{keyAt}
+use Rattle.order.proofs.entries.blocks_of.Statement.{statement}
+use Rattle.order.proofs.entries.blocks_of.Tie as tie
+
+cast-result : tie.Need-cast-result
+cast-result c = search needs
+
+returns : tie.Need-returns
+unfolding keyAt
+returns c = refl
+
+pub blocks-of-spec : {M : Type 1} → statement M
+blocks-of-spec = tie.close (tie.spec cast-result returns)

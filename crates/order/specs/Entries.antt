@@ -1,0 +1,27 @@
+-- The queue as an array of entries, the first path last. An entry is a path's key and slot in one number: the score raised by 2^21 counts 2^33, the
+-- blocks count 2^23, 32767 less the number counts 2^8, and the slot is the rest. So the greater of two entries has the path that comes first.
+-- Assumes nothing.
+use mathlib.Core.Path.{_≡_}
+use mathlib.Core.List.{List, [], _∷_}
+use Prim.Native.Nat.{ℕ, zero, suc, _-_, _/_, _%_, _<_}
+use lib.ListN.{getD}
+use lib.IntN.{pos, _-ℤ_}
+use Rattle.machine.specs.Queue.{Key}
+
+-- the key of an entry, and its slot
+unfoldable pub keyAt : ℕ → Key
+keyAt e = record { score = pos (e / 8589934592) -ℤ pos 2097152; blocks = e / 8388608 % 1024; number = 32767 - e / 256 % 32768 }
+
+unfoldable pub slotAt : ℕ → ℕ
+slotAt e = e % 256
+
+-- an entry has this key and slot; none reaches 2^55
+pub record Packed (e : ℕ) (k : Key) (s : ℕ) : Type 0 where
+  pub key : keyAt e ≡ k
+  pub slot : slotAt e ≡ s
+  pub low : e < 36028797018963968
+
+-- the queue of the first n entries of an array: the last entry is the first path's
+unfoldable pub queueOf : List ℕ → ℕ → List ℕ
+queueOf order zero = []
+queueOf order (suc n) = getD order n 0 ∷ queueOf order n
