@@ -1,7 +1,7 @@
--- The id that a path writes to: none that another path holds, never 0, the path's own where that is so already, and no higher than needed.
--- Nothing else of the choice is used anywhere. The first free id is found since each taken one on the way leaves fewer of the taken ones above
--- it. Assumes nothing.
-use mathlib.Core.Path.{_≡_, refl, sym, ap}
+-- The id that a path writes to: none that another path holds, never 0, the path's own where that is so already, and no higher than needed:
+-- where it is not the path's own, each lower one is taken. Nothing else of the choice is used anywhere. The first free id is found since each
+-- taken one on the way leaves fewer of the taken ones above it. Assumes nothing.
+use mathlib.Core.Path.{_≡_, refl, sym, ap, _∙_}
 use mathlib.Core.Bool.{Bool, true, false, cond, _||_}
 use mathlib.Core.List.{List, [], _∷_}
 use Prim.Native.Nat.{ℕ, zero, suc, _+_, _≤_, _<_}
@@ -92,6 +92,18 @@ first-free (suc n) i is h = go (among i is) refl (first-free n (suc i) is)
     go true e ih = let k = ih (omega (arith, above-among i is e)) in (k .0, omega (arith, k .1))
     go false e ih = (e, omega arith)
 
+-- each id on the way to it is taken
+first-least : (n i : ℕ) (is : List ℕ) (k : ℕ) → i ≤ k → k < firstFree n i is → among k is ≡ true
+unfolding firstFree
+first-least zero i is k l h = absurd (omega arith)
+first-least (suc n) i is k l h = go (among i is) refl (eqb i k) refl h (first-least n (suc i) is k)
+  where
+    go : (b : Bool) → among i is ≡ b → (t : Bool) → eqb i k ≡ t → k < cond b (firstFree n (suc i) is) i →
+        (suc i ≤ k → k < firstFree n (suc i) is → among k is ≡ true) → among k is ≡ true
+    go true e true q h ih = ap (λ j. among j is) (sym (eqb-true i k q)) ∙ e
+    go true e false q h ih = ih (omega (arith, eqb-false i k q)) h
+    go false e t q h ih = absurd (omega arith)
+
 -- ---- the choice
 
 -- it is no id taken: 0, and those of the others
@@ -123,3 +135,15 @@ own-most N i is h k = go (among i (0 ∷ is))
     go : (b : Bool) → cond b (firstFree (length (0 ∷ is)) 0 (0 ∷ is)) i ≤ N
     go true = omega (arith, first-free (length (0 ∷ is)) 0 (0 ∷ is) (above-all 0 (0 ∷ is)) .1)
     go false = h
+
+-- where i is taken, so is each id below the choice
+pub own-least : (i : ℕ) (is : List ℕ) → (NoneIs i (0 ∷ is) → ⊥) → (k : ℕ) → k < ownOf i is → NoneIs k (0 ∷ is) → ⊥
+unfolding ownOf
+own-least i is t k l h = go (among i (0 ∷ is)) refl l
+  where
+    go : (b : Bool) → among i (0 ∷ is) ≡ b → k < cond b (firstFree (length (0 ∷ is)) 0 (0 ∷ is)) i → ⊥
+    go true e l =
+        let z : true ≡ false = sym (first-least (length (0 ∷ is)) 0 (0 ∷ is) k (omega arith) l) ∙ none-among k (0 ∷ is) h in
+        let y : _≡_ {A = ℕ} 0 1 = cc in
+        omega arith
+    go false e l = t (among-none i (0 ∷ is) e)

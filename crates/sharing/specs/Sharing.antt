@@ -1,0 +1,62 @@
+-- Who holds which array: the ids of each path's arrays in rows of a table, and how many paths hold each array in another. Assumes nothing.
+use mathlib.Core.Path.{_≡_}
+use mathlib.Core.Bool.{cond}
+use mathlib.Core.List.{List, _∷_, map}
+use Prim.Native.Nat.{ℕ, _+_, _*_, _≤_, _<_}
+use lib.ListN.{length, getD}
+use lib.Dec.{eqb}
+use Rattle.codec.specs.Ties.{times}
+
+-- the id at height h in the row of slot s: a row has 16 numbers, its ids by height first
+unfoldable pub idAt : List ℕ → ℕ → ℕ → ℕ
+idAt rows s h = getD rows (s * 16 + h) 0
+
+-- how many paths hold id i at height h: 257 numbers for each height, by id; id 0 is no array, and is counted like any other
+unfoldable pub heldAt : List ℕ → ℕ → ℕ → ℕ
+heldAt holders h i = getD holders (h * 257 + i) 0
+
+-- 1 where two ids are the same, else 0
+unfoldable pub one : ℕ → ℕ → ℕ
+one i k = cond (eqb i k) 1 0
+
+-- 256 rows, and ten heights
+pub record Sizes (rows holders : List ℕ) : Type 0 where
+  pub rows-size : length rows ≡ 4096
+  pub holders-size : length holders ≡ 2570
+
+-- a path holds id i at height h, other paths hold these, the holders of the ids up to N are counted, and N are more than the others
+pub record Shared (holders : List ℕ) (h N i : ℕ) : Type 0 where
+  pub others : List ℕ
+  pub low : i ≤ N
+  pub counted : (k : ℕ) → k ≤ N → heldAt holders h k ≡ times k (i ∷ others)
+  pub few : length others < N
+
+-- one path more, or one fewer, at the heights up to m, holds what a row holds
+unfoldable pub MoreBy : ℕ → List ℕ → ℕ → List ℕ → List ℕ → Type 0
+MoreBy m rows s old new =
+    ((h i : ℕ) → h ≤ m → i ≤ 256 → heldAt new h i ≡ heldAt old h i + one (idAt rows s h) i)
+    × ((h i : ℕ) → m < h → h ≤ 9 → i ≤ 256 → heldAt new h i ≡ heldAt old h i)
+
+unfoldable pub LessBy : ℕ → List ℕ → ℕ → List ℕ → List ℕ → Type 0
+LessBy m rows s old new = MoreBy m rows s new old
+
+-- a holder of one id of height h holds another instead
+unfoldable pub Exchanged : ℕ → ℕ → ℕ → List ℕ → List ℕ → Type 0
+Exchanged h i k old new =
+    ((x : ℕ) → x ≤ 256 → heldAt new h x + one i x ≡ heldAt old h x + one k x)
+    × ((g x : ℕ) → (g ≡ h → ⊥) → g ≤ 9 → x ≤ 256 → heldAt new g x ≡ heldAt old g x)
+
+-- row c holds the ids that row s holds at the heights up to m; the table is else as it was
+unfoldable pub Copied : ℕ → ℕ → ℕ → List ℕ → List ℕ → Type 0
+Copied m s c old new =
+    ((h : ℕ) → h ≤ m → idAt new c h ≡ idAt old s h)
+    × ((k : ℕ) → (k < c * 16) → getD new k 0 ≡ getD old k 0)
+    × ((k : ℕ) → (c * 16 + m < k) → getD new k 0 ≡ getD old k 0)
+
+-- the row of slot s holds these ids at the heights up to m
+unfoldable pub HasIds : ℕ → List ℕ → ℕ → (ℕ → ℕ) → Type 0
+HasIds m rows s ids = (h : ℕ) → h ≤ m → idAt rows s h ≡ ids h
+
+-- the holders are counted, for paths with these ids: of each id up to N, at each height up to m
+unfoldable pub Counted : ℕ → ℕ → List ℕ → List (ℕ → ℕ) → Type 0
+Counted m N holders paths = (h i : ℕ) → h ≤ m → i ≤ N → heldAt holders h i ≡ times i (map (λ (o : ℕ → ℕ). o h) paths)

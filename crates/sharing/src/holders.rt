@@ -1,0 +1,97 @@
+// Arrays held, taken, shared and let go. `rows` has 16 numbers for each slot, the ids of its path's arrays by height first; `holders` has 257 for
+// each height, the number of paths that hold each id.
+ghost use mathlib.Core.Path.{_≡_};
+ghost use mathlib.Core.Bool.{_&&_};
+ghost use Prim.Native.Nat.{ℕ, _+_, _*_, _≤_, _<_};
+ghost use lib.Dec.{ltb, leb};
+ghost use lib.ListN.{length, set};
+ghost use Rattle.reader.specs.Arrays.{ownOf};
+ghost use Rattle.sharing.specs.Sharing.{idAt, heldAt, Sizes, Shared, MoreBy, LessBy, Exchanged, Copied};
+
+// The first id from 1 on that no path holds at a height; most + 1 if none of the first `most` is free.
+fn first_free(holders: &[u16; 2570], height: usize, most: usize) -> usize
+    requires { ⌜ (height ≤ 9) × (most ≤ 256) ⌝ }
+    ensures { λ r. ⌜ (1 ≤ r) × (r ≤ most + 1)
+        × ((k : ℕ) → 1 ≤ k → k < r → 1 ≤ heldAt (now (holders .entry)) height k)
+        × (r ≤ most → heldAt (now (holders .entry)) height r ≡ 0) ⌝ }
+{
+    let mut id: usize = 1;
+    while id <= most {
+        if holders[height * 257 + id] == 0 {
+            return id;
+        }
+        id += 1;
+    }
+    id
+}
+
+// Whether a path that holds an id may write to it: it is some array, and no other path holds it.
+fn alone(id: usize, held: u16) -> bool
+    ensures { λ r. ⌜ r ≡ (ltb 0 id && leb held 1) ⌝ }
+{
+    id > 0 && held <= 1
+}
+
+// The path in a slot takes an array of a height: its own where no other path holds it, else the first free one. Returns its id.
+pub fn take(
+    rows: &mut [u32; 4096],
+    holders: &mut [u16; 2570],
+    slot: usize,
+    height: usize,
+    most: usize,
+) -> usize
+    requires { ⌜ Sizes (now rows) (now holders) × (slot < 256) × (height ≤ 9) × (most ≤ 256) ⌝ }
+    requires { ⌜ Shared (now holders) height most (idAt (now rows) slot height) ⌝ }
+    ensures { λ r. ⌜ Sizes (now (rows .exit)) (now (holders .exit)) × (1 ≤ r) × (r ≤ most) ⌝ }
+    ensures { λ r. ⌜ now (rows .exit) ≡ set (now (rows .entry)) (slot * 16 + height) r ⌝ }
+    ensures { λ r. ⌜ Exchanged height (idAt (now (rows .entry)) slot height) r (now (holders .entry)) (now (holders .exit)) ⌝ }
+    ensures { λ r. ⌜ ((x : Shared (now (holders .entry)) height most (idAt (now (rows .entry)) slot height))
+        → r ≡ ownOf (idAt (now (rows .entry)) slot height) (x .others)) ⌝ }
+{
+    let at = slot * 16 + height;
+    let id = rows[at] as usize;
+    let held = holders[height * 257 + id];
+    if alone(id, held) {
+        return id;
+    }
+    let free = first_free(holders, height, most);
+    holders[height * 257 + id] = held - 1;
+    holders[height * 257 + free] = 1;
+    rows[at] = free as u32;
+    free
+}
+
+// The path in slot `to` holds what the one in slot `from` holds, at the heights up to m.
+pub fn share(rows: &mut [u32; 4096], holders: &mut [u16; 2570], m: usize, from: usize, to: usize)
+    requires { ⌜ Sizes (now rows) (now holders) × (m ≤ 9) × (from < 256) × (to < 256) ⌝ }
+    requires { ⌜ ((h : ℕ) → h ≤ m → (let id = idAt (now rows) from h in (id ≤ 256) × (heldAt (now holders) h id < 65535))) ⌝ }
+    requires { ⌜ (from ≡ to → ⊥) ⌝ }
+    ensures { λ _. ⌜ Sizes (now (rows .exit)) (now (holders .exit)) ⌝ }
+    ensures { λ _. ⌜ Copied m from to (now (rows .entry)) (now (rows .exit)) ⌝ }
+    ensures { λ _. ⌜ MoreBy m (now (rows .entry)) from (now (holders .entry)) (now (holders .exit)) ⌝ }
+{
+    let mut h: usize = 0;
+    while h <= m {
+        let id = rows[from * 16 + h];
+        let at = h * 257 + id as usize;
+        holders[at] = holders[at] + 1;
+        rows[to * 16 + h] = id;
+        h += 1;
+    }
+}
+
+// The path in a slot lets go of what it holds at the heights up to m.
+pub fn release(rows: &[u32; 4096], holders: &mut [u16; 2570], m: usize, slot: usize)
+    requires { ⌜ Sizes (now rows) (now holders) × (m ≤ 9) × (slot < 256) ⌝ }
+    requires { ⌜ ((h : ℕ) → h ≤ m → (let id = idAt (now rows) slot h in (id ≤ 256) × (1 ≤ heldAt (now holders) h id))) ⌝ }
+    ensures { λ _. ⌜ length (now (holders .exit)) ≡ 2570 ⌝ }
+    ensures { λ _. ⌜ LessBy m (now (rows .entry)) slot (now (holders .entry)) (now (holders .exit)) ⌝ }
+{
+    let mut h: usize = 0;
+    while h <= m {
+        let id = rows[slot * 16 + h];
+        let at = h * 257 + id as usize;
+        holders[at] = holders[at] - 1;
+        h += 1;
+    }
+}
