@@ -12,10 +12,11 @@ use lib.Seq.{getD-append-seam, drop-cons, take-at, drop-at}
 use lib.Dec.{eqb}
 use borrow.Author.Tests.{eq-eqb, ne-eqb}
 use Rattle.laws.proofs.Lists.{length-snoc}
-use Rattle.polar.specs.Bits.{toBits}
+use Rattle.polar.specs.Bits.{Bit, toBits}
 use Rattle.codebook.specs.Book.{Book, Kind, free, frozen, tied, freeCount, startOf, kindsOf, blockAt}
 use Rattle.codec.specs.Code.{parity, fill}
 use Rattle.codec.specs.Ties.{Parities, times, names, absorb, Filling, push, fillFrom, fillBlock}
+use Rattle.codec.proofs.Fill.{parity-bit}
 
 -- ---- one bit more
 
@@ -57,6 +58,17 @@ sumAt u (tied ts) = parity u ts
 
 pub paritiesOf : Book → List ℕ → Parities
 paritiesOf B u i = sumAt u (getD (B .kinds) i frozen)
+
+sum-bit : (u : List ℕ) (k : Kind) → Bit (sumAt u k)
+unfolding sumAt
+sum-bit u free = omega arith
+sum-bit u frozen = omega arith
+sum-bit u (tied ts) = parity-bit u ts
+
+-- they are bits
+pub parities-bits : (B : Book) (u : List ℕ) (i : ℕ) → Bit (paritiesOf B u i)
+unfolding paritiesOf
+parities-bits B u i = sum-bit u (getD (B .kinds) i frozen)
 
 sum-none : (k : Kind) → 0 ≡ sumAt [] k
 unfolding sumAt parity

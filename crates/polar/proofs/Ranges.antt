@@ -55,20 +55,20 @@ R-range m ys u h e f b w =
 
 -- ---- node values
 
-Qs-within : (M : ℕ) (a b : List ℤ) → All (Within M) a → All (Within M) (Qs a b)
+pub Qs-within : (M : ℕ) (a b : List ℤ) → All (Within M) a → All (Within M) (Qs a b)
 unfolding Qs zipWith All
 Qs-within M [] b h = tt
 Qs-within M (x ∷ a) [] h = tt
 Qs-within M (x ∷ a) (y ∷ b) h = (omega (arith, Q-abs x y, h .0), Qs-within M a b (h .1))
 
-Ps-within : (M : ℕ) (vs : List ℕ) (a b : List ℤ) → All (Within M) a → All (Within M) b → All (Within (M + M)) (Ps vs a b)
+pub Ps-within : (M : ℕ) (vs : List ℕ) (a b : List ℤ) → All (Within M) a → All (Within M) b → All (Within (M + M)) (Ps vs a b)
 unfolding Ps All
 Ps-within M [] a b h k = tt
 Ps-within M (v ∷ vs) [] b h k = tt
 Ps-within M (v ∷ vs) (x ∷ a) [] h k = tt
 Ps-within M (v ∷ vs) (x ∷ a) (y ∷ b) h k = (omega (arith, P-abs v x y, h .0, k .0), Ps-within M vs a b (h .1) (k .1))
 
-within-more : (M N : ℕ) (ys : List ℤ) → M ≤ N → All (Within M) ys → All (Within N) ys
+pub within-more : (M N : ℕ) (ys : List ℤ) → M ≤ N → All (Within M) ys → All (Within N) ys
 within-more M N ys q h = all-map (λ y k. omega arith) ys h
 
 -- one step down doubles the bound

@@ -69,7 +69,7 @@ module _ (others : List (ℕ → ℕ)) where
     sums-kept x = all-map (λ o n. record { vals = refl; sums = seen-frame (v .arrays .sums) o h (writes others h v) x n }) others writes-new
 
     -- the half written, and the other half
-    vals-put : (x : List ℤ) → valsOf (putVals others h x v) ≡ upd (valsOf v) h x
+    pub vals-put : (x : List ℤ) → valsOf (putVals others h x v) ≡ upd (valsOf v) h x
     unfolding putVals
     vals-put x = seen-store (v .arrays .vals) (v .ids) h (writes others h v) x
 

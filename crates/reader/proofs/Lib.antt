@@ -12,3 +12,4 @@ pub mod Removed
 pub mod Bounds
 pub mod Held
 pub mod Solo
+pub mod Descent

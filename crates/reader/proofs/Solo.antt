@@ -217,7 +217,7 @@ module _ (B : Book) where
   run-takes-none L D A = all-map (λ t h. takes-none _ (t .path) _ _ refl (h .copied)) (momentsOf B L D A) (run-lone L D A)
 
 -- a descent takes no array at or above where it starts
-descend-top : (others : List (ℕ → ℕ)) (d m t : ℕ) (v : View) (h : ℕ) → m ≤ h → descend others d m t v .ids h ≡ v .ids h
+pub descend-top : (others : List (ℕ → ℕ)) (d m t : ℕ) (v : View) (h : ℕ) → m ≤ h → descend others d m t v .ids h ≡ v .ids h
 unfolding putVals
 descend-top others d m t v h l =
     descend-keeps others (λ w. w .ids h ≡ v .ids h) d m t v (λ k x w b e. upd-other (w .ids) k (writes others k w) h (λ z. omega arith) ∙ e) refl

@@ -307,7 +307,7 @@ module _ (d j m s : ℕ) (e : m ≡ d + j) (a : Starts d m s) where
   block-less : s < 2 ^ m
   block-less = omega (arith, starts-fits d j m s e a, pow-pos j)
 
-  root-starts : Starts (suc d) (suc m) s
+  pub root-starts : Starts (suc d) (suc m) s
   unfolding Starts
   root-starts = subst (Starts d m) (sym (rest-low m s block-less)) a
 
