@@ -26,7 +26,7 @@ use Rattle.codebook.specs.Limits.{Valid}
 use Rattle.outer.proofs.Blocks.{Placed, placed, start-less}
 use Rattle.reader.specs.Arrays.{View, valsOf, sumsOf, writes, putVals, turn, descend}
 use Rattle.reader.specs.Paths.{place}
-use Rattle.reader.proofs.Upd.{upd-same}
+use Rattle.reader.proofs.Upd.{upd-same, upd-other}
 use Rattle.reader.proofs.Own.{own-some}
 use Rattle.reader.proofs.Tree.{turn-high, turn-low, turn-past, turn-less, root-starts}
 use Rattle.reader.proofs.Arrays.{vals-put}
@@ -52,6 +52,10 @@ writes-some others h v = some-id _ (own-some (v .ids h) _)
 pub put-has : (others : List (ℕ → ℕ)) (h : ℕ) (x : List ℤ) (v : View) → 1 ≤ putVals others h x v .ids h
 unfolding putVals
 put-has others h x v = subst (λ (i : ℕ). 1 ≤ i) (sym (upd-same (v .ids) h (writes others h v))) (writes-some others h v)
+
+pub put-other : (others : List (ℕ → ℕ)) (h : ℕ) (x : List ℤ) (v : View) (k : ℕ) → (k ≡ h → ⊥) → putVals others h x v .ids k ≡ v .ids k
+unfolding putVals
+put-other others h x v k n = upd-other (v .ids) h (writes others h v) k n
 
 -- a bound of the values; P doubles it
 pub turn-within : (M n : ℕ) (c : List ℕ) (ys : List ℤ) → All (Within M) ys → All (Within (M + M)) (Ps c (take n ys) (drop n ys))

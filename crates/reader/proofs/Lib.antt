@@ -13,3 +13,5 @@ pub mod Bounds
 pub mod Held
 pub mod Solo
 pub mod Descent
+pub mod Rooted
+pub mod Fit

@@ -1,3 +1,4 @@
 pub mod Arrays
 pub mod Paths
 pub mod Reader
+pub mod Fit
