@@ -49,6 +49,15 @@ module _ (others : List (ℕ → ℕ)) where
     unfolding writes theirs
     writes-new = all-unmapped (λ (o : ℕ → ℕ). o h) (λ k. k ≡ ownOf (v .ids h) theirs → ⊥) others (own-new (v .ids h) theirs)
 
+    -- never id 0
+    pub writes-some : 1 ≤ writes others h v
+    unfolding writes theirs
+    writes-some = above (ownOf (v .ids h) theirs) (own-some (v .ids h) theirs)
+      where
+        above : (i : ℕ) → (i ≡ 0 → ⊥) → 1 ≤ i
+        above zero n = absurd (n refl)
+        above (suc i) n = omega arith
+
     pub writes-keep : Alone others h (v .ids) → writes others h v ≡ v .ids h
     unfolding writes theirs
     writes-keep a = own-keep (v .ids h) theirs (a .0) (all-mapped (λ (o : ℕ → ℕ). o h) (λ k. k ≡ v .ids h → ⊥) others (a .1))

@@ -27,9 +27,8 @@ use Rattle.outer.proofs.Blocks.{Placed, placed, start-less}
 use Rattle.reader.specs.Arrays.{View, valsOf, sumsOf, writes, putVals, turn, descend}
 use Rattle.reader.specs.Paths.{place}
 use Rattle.reader.proofs.Upd.{upd-same, upd-other}
-use Rattle.reader.proofs.Own.{own-some}
-use Rattle.reader.proofs.Tree.{turn-high, turn-low, turn-past, turn-less, root-starts}
-use Rattle.reader.proofs.Arrays.{vals-put}
+use Rattle.reader.proofs.Tree.{rest-late, turn-high, turn-low, turn-past, turn-less, root-starts}
+use Rattle.reader.proofs.Arrays.{writes-some, vals-put}
 use Rattle.reader.proofs.Solo.{descend-top}
 
 -- the values of height h from those of the height above, by Q and by P
@@ -39,15 +38,10 @@ byQ others h v = putVals others h (Qs (take (2 ^ h) (valsOf v (suc h))) (drop (2
 abbrev pub byP : List (ℕ → ℕ) → ℕ → View → View
 byP others h v = putVals others h (Ps (sumsOf v h) (take (2 ^ h) (valsOf v (suc h))) (drop (2 ^ h) (valsOf v (suc h)))) v
 
--- ---- a write never gives id 0
+-- ---- after a write
 
-some-id : (i : ℕ) → (i ≡ 0 → ⊥) → 1 ≤ i
-some-id zero n = absurd (n refl)
-some-id (suc i) n = omega arith
-
-pub writes-some : (others : List (ℕ → ℕ)) (h : ℕ) (v : View) → 1 ≤ writes others h v
-unfolding writes
-writes-some others h v = some-id _ (own-some (v .ids h) _)
+pub put-vals : (others : List (ℕ → ℕ)) (h : ℕ) (x : List ℤ) (v : View) → valsOf (putVals others h x v) h ≡ x
+put-vals others h x v = ap (λ f. f h) (vals-put others h v x) ∙ upd-same (valsOf v) h x
 
 pub put-has : (others : List (ℕ → ℕ)) (h : ℕ) (x : List ℤ) (v : View) → 1 ≤ putVals others h x v .ids h
 unfolding putVals
@@ -71,8 +65,7 @@ module _ (others : List (ℕ → ℕ)) where
   -- the first step
   descend-first : (k m : ℕ) (v : View) → descend others (suc k) (suc m) 0 v ≡ descend others k m 0 (byQ others m v)
   unfolding descend
-  descend-first k m v =
-      rw (rest-zero m, child-low m 0 (sumsOf v m) (valsOf v (suc m)) (pow-pos m))
+  descend-first k m v = rw (rest-zero m, child-low m 0 (sumsOf v m) (valsOf v (suc m)) (pow-pos m))
 
   -- the last step
   descend-last : (k top h : ℕ) (v : View) → top ≡ suc k + h → descend others (suc k) top 0 v ≡ byQ others h (descend others k top 0 v)
@@ -88,11 +81,11 @@ module _ (others : List (ℕ → ℕ)) where
   descend-more k top v l = descend-last k top (top - suc k) v (omega arith)
 
   -- Q keeps a bound
-  byQ-within : (h M : ℕ) (v : View) → All (Within M) (valsOf v (suc h)) → All (Within M) (valsOf (byQ others h v) h)
+  pub byQ-within : (h M : ℕ) (v : View) → All (Within M) (valsOf v (suc h)) → All (Within M) (valsOf (byQ others h v) h)
   byQ-within h M v k =
       let ys : List ℤ = valsOf v (suc h) in
       let x : List ℤ = Qs (take (2 ^ h) ys) (drop (2 ^ h) ys) in
-      subst (All (Within M)) (sym (ap (λ f. f h) (vals-put others h v x) ∙ upd-same (valsOf v) h x))
+      subst (All (Within M)) (sym (put-vals others h x v))
       (Qs-within M (take (2 ^ h) ys) (drop (2 ^ h) ys) (all-take (Within M) (2 ^ h) ys k))
 
   within-at : (k top h M : ℕ) (v : View) → top ≡ k + h → All (Within M) (valsOf v top) → All (Within M) (valsOf (descend others k top 0 v) h)
@@ -133,11 +126,6 @@ module _ (others : List (ℕ → ℕ)) where
       ap (λ d. descend others d (suc m) t v) e
       ∙ go (eqb (rest m t) 0) refl (λ q b. descend-turn m (rest m t) j v q (rest-less m t l) b)
     where
-      -- a node that starts at t is a last half
-      late : rest m t ≡ 0 → (t < 2 ^ m) ⊎ (2 ^ m ≤ t) → 2 ^ m ≤ t
-      late z (inl x) = absurd (omega (arith, rest-low m t x))
-      late z (inr x) = x
-
       x : List ℤ
       x = child m t (sumsOf v m) (valsOf v (suc m))
 
@@ -149,7 +137,7 @@ module _ (others : List (ℕ → ℕ)) where
           descend others (m - j) m (rest m t) (cond b (putVals others m x v) v) ≡ after (turn (suc m) t)
       go true e ih =
           let z : rest m t ≡ 0 = eqb-true (rest m t) 0 e in
-          let high : 2 ^ m ≤ t = late z (lt-or t (2 ^ m)) in
+          let high : 2 ^ m ≤ t = rest-late m t p z in
           ap (λ i. descend others (m - j) m i (putVals others m x v)) z
           ∙ ap (λ y. descend others (m - j) m 0 (putVals others m y v)) (child-high m t (sumsOf v m) (valsOf v (suc m)) high)
           ∙ ap after (sym (turn-high m t high z))
@@ -193,13 +181,13 @@ start-turn : (d j m t : ℕ) → m ≡ d + j → Starts d m t → 0 < t → t < 
 unfolding Starts
 start-turn zero j m t e a p l = absurd (omega arith)
 start-turn (suc d) j zero t e a p l = absurd a
-start-turn (suc d) j (suc m) t e a p l = go (eqb (rest m t) 0) refl (lt-or t (2 ^ m)) (start-turn d j m (rest m t) (omega arith) a)
+start-turn (suc d) j (suc m) t e a p l = go (eqb (rest m t) 0) refl (start-turn d j m (rest m t) (omega arith) a)
   where
-    go : (b : Bool) → eqb (rest m t) 0 ≡ b → (t < 2 ^ m) ⊎ (2 ^ m ≤ t) → (0 < rest m t → rest m t < 2 ^ m → j ≤ turn m (rest m t)) →
-        j ≤ turn (suc m) t
-    go true f (inl x) ih = absurd (omega (arith, eqb-true (rest m t) 0 f, rest-low m t x))
-    go true f (inr x) ih = omega (arith, turn-high m t x (eqb-true (rest m t) 0 f))
-    go false f x ih =
+    go : (b : Bool) → eqb (rest m t) 0 ≡ b → (0 < rest m t → rest m t < 2 ^ m → j ≤ turn m (rest m t)) → j ≤ turn (suc m) t
+    go true f ih =
+        let z : rest m t ≡ 0 = eqb-true (rest m t) 0 f in
+        omega (arith, turn-high m t (rest-late m t p z) z)
+    go false f ih =
         let n : rest m t ≡ 0 → ⊥ = eqb-false (rest m t) 0 f in
         omega (arith, turn-past m t n, ih (omega arith) (rest-less m t l))
 

@@ -1,8 +1,9 @@
 -- A queued path is fit for its next extraction: values within range since they are a node's, sums of bits since they are words of the path's
 -- bits, a total within range since it is the path's costs. And it stays so while others write. Assumes nothing.
 use mathlib.Core.Path.{_≡_, refl, sym, ap, _∙_, subst}
-use mathlib.Core.List.{List}
+use mathlib.Core.List.{List, _∷_}
 use mathlib.Core.Logic.{_⊎_, inl, inr}
+use mathlib.Core.Option.{Option, none, some}
 use Prim.Native.Nat.{ℕ, zero, suc, _+_, _-_, _*_, _^_, _≤_, _<_}
 use native.Mathlib.Nat.{two-pow-succ}
 use native.Mathlib.Omega.{arith}
@@ -24,13 +25,16 @@ use Rattle.codebook.specs.Limits.{Valid}
 use Rattle.codec.specs.Ties.{Parities}
 use Rattle.codec.proofs.Ties.{paritiesOf, parities-bits}
 use Rattle.outer.specs.Blocks.{Bits}
+use Rattle.outer.specs.Words.{Word}
 use Rattle.outer.proofs.Blocks.{Placed, placed}
+use Rattle.machine.specs.Queue.{roomFor}
 use Rattle.machine.specs.Machine as M
 use Rattle.reader.specs.Arrays.{Arrays, View, valsOf, sumsOf, turn}
-use Rattle.reader.specs.Paths.{Path, place, viewOf}
+use Rattle.reader.specs.Paths.{Path, place, idsOf, viewOf}
+use Rattle.reader.specs.Reader.{copyWith, copy}
 use Rattle.reader.specs.Fit.{FitFor}
 use Rattle.reader.proofs.Tree.{Vals, Sums, vals-node, turn-low, turn-high, turn-past, root-starts}
-use Rattle.reader.proofs.Arrays.{Sees}
+use Rattle.reader.proofs.Arrays.{Sees, sees-same, claim-kept}
 use Rattle.reader.proofs.Good.{Inv, StandsFor, Sized, sized}
 use Rattle.reader.proofs.Descent.{place-own}
 use Rattle.reader.proofs.Rooted.{Rooted}
@@ -105,7 +109,7 @@ module _ (B : Book) (ys : List ℤ) (ok : Valid B) (ly : length ys ≡ 2 ^ (B .m
       let k : 2 ^ (B .m) ≤ 2 ^ 9 = pow-mono (ok .high) in
       omega (arith, z .total, costs-le (B .m) 2047 ys u ly l (z .bits) w)
 
-  -- the values of a node below the root are within half the range
+  -- the values of a node at most eight steps below the root are within half the range
   lower-range : (d : ℕ) (u : List ℕ) (t : ℕ) → d ≤ 8 → All (Within 524032) (node d (B .m) ys u t)
   lower-range d u t l =
       let p : 2 ^ d ≤ 2 ^ 8 = pow-mono l in
@@ -180,3 +184,18 @@ fit-frame B A A′ p (suc b) e h =
       earlier = h .earlier;
       parities = h .parities;
     }
+
+-- so the path taken is after its copy is made
+module _ (B : Book) (D : ℕ) (A : Arrays) (p : Path) (ps : List Path) (n : ℕ) where
+  copyWith-sees : (b : ℕ) (o : Option Word) → Sees A (copyWith B D A p b ps n o .arrays) (p .ids)
+  unfolding copyWith All
+  copyWith-sees b none = sees-same A (p .ids)
+  copyWith-sees b (some x) = claim-kept (p .ids ∷ idsOf (roomFor D ps)) (place B b) (viewOf A p) (blockAt B b .j) .0
+
+  pub copy-sees : (b : ℕ) → Sees A (copy B D A p ps n b .arrays) (p .ids)
+  unfolding copy
+  copy-sees zero = sees-same A (p .ids)
+  copy-sees (suc b) = copyWith-sees b _
+
+  pub fit-copied : (b : ℕ) → FitFor B A p b → FitFor B (copy B D A p ps n b .arrays) p b
+  fit-copied b h = fit-frame B A (copy B D A p ps n b .arrays) p b (copy-sees b) h

@@ -1,7 +1,7 @@
 -- How many arrays the reader needs: at each height the paths alive hold no more arrays than they are, and all ids held run to D, so that with D
 -- arrays of each height one is free whenever a path takes one. The ids are kept within D by each extraction, since at most D paths are alive.
 -- Assumes nothing.
-use mathlib.Core.Path.{_≡_, refl, sym, _∙_, subst}
+use mathlib.Core.Path.{_≡_, refl, sym, subst}
 use mathlib.Core.Bool.{Bool, true, false, cond, _||_}
 use mathlib.Core.List.{List, [], _∷_, map}
 use mathlib.Core.Option.{Option, none, some}
@@ -20,9 +20,8 @@ use Rattle.reader.specs.Arrays.{Arrays, View, upd, among, writes, putVal
 use Rattle.outer.specs.Words.{Word}
 use Rattle.reader.specs.Paths.{Path, keyOf, firstPath, place, idsOf, viewOf}
 use Rattle.reader.specs.Reader.{commit, copyWith, copy, moveWith, move, staying, extract}
-use Rattle.reader.proofs.Upd.{upd-same}
 use Rattle.reader.proofs.Own.{own-most}
-use Rattle.reader.proofs.Arrays.{writes-new, writes-alone, claim-ids, descend-keeps}
+use Rattle.reader.proofs.Arrays.{writes-new, writes-some, claim-ids, descend-keeps}
 use Rattle.reader.proofs.Moments.{Moment, momentsOf, extractAt, copyAt, movedAt, Taken, run-all}
 use Rattle.reader.proofs.Bounds.{Alive, alive, extract-length}
 
@@ -86,14 +85,10 @@ module _ (N : ℕ) (others : List (ℕ → ℕ)) (few : length others < N) where
   pub writes-free : (h : ℕ) (v : View) → Within N (v .ids) →
       (0 < writes others h v) × (writes others h v ≤ N) × All (λ (o : ℕ → ℕ). o h ≡ writes others h v → ⊥) others
   writes-free h v w = (
-    above (writes others h v) (λ e. writes-alone others h v .0 (upd-same (v .ids) h (writes others h v) ∙ e)),
+    writes-some others h v,
     writes-within h v w,
     writes-new others h v,
   )
-    where
-      above : (i : ℕ) → (i ≡ 0 → ⊥) → 0 < i
-      above zero n = absurd (n refl)
-      above (suc i) n = omega arith
 
   upd-within : (h : ℕ) (v : View) → Within N (v .ids) → Within N (upd (v .ids) h (writes others h v))
   unfolding upd
@@ -110,6 +105,11 @@ module _ (N : ℕ) (others : List (ℕ → ℕ)) (few : length others < N) where
   descend-within : (d m t : ℕ) (v : View) → Within N (v .ids) → Within N (descend others d m t v .ids)
   unfolding putVals
   descend-within d m t v w = descend-keeps others (λ z. Within N (z .ids)) d m t v (λ k x z _ h. upd-within k z h) w
+
+-- path 0 holds array 1
+pub first-within : (B : Book) (N : ℕ) → 1 ≤ N → Within N (firstPath B .ids)
+unfolding firstPath upd
+first-within B N l h = cond-case (λ (i : ℕ). i ≤ N) (eqb h (B .m)) (λ _. l) (λ _. omega arith)
 
 -- ---- one extraction
 
@@ -151,7 +151,7 @@ module _ (B : Book) (L D : ℕ) (two : 2 ≤ D) where
     pub copied : All (λ (p : Path). Within D (p .ids)) (copyAt B D t .queue)
     pub moved : Within D (movedAt B D t .ids)
 
-  housed : (t : Moment) → length (t .state .queue) < D → Housed D (t .path) → All (Housed D) (t .state .queue) → AllHoused t
+  pub housed : (t : Moment) → length (t .state .queue) < D → Housed D (t .path) → All (Housed D) (t .state .queue) → AllHoused t
   unfolding copyAt movedAt
   housed t l w h =
       let a : Alive B D t = alive B L D two t l in
@@ -159,7 +159,7 @@ module _ (B : Book) (L D : ℕ) (two : 2 ≤ D) where
       copy-housed (t .state .arrays) (t .path) (t .state .queue) (t .state .next) (t .path .blocks) w h in
       record { alive = a; taken = w; queue = h; copied = c; moved = move-housed (copyAt B D t .arrays) (t .path) (copyAt B D t .queue) (a .copied) w }
 
-  extract-housed : (t : Moment) → AllHoused t → All (Housed D) (extractAt B L D t .state .queue)
+  pub extract-housed : (t : Moment) → AllHoused t → All (Housed D) (extractAt B L D t .state .queue)
   unfolding extractAt extract copyAt movedAt staying ahead
   extract-housed t h =
       let q : All (Housed D) (insert (keyOf B) (movedAt B D t) (copyAt B D t .queue)) =
@@ -174,8 +174,7 @@ module _ (B : Book) (L D : ℕ) (two : 2 ≤ D) where
   taken-housed A (p ∷ ps) n visits l h = housed _ l (h .0) (h .1)
 
   first-housed : Housed D (firstPath B)
-  unfolding firstPath upd
-  first-housed h = cond-case (λ (i : ℕ). i ≤ D) (eqb h (B .m)) (λ _. omega arith) (λ _. omega arith)
+  first-housed = first-within B D (omega arith)
 
   pub run-housed : (A : Arrays) → All AllHoused (momentsOf B L D A)
   unfolding All

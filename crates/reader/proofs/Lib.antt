@@ -15,3 +15,4 @@ pub mod Solo
 pub mod Descent
 pub mod Rooted
 pub mod Fit
+pub mod Reached

@@ -22,9 +22,9 @@ use Rattle.reader.specs.Arrays.{Arrays, View, upd, writes, putSums, clai
 use Rattle.reader.specs.Paths.{Path, keyOf, firstPath, place, idsOf, viewOf}
 use Rattle.reader.specs.Reader.{Cut, commit, copyWith, copy, moveWith, move, staying, extract}
 use Rattle.reader.proofs.Upd.{upd-same}
-use Rattle.reader.proofs.Arrays.{claim-ids}
+use Rattle.reader.proofs.Arrays.{writes-some, claim-ids}
 use Rattle.reader.proofs.Solo.{descend-top}
-use Rattle.reader.proofs.Descent.{byP, writes-some, put-has, put-other, descend-has, descend-turn, Turned, turn-place}
+use Rattle.reader.proofs.Descent.{byP, put-has, put-other, descend-has, descend-turn, Turned, turn-place}
 
 pub record Rooted (B : Book) (p : Path) : Type 0 where
   pub root : 1 ≤ p .ids (B .m)

@@ -4,7 +4,6 @@
 use mathlib.Core.Path.{_≡_, refl, sym, ap, _∙_, subst}
 use mathlib.Core.Bool.{Bool, true, false, cond}
 use mathlib.Core.List.{List, [], _∷_}
-use mathlib.Core.Logic.{_⊎_, inl, inr}
 use mathlib.Core.Option.{Option, none, some}
 use Prim.Native.Nat.{ℕ, zero, suc, _-_, _^_, _≤_, _<_}
 use native.Mathlib.Nat.{suc-inj}
@@ -14,10 +13,10 @@ use lib.IntN.{ℤ}
 use lib.Dec.{eqb}
 use borrow.Author.Tests.{eqb-true, eqb-false}
 use Rattle.laws.specs.Lists.{All, keep}
-use Rattle.laws.proofs.Tests.{cond-case, lt-or}
+use Rattle.laws.proofs.Tests.{cond-case}
 use Rattle.laws.proofs.Lists.{all-map, all-both, all-take, all-keep, all-mapped, all-unmapped}
 use Rattle.polar.specs.Node.{rest, child}
-use Rattle.polar.proofs.Node.{rest-low, rest-less}
+use Rattle.polar.proofs.Node.{rest-less}
 use Rattle.codebook.specs.Book.{Book, blockAt}
 use Rattle.machine.specs.Queue.{before, insert, ahead, roomFor, visit}
 use Rattle.runs.proofs.Order.{all-insert}
@@ -26,7 +25,7 @@ use Rattle.outer.specs.Words.{Word}
 use Rattle.reader.specs.Paths.{Path, keyOf, firstPath, place, idsOf, viewOf}
 use Rattle.reader.specs.Reader.{Cut, commit, copyWith, copy, moveWith, move, staying, extract}
 use Rattle.reader.proofs.Upd.{upd-other, upd-self}
-use Rattle.reader.proofs.Tree.{turn-high, turn-past}
+use Rattle.reader.proofs.Tree.{rest-late, turn-high, turn-past}
 use Rattle.reader.proofs.Arrays.{Alone, writes-new, writes-keep, writes-alone, claim-ids, descend-keeps}
 use Rattle.reader.proofs.Moments.{Moment, momentsOf, extractAt, copyAt, Taken, run-all}
 
@@ -232,17 +231,12 @@ descend-takes-below others (suc d) (suc m) t v h p lt l a =
     go (eqb (rest m t) 0) refl (child m t (sumsOf v m) (valsOf v (suc m)))
     (λ q k b. descend-takes-below others d m (rest m t) v h q (rest-less m t lt) k b)
   where
-    -- a node that starts at t is a last half
-    late : rest m t ≡ 0 → (t < 2 ^ m) ⊎ (2 ^ m ≤ t) → 2 ^ m ≤ t
-    late z (inl x) = absurd (omega (arith, rest-low m t x))
-    late z (inr x) = x
-
     go : (b : Bool) → eqb (rest m t) 0 ≡ b → (x : List ℤ) →
         (0 < rest m t → turn m (rest m t) ≤ h → Alone others (turn m (rest m t)) (v .ids) → descend others d m (rest m t) v .ids h ≡ v .ids h) →
         descend others d m (rest m t) (cond b (putVals others m x v) v) .ids h ≡ v .ids h
     go true e x ih =
         let z : rest m t ≡ 0 = eqb-true (rest m t) 0 e in
-        let at : turn (suc m) t ≡ m = turn-high m t (late z (lt-or t (2 ^ m))) z in
+        let at : turn (suc m) t ≡ m = turn-high m t (rest-late m t p z) z in
         let mine : Alone others m (v .ids) = subst (λ (y : ℕ). Alone others y (v .ids)) at a in
         descend-top others d m (rest m t) (putVals others m x v) h (omega arith)
         ∙ ap (λ (i : ℕ). upd (v .ids) m i h) (writes-keep others m v mine)

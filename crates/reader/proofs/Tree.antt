@@ -132,6 +132,14 @@ vals-prior (suc d) (suc k) j (suc m) ys u s t S e a f l h =
 
 -- ---- the turn
 
+-- where a node starts past 0, it is a last half
+pub rest-late : (m t : ℕ) → 0 < t → rest m t ≡ 0 → 2 ^ m ≤ t
+rest-late m t p e = go (lt-or t (2 ^ m))
+  where
+    go : (t < 2 ^ m) ⊎ (2 ^ m ≤ t) → 2 ^ m ≤ t
+    go (inl x) = absurd (omega (arith, rest-low m t x))
+    go (inr x) = x
+
 pub turn-high : (m t : ℕ) → 2 ^ m ≤ t → rest m t ≡ 0 → turn (suc m) t ≡ m
 unfolding turn
 turn-high m t l e = rw (le-leb (2 ^ m) t l, eq-eqb (rest m t) 0 e)
