@@ -1,6 +1,7 @@
 pub mod Blocks
 pub mod Words
-pub mod Doubling
+pub mod Xor
+pub mod Spread
 pub mod Rows
 pub mod Sums
 pub mod Advance

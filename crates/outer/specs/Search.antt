@@ -63,6 +63,15 @@ entry kinds terms start p (suc i) w = later (getD kinds (start + i) 0) (rowOf i)
 unfoldable pub Holds : List ℕ → List ℕ → ℕ → (ℕ → Entry) → Type 0
 Holds words sets n e = (w : ℕ) → w < n → (getD words w 0 ≡ e w .word) × (getD sets w 0 ≡ e w .set)
 
+-- the first entry of a short table, with n of its directions added, those after `from`, where the bits of w are 1: the last one's bit is lowest
+unfoldable pub spread : List ℕ → ℕ → ℕ → ℕ → ℕ
+spread ds from zero w = getD ds 0 0
+spread ds from (suc n) w = bitXor (spread ds from n (w / 2)) (getD ds (from + suc n) 0 * (w % 2))
+
+-- two short tables span these entries: the entry of setting 0, and one direction for each of n free indices
+unfoldable pub Spans : List ℕ → List ℕ → ℕ → (ℕ → Entry) → Type 0
+Spans words sets n e = (w : ℕ) → (spread words 0 n w ≡ e w .word) × (spread sets 0 n w ≡ e w .set)
+
 -- the tables lent for a search
 pub record Scratch (words sets sums : List ℕ) : Type 0 where
   pub words-size : length words ≡ 256

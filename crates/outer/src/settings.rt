@@ -1,9 +1,10 @@
-// The words and the parities of all settings of a block's free bits, in two tables: each index changes the entries once.
+// The words and the parities of all settings of a block's free bits, in two tables. The entry of setting 0 and one direction for each free
+// index are walked through the indices, and doubled to all settings at the end.
 ghost use mathlib.Core.Path.{_≡_};
 ghost use Prim.Native.Nat.{ℕ, _+_, _*_, _/_, _%_, _^_, _≤_, _<_};
 ghost use lib.Bits.{bitXor};
 ghost use lib.ListN.{length, getD};
-ghost use Rattle.outer.specs.Search.{rowOf, Entry, later, grown, settings, entry, Holds, Walkable};
+ghost use Rattle.outer.specs.Search.{rowOf, Entry, later, grown, settings, entry, spread, Spans, Holds, Walkable};
 
 // The rows of the matrix A as numbers: the words that one bit alone makes.
 const ROWS: [u32; 32] = [
@@ -49,35 +50,31 @@ fn row(i: usize) -> u32
     ROWS[i]
 }
 
-// Entry w becomes entries 2w and 2w + 1, the last with the mask. Goes down, so that no entry is written before it is read.
-fn double(table: &mut [u32; 256], count: usize, mask: u32)
-    requires { ⌜ (length (now table) ≡ 256) × (count ≤ 128) ⌝ }
-    ensures { λ _. ⌜ (length (now (table .exit)) ≡ 256)
-        × ((k : ℕ) → k < count + count → getD (now (table .exit)) k 0 ≡ bitXor (getD (now (table .entry)) (k / 2) 0) (mask * (k % 2))) ⌝ }
+// x where the bit is 1, else 0.
+fn where_set(x: u32, bit: u32) -> u32
+    requires { ⌜ bit < 2 ⌝ }
+    ensures { λ r. ⌜ r ≡ x * bit ⌝ }
 {
-    let mut left = count;
-    while left > 0 {
-        left -= 1;
-        let x = table[left];
-        table[left + left + 1] = x ^ mask;
-        table[left + left] = x;
+    if bit == 0 {
+        return 0;
     }
+    x
 }
 
 // Bit t of each entry's own set, where it is 1, adds the row to the word and the ties to the set.
-fn follow(words: &mut [u32; 256], sets: &mut [u32; 256], count: usize, t: u32, row: u32, ties: u32)
-    requires { ⌜ (length (now words) ≡ 256) × (length (now sets) ≡ 256) × (count ≤ 256) × (t < 32) ⌝ }
-    ensures { λ _. ⌜ (length (now (words .exit)) ≡ 256) × (length (now (sets .exit)) ≡ 256) × ((k : ℕ) → k < count →
+fn follow(words: &mut [u32; 9], sets: &mut [u32; 9], count: usize, t: u32, row: u32, ties: u32)
+    requires { ⌜ (length (now words) ≡ 9) × (length (now sets) ≡ 9) × (count ≤ 9) × (t < 32) ⌝ }
+    ensures { λ _. ⌜ (length (now (words .exit)) ≡ 9) × (length (now (sets .exit)) ≡ 9) × ((k : ℕ) → k < count →
         (getD (now (words .exit)) k 0 ≡ bitXor (getD (now (words .entry)) k 0) (row * (getD (now (sets .entry)) k 0 / 2 ^ t % 2)))
         × (getD (now (sets .exit)) k 0 ≡ bitXor (getD (now (sets .entry)) k 0) (ties * (getD (now (sets .entry)) k 0 / 2 ^ t % 2)))) ⌝ }
 {
-    let mut w: usize = 0;
-    while w < count {
-        let set = sets[w];
+    let mut k: usize = 0;
+    while k < count {
+        let set = sets[k];
         let bit = (set >> t) % 2;
-        words[w] = words[w] ^ (row * bit);
-        sets[w] = set ^ (ties * bit);
-        w += 1;
+        words[k] = words[k] ^ where_set(row, bit);
+        sets[k] = set ^ where_set(ties, bit);
+        k += 1;
     }
 }
 
@@ -88,29 +85,92 @@ fn wide(x: u8) -> u32
     x as u32
 }
 
-// The entries one index later, by its code.
+// The entry of setting 0 and the directions one index later, by its code, and the number of directions.
 fn advance(
-    words: &mut [u32; 256],
-    sets: &mut [u32; 256],
-    count: usize,
+    words: &mut [u32; 9],
+    sets: &mut [u32; 9],
+    free: usize,
     code: u8,
     row: u32,
     ties: u32,
 ) -> usize
-    requires { ⌜ (length (now words) ≡ 256) × (length (now sets) ≡ 256) × (grown code count ≤ 256) × (code < 34) ⌝ }
-    ensures { λ r. ⌜ (length (now (words .exit)) ≡ 256) × (length (now (sets .exit)) ≡ 256) × (r ≡ grown code count)
-        × ((e : ℕ → Entry) → Holds (now (words .entry)) (now (sets .entry)) count e
-        → Holds (now (words .exit)) (now (sets .exit)) r (later code row ties e)) ⌝ }
+    requires { ⌜ (length (now words) ≡ 9) × (length (now sets) ≡ 9) × (grown code (2 ^ free) ≤ 256) × (code < 34) ⌝ }
+    ensures { λ r. ⌜ (length (now (words .exit)) ≡ 9) × (length (now (sets .exit)) ≡ 9) × (2 ^ r ≡ grown code (2 ^ free))
+        × ((e : ℕ → Entry) → Spans (now (words .entry)) (now (sets .entry)) free e
+        → Spans (now (words .exit)) (now (sets .exit)) r (later code row ties e)) ⌝ }
 {
     if code == 0 {
-        double(words, count, row);
-        double(sets, count, ties);
-        return count + count;
+        words[free + 1] = row;
+        sets[free + 1] = ties;
+        return free + 1;
     }
     if code == 1 {
-        return count;
+        return free;
     }
-    follow(words, sets, count, wide(code - 2), row, ties);
+    follow(words, sets, free + 1, wide(code - 2), row, ties);
+    free
+}
+
+// The entry of setting 0 and the directions of the n indices from `start` on, after the given parities, and the number of directions.
+fn walk(
+    kinds: &[u8; 512],
+    terms: &[u32; 512],
+    start: usize,
+    n: usize,
+    parities: u32,
+    words: &mut [u32; 9],
+    sets: &mut [u32; 9],
+) -> usize
+    requires { ⌜ (length (now words) ≡ 9) × (length (now sets) ≡ 9) × Walkable (now kinds) start n ⌝ }
+    ensures { λ r. ⌜ (length (now (words .exit)) ≡ 9) × (length (now (sets .exit)) ≡ 9) × (2 ^ r ≡ settings (now (kinds .entry)) start n)
+        × Spans (now (words .exit)) (now (sets .exit)) r (entry (now (kinds .entry)) (now (terms .entry)) start parities n) ⌝ }
+{
+    words[0] = 0;
+    sets[0] = parities;
+    let mut free: usize = 0;
+    let mut i: usize = 0;
+    while i < n {
+        free = advance(
+            words,
+            sets,
+            free,
+            kinds[start + i],
+            row(i),
+            terms[start + i],
+        );
+        i += 1;
+    }
+    free
+}
+
+// The first `count` entries once more after themselves, with the mask.
+fn double(table: &mut [u32; 256], count: usize, mask: u32)
+    requires { ⌜ (length (now table) ≡ 256) × (count ≤ 128) ⌝ }
+    ensures { λ _. ⌜ (length (now (table .exit)) ≡ 256)
+        × ((k : ℕ) → k < count → getD (now (table .exit)) k 0 ≡ getD (now (table .entry)) k 0)
+        × ((k : ℕ) → k < count → getD (now (table .exit)) (count + k) 0 ≡ bitXor (getD (now (table .entry)) k 0) mask) ⌝ }
+{
+    let mut k: usize = 0;
+    while k < count {
+        table[count + k] = table[k] ^ mask;
+        k += 1;
+    }
+}
+
+// The entries of all settings of the free bits, by the entry of setting 0 and the directions: the last direction first. Returns their number.
+fn double_all(table: &mut [u32; 256], steps: &[u32; 9], free: usize) -> usize
+    requires { ⌜ (length (now table) ≡ 256) × (free ≤ 8) ⌝ }
+    ensures { λ r. ⌜ (length (now (table .exit)) ≡ 256) × (r ≡ 2 ^ free)
+        × ((k : ℕ) → k < 2 ^ free → getD (now (table .exit)) k 0 ≡ spread (now (steps .entry)) 0 free k) ⌝ }
+{
+    table[0] = steps[0];
+    let mut count: usize = 1;
+    let mut left = free;
+    while left > 0 {
+        double(table, count, steps[left]);
+        count += count;
+        left -= 1;
+    }
     count
 }
 
@@ -128,20 +188,17 @@ pub fn fill(
     ensures { λ r. ⌜ (length (now (words .exit)) ≡ 256) × (length (now (sets .exit)) ≡ 256) × (r ≡ settings (now (kinds .entry)) start n)
         × Holds (now (words .exit)) (now (sets .exit)) r (entry (now (kinds .entry)) (now (terms .entry)) start parities n) ⌝ }
 {
-    words[0] = 0;
-    sets[0] = parities;
-    let mut count: usize = 1;
-    let mut i: usize = 0;
-    while i < n {
-        count = advance(
-            words,
-            sets,
-            count,
-            kinds[start + i],
-            row(i),
-            terms[start + i],
-        );
-        i += 1;
-    }
-    count
+    let mut word_steps: [u32; 9] = [0; 9];
+    let mut set_steps: [u32; 9] = [0; 9];
+    let free = walk(
+        kinds,
+        terms,
+        start,
+        n,
+        parities,
+        &mut word_steps,
+        &mut set_steps,
+    );
+    double_all(words, &word_steps, free);
+    double_all(sets, &set_steps, free)
 }

@@ -1,8 +1,8 @@
--- `outer::settings::follow` meets its contract. The loop's invariant: the first w entries of both tables are done. Assumes nothing.
-use native.Mathlib.Nat.{zero-add, mul-one, mul-le-mul-left}
+-- `outer::settings::follow` meets its contract. The loop's invariant: the first k entries of both tables are done. Assumes nothing.
+use native.Mathlib.Nat.{zero-add}
 use mathlib.Core.Path.{_≡_, sym, ap, ap₂, _∙_}
 use mathlib.Core.List.{List}
-use Prim.Native.Nat.{ℕ, _-_, _*_, _/_, _%_, _^_, _≤_, _<_}
+use Prim.Native.Nat.{ℕ, _-_, _*_, _/_, _%_, _^_, _≤_}
 use native.Mathlib.Omega.{arith}
 use lib.ListN.{getD}
 use lib.Bits.{bitXor}
@@ -11,19 +11,13 @@ use Rattle.outer.proofs.settings.follow.Statement.{statement}
 use Rattle.outer.proofs.settings.follow.Tie as tie
 
 abbrev Inv-loop : tie.InvT-loop
-Inv-loop words₀ sets₀ count t row ties w₀ words sets w = (w ≤ count) × Stored words₀ words 0 (λ k. bitXor (getD words₀ k 0) (row * (getD sets₀ k 0 / 2 ^ t % 2))) w × Stored sets₀ sets 0 (λ k. bitXor (getD sets₀ k 0) (ties * (getD sets₀ k 0 / 2 ^ t % 2))) w
+Inv-loop words₀ sets₀ count t row ties k₀ words sets k = (k ≤ count) × Stored words₀ words 0 (λ i. bitXor (getD words₀ i 0) (row * (getD sets₀ i 0 / 2 ^ t % 2))) k × Stored sets₀ sets 0 (λ i. bitXor (getD sets₀ i 0) (ties * (getD sets₀ i 0 / 2 ^ t % 2))) k
 
 abbrev μ-loop : tie.MeasureT-loop
-μ-loop words₀ sets₀ count t row ties w₀ words sets w = count - w
+μ-loop words₀ sets₀ count t row ties k₀ words sets k = count - k
 
 loop-holds : tie.Need-loop-holds Inv-loop μ-loop
 loop-holds c = (omega arith, stored-none _ _ _, stored-none _ _ _)
-
--- a number, or 0
-masked : (m x : ℕ) {n : ℕ} → m < n → m * (x % 2) < n
-masked m x h =
-    let b : x % 2 ≤ 1 = omega arith in
-    omega (arith, mul-le-mul-left m b, mul-one m)
 
 -- an entry that this turn reads is as it was
 unread : {old new : List ℕ} {f : ℕ → ℕ} {i : ℕ} → Stored old new 0 f i → getD new i 0 ≡ getD old i 0
@@ -44,41 +38,42 @@ mul-words c = omega arith
 element-copy-out-words : tie.Need-element-copy-out-words Inv-loop μ-loop
 element-copy-out-words c = omega arith
 
-mul-words-2 : tie.Need-mul-words-2 Inv-loop μ-loop
-mul-words-2 c = let a = c .before .before .before .before in record { fits = masked (a .args .row) _ (a .fits .row .fits) }
+where-set-requires : tie.Need-where-set-requires Inv-loop μ-loop
+where-set-requires c κs = omega arith
 
-mul-words-3 : tie.Need-mul-words-3 Inv-loop μ-loop
-mul-words-3 c = omega arith
+mul-words-2 : tie.Need-mul-words-2 Inv-loop μ-loop
+mul-words-2 c = omega arith
 
 element-write-words : tie.Need-element-write-words Inv-loop μ-loop
 element-write-words c = omega arith
 
-mul-sets : tie.Need-mul-sets Inv-loop μ-loop
-mul-sets c = let a = c .before .before .before .before in record { fits = masked (a .args .ties) _ (a .fits .ties .fits) }
+where-set-requires-2 : tie.Need-where-set-requires-2 Inv-loop μ-loop
+where-set-requires-2 c κs = omega arith
 
-mul-sets-2 : tie.Need-mul-sets-2 Inv-loop μ-loop
-mul-sets-2 c = omega arith
+mul-sets : tie.Need-mul-sets Inv-loop μ-loop
+mul-sets c = omega arith
 
 element-write-sets : tie.Need-element-write-sets Inv-loop μ-loop
 element-write-sets c = omega arith
 
-add-w : tie.Need-add-w Inv-loop μ-loop
-add-w c = omega arith
+add-k : tie.Need-add-k Inv-loop μ-loop
+add-k c = omega arith
 
 loop-less : tie.Need-loop-less Inv-loop μ-loop
 loop-less c = omega arith
 
 loop-again : tie.Need-loop-again Inv-loop μ-loop
 loop-again c =
-    let s = c .before .before .before .before in
-    let a = s .args in
-    let x = c .before .before .before .loop in
-    let i = x .w in
+    let a = c .before .before .before .before .before .before .args in
+    let x = c .before .before .before .before .before .loop in
+    let i = x .k in
     let w : getD (x .words) i 0 ≡ getD (a .words .now) i 0 = unread (x .inv .1) in
-    let b : getD (x .sets) i 0 ≡ getD (a .sets .now) i 0 = unread (x .inv .2) in (
+    let b : getD (x .sets) i 0 ≡ getD (a .sets .now) i 0 = unread (x .inv .2) in
+    let r : c .before .where-set .result ≡ a .row * (getD (a .sets .now) i 0 / 2 ^ a .t % 2) = c .before .where-set .ensures ∙ ap (λ z. a .row * (z / 2 ^ a .t % 2)) b in
+    let s : c .where-set2 .result ≡ a .ties * (getD (a .sets .now) i 0 / 2 ^ a .t % 2) = c .where-set2 .ensures ∙ ap (λ z. a .ties * (z / 2 ^ a .t % 2)) b in (
       omega arith,
-      rw zero-add at (stored-more _ (x .inv .1) (omega arith) (ap₂ (λ y z. bitXor y (a .row * (z / 2 ^ a .t % 2))) w b)),
-      rw zero-add at (stored-more _ (x .inv .2) (omega arith) (ap (λ z. bitXor z (a .ties * (z / 2 ^ a .t % 2))) b)),
+      rw zero-add at (stored-more _ (x .inv .1) (omega arith) (ap₂ bitXor w r)),
+      rw zero-add at (stored-more _ (x .inv .2) (omega arith) (ap₂ bitXor b s)),
     )
 
 returns : tie.Need-returns Inv-loop μ-loop
@@ -105,13 +100,13 @@ follow-spec =
     shr-bit
     mul-words
     element-copy-out-words
+    where-set-requires
     mul-words-2
-    mul-words-3
     element-write-words
+    where-set-requires-2
     mul-sets
-    mul-sets-2
     element-write-sets
-    add-w
+    add-k
     loop-less
     loop-again
     returns)
