@@ -142,3 +142,25 @@ picked-step t p runs w h =
 pub picked-end : (t : List ℕ) (p runs w : ℕ) → runs ≤ p → picked t p (runs - p) w ≡ 0
 unfolding picked
 picked-end t p runs w h = let k : runs - p ≡ 0 = omega arith in ap (λ i. picked t p i w) k
+
+-- ---- four runs at once
+
+pub picked-four : (t : List ℕ) (p w : ℕ) → picked t p 4 w
+    ≡ getD t (16 * p + w % 16) 0 + getD t (16 * (p + 1) + w / 16 % 16) 0 + getD t (16 * (p + 2) + w / 16 / 16 % 16) 0 + getD t (16 * (p + 3) + w / 16 / 16 / 16 % 16) 0
+unfolding picked
+picked-four t p w =
+    let at : ℕ → ℕ → ℕ = λ i v. getD t (16 * i + v % 16) 0 in
+    let e : suc p ≡ p + 1 = omega arith in
+    let f : suc (suc p) ≡ p + 2 = omega arith in
+    let g : suc (suc (suc p)) ≡ p + 3 = omega arith in
+    omega (arith, ap (λ i. at i (w / 16)) e, ap (λ i. at i (w / 16 / 16)) f, ap (λ i. at i (w / 16 / 16 / 16)) g)
+
+pub picked-eight : (t : List ℕ) (w : ℕ) → picked t 0 8 w ≡ picked t 0 4 w + picked t 4 4 (w / 65536)
+unfolding picked
+picked-eight t w =
+    let e : w / 65536 ≡ w / 16 / 16 / 16 / 16 = omega arith in
+    omega (arith, ap (picked t 4 4) e)
+
+pub small-less : (t : List ℕ) (k n : ℕ) → Small t n → k ≤ n → Small t k
+unfolding Small
+small-less t k n s h i l = s i (omega arith)

@@ -63,8 +63,27 @@ pub fn prepare(numbers: &[i32], at: usize, n: usize, sums: &mut [u32; 128]) -> u
     p
 }
 
-// The cost of a word.
-pub fn cost_of(sums: &[u32; 128], runs: usize, word: u32) -> u32
+// The entry of run p that the lowest half byte of w picks.
+fn pick(sums: &[u32; 128], p: usize, w: u32) -> u32
+    requires { ⌜ p < 8 ⌝ }
+    ensures { λ r. ⌜ r ≡ getD (now (sums .entry)) (16 * p + w % 16) 0 ⌝ }
+{
+    sums[16 * p + (w % 16) as usize]
+}
+
+// The cost of the four lowest half bytes of w, from run p on.
+fn four(sums: &[u32; 128], p: usize, w: u32) -> u32
+    requires { ⌜ (p + 4 ≤ 8) × Small (now sums) (p + 4) ⌝ }
+    ensures { λ r. ⌜ (r ≡ picked (now (sums .entry)) p 4 w) × (r ≤ 16769024) ⌝ }
+{
+    let w1 = w / 16;
+    let w2 = w1 / 16;
+    let w3 = w2 / 16;
+    pick(sums, p, w) + pick(sums, p + 1, w1) + pick(sums, p + 2, w2) + pick(sums, p + 3, w3)
+}
+
+// The cost of a word in any number of runs.
+fn each(sums: &[u32; 128], runs: usize, word: u32) -> u32
     requires { ⌜ (runs ≤ 8) × Small (now sums) runs ⌝ }
     ensures { λ r. ⌜ (r ≡ picked (now (sums .entry)) 0 runs word) × (r ≤ 33538048) ⌝ }
 {
@@ -77,4 +96,18 @@ pub fn cost_of(sums: &[u32; 128], runs: usize, word: u32) -> u32
         p += 1;
     }
     sum
+}
+
+// The cost of a word: the runs of the two longest kinds of block without a loop.
+pub fn cost_of(sums: &[u32; 128], runs: usize, word: u32) -> u32
+    requires { ⌜ (runs ≤ 8) × Small (now sums) runs ⌝ }
+    ensures { λ r. ⌜ (r ≡ picked (now (sums .entry)) 0 runs word) × (r ≤ 33538048) ⌝ }
+{
+    if runs == 8 {
+        return four(sums, 0, word) + four(sums, 4, word / 65536);
+    }
+    if runs == 4 {
+        return four(sums, 0, word);
+    }
+    each(sums, runs, word)
 }

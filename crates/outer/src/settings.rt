@@ -7,47 +7,43 @@ ghost use lib.ListN.{length, getD};
 ghost use Rattle.outer.specs.Search.{rowOf, Entry, later, grown, settings, entry, spread, Spans, Holds, Walkable};
 
 // The rows of the matrix A as numbers: the words that one bit alone makes.
-const ROWS: [u32; 32] = [
-    0x00000001,
-    0x00000003,
-    0x00000005,
-    0x0000000f,
-    0x00000011,
-    0x00000033,
-    0x00000055,
-    0x000000ff,
-    0x00000101,
-    0x00000303,
-    0x00000505,
-    0x00000f0f,
-    0x00001111,
-    0x00003333,
-    0x00005555,
-    0x0000ffff,
-    0x00010001,
-    0x00030003,
-    0x00050005,
-    0x000f000f,
-    0x00110011,
-    0x00330033,
-    0x00550055,
-    0x00ff00ff,
-    0x01010101,
-    0x03030303,
-    0x05050505,
-    0x0f0f0f0f,
-    0x11111111,
-    0x33333333,
-    0x55555555,
-    0xffffffff,
-];
-
-// Row i.
-fn row(i: usize) -> u32
-    requires { ⌜ i < 32 ⌝ }
-    ensures { λ r. ⌜ r ≡ rowOf i ⌝ }
+fn rows() -> [u32; 32]
+    ensures { λ r. ⌜ ((i : ℕ) → i < 32 → getD r i 0 ≡ rowOf i) ⌝ }
 {
-    ROWS[i]
+    [
+        0x00000001,
+        0x00000003,
+        0x00000005,
+        0x0000000f,
+        0x00000011,
+        0x00000033,
+        0x00000055,
+        0x000000ff,
+        0x00000101,
+        0x00000303,
+        0x00000505,
+        0x00000f0f,
+        0x00001111,
+        0x00003333,
+        0x00005555,
+        0x0000ffff,
+        0x00010001,
+        0x00030003,
+        0x00050005,
+        0x000f000f,
+        0x00110011,
+        0x00330033,
+        0x00550055,
+        0x00ff00ff,
+        0x01010101,
+        0x03030303,
+        0x05050505,
+        0x0f0f0f0f,
+        0x11111111,
+        0x33333333,
+        0x55555555,
+        0xffffffff,
+    ]
 }
 
 // x where the bit is 1, else 0.
@@ -125,6 +121,7 @@ fn walk(
     ensures { λ r. ⌜ (length (now (words .exit)) ≡ 9) × (length (now (sets .exit)) ≡ 9) × (2 ^ r ≡ settings (now (kinds .entry)) start n)
         × Spans (now (words .exit)) (now (sets .exit)) r (entry (now (kinds .entry)) (now (terms .entry)) start parities n) ⌝ }
 {
+    let matrix = rows();
     words[0] = 0;
     sets[0] = parities;
     let mut free: usize = 0;
@@ -135,7 +132,7 @@ fn walk(
             sets,
             free,
             kinds[start + i],
-            row(i),
+            matrix[i],
             terms[start + i],
         );
         i += 1;

@@ -1,4 +1,4 @@
--- `outer::settings::row` meets its contract: the table has the rows, by a test that is computed at each entry. Assumes nothing.
+-- `outer::settings::rows` meets its contract: the table has the rows, by a test that is computed at each entry. Assumes nothing.
 use mathlib.Core.Bool.{Bool}
 use mathlib.Core.List.{List, [], _∷_, zipWith}
 use Prim.Native.Nat.{ℕ}
@@ -9,8 +9,8 @@ use Rattle.polar.specs.Bits.{addBits, number}
 use Rattle.polar.specs.Transform.{transform}
 use Rattle.outer.specs.Search.{unit, rowOf}
 use Rattle.outer.proofs.Rows.{every-at}
-use Rattle.outer.proofs.settings.row.Statement.{statement}
-use Rattle.outer.proofs.settings.row.Tie as tie
+use Rattle.outer.proofs.settings.rows.Statement.{statement}
+use Rattle.outer.proofs.settings.rows.Tie as tie
 
 rows : List ℕ
 rows =
@@ -19,15 +19,9 @@ rows =
 right : ℕ → Bool
 right i = eqb (getD rows i 0) (rowOf i)
 
-mul-result : tie.Need-mul-result
-mul-result c = search needs
-
-array-read-result : tie.Need-array-read-result
-array-read-result c = search needs
-
 returns : tie.Need-returns
 unfolding rows right rowOf unit transform number addBits zipWith
-returns c = eqb→eq (getD rows (c .args .i) 0) (rowOf (c .args .i)) (every-at right 32 tt (c .args .i) (search needs))
+returns c = λ i h. eqb→eq (getD rows i 0) (rowOf i) (every-at right 32 tt i h)
 
-pub row-spec : {M : Type 1} → statement M
-row-spec = tie.close (tie.spec mul-result array-read-result returns)
+pub rows-spec : {M : Type 1} → statement M
+rows-spec = tie.close (tie.spec returns)
