@@ -130,19 +130,6 @@ costs-small {t} {runs} {vs} c h k l =
     let e : 16 * p + v ≡ k = omega arith in
     omega (arith, ap (λ i. getD t i 0) e, c .at p v (omega arith) (omega arith), cost-bound v (take 4 (drop (4 * p) vs)) (all-take (Within 1048064) 4 (drop (4 * p) vs) (all-drop (Within 1048064) (4 * p) vs h)), length-take 4 (drop (4 * p) vs))
 
--- one half byte more
-pub picked-step : (t : List ℕ) (p runs w : ℕ) → p < runs → picked t p (runs - p) w ≡ getD t (p * 16 + w % 16) 0 + picked t (p + 1) (runs - (p + 1)) (w / 16)
-unfolding picked
-picked-step t p runs w h =
-    let k : runs - p ≡ suc (runs - (p + 1)) = omega arith in
-    let n : 16 * p + w % 16 ≡ p * 16 + w % 16 = omega arith in
-    let q : suc p ≡ p + 1 = omega arith in
-    ap (λ i. picked t p i w) k ∙ ap₂ (λ i j. getD t i 0 + picked t j (runs - (p + 1)) (w / 16)) n q
-
-pub picked-end : (t : List ℕ) (p runs w : ℕ) → runs ≤ p → picked t p (runs - p) w ≡ 0
-unfolding picked
-picked-end t p runs w h = let k : runs - p ≡ 0 = omega arith in ap (λ i. picked t p i w) k
-
 -- ---- four runs at once
 
 pub picked-four : (t : List ℕ) (p w : ℕ) → picked t p 4 w

@@ -6,7 +6,7 @@ ghost use lib.IntN.{pos};
 ghost use lib.ListN.{length, getD};
 ghost use Rattle.laws.specs.Lists.{All};
 ghost use Rattle.polar.specs.Layers.{part, Within};
-ghost use Rattle.outer.specs.Search.{costOf, picked, Costs, Small};
+ghost use Rattle.outer.specs.Search.{costOf, picked, Fours, Costs, Small};
 use polar::values::cost;
 
 // Value i of the n values at `at`, 0 past them.
@@ -45,13 +45,22 @@ fn run(sums: &mut [u32; 128], to: usize, s0: i32, s1: i32, s2: i32, s3: i32)
     }
 }
 
-// The costs of all half bytes at the n values at `at`; returns the number of runs.
+// The number of runs for n values: 4, or 8 where these are too few.
+fn run_count(n: usize) -> usize
+    requires { ⌜ n ≤ 32 ⌝ }
+    ensures { λ r. ⌜ Fours r × (n ≤ 4 * r) ⌝ }
+{
+    if n <= 16 { 4 } else { 8 }
+}
+
+// The costs of all half bytes at the n values at `at`, zeros past them; returns the number of runs.
 pub fn prepare(numbers: &[i32], at: usize, n: usize, sums: &mut [u32; 128]) -> usize
     requires { ⌜ (length (now sums) ≡ 128) × (at + n ≤ length (now numbers)) × (n ≤ 32) × All (Within 1048064) (part at n (now numbers)) ⌝ }
     ensures { λ r. ⌜ (length (now (sums .exit)) ≡ 128) × Costs (now (sums .exit)) r (part at n (now (numbers .entry))) × Small (now (sums .exit)) r ⌝ }
 {
+    let runs = run_count(n);
     let mut p: usize = 0;
-    while p * 4 < n {
+    while p < runs {
         let i = p * 4;
         let s0 = value(numbers, at, n, i);
         let s1 = value(numbers, at, n, i + 1);
@@ -60,7 +69,7 @@ pub fn prepare(numbers: &[i32], at: usize, n: usize, sums: &mut [u32; 128]) -> u
         run(sums, p * 16, s0, s1, s2, s3);
         p += 1;
     }
-    p
+    runs
 }
 
 // The entry of run p that the lowest half byte of w picks.
@@ -82,32 +91,14 @@ fn four(sums: &[u32; 128], p: usize, w: u32) -> u32
     pick(sums, p, w) + pick(sums, p + 1, w1) + pick(sums, p + 2, w2) + pick(sums, p + 3, w3)
 }
 
-// The cost of a word in any number of runs.
-fn each(sums: &[u32; 128], runs: usize, word: u32) -> u32
-    requires { ⌜ (runs ≤ 8) × Small (now sums) runs ⌝ }
-    ensures { λ r. ⌜ (r ≡ picked (now (sums .entry)) 0 runs word) × (r ≤ 33538048) ⌝ }
-{
-    let mut sum: u32 = 0;
-    let mut rest = word;
-    let mut p: usize = 0;
-    while p < runs {
-        sum += sums[p * 16 + (rest % 16) as usize];
-        rest = rest / 16;
-        p += 1;
-    }
-    sum
-}
-
-// The cost of a word: the runs of the two longest kinds of block without a loop.
+// The cost of a word.
 pub fn cost_of(sums: &[u32; 128], runs: usize, word: u32) -> u32
-    requires { ⌜ (runs ≤ 8) × Small (now sums) runs ⌝ }
+    requires { ⌜ Fours runs × Small (now sums) runs ⌝ }
     ensures { λ r. ⌜ (r ≡ picked (now (sums .entry)) 0 runs word) × (r ≤ 33538048) ⌝ }
 {
-    if runs == 8 {
-        return four(sums, 0, word) + four(sums, 4, word / 65536);
-    }
+    let low = four(sums, 0, word);
     if runs == 4 {
-        return four(sums, 0, word);
+        return low;
     }
-    each(sums, runs, word)
+    low + four(sums, 4, word / 65536)
 }

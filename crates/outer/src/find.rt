@@ -5,7 +5,7 @@ ghost use Prim.Native.Nat.{ℕ, _+_, _^_, _≤_, _<_};
 ghost use lib.Dec.{leb};
 ghost use Rattle.polar.specs.Layers.{part};
 ghost use Rattle.machine.specs.Choice.{choose};
-ghost use Rattle.outer.specs.Search.{Small, keyOf, tableKey, lesser, leastFrom, bestOf, chosen, found, Scratch, Searchable};
+ghost use Rattle.outer.specs.Search.{Fours, Small, keyOf, tableKey, lesser, leastFrom, bestOf, chosen, found, Scratch, Searchable};
 ghost use Rattle.codebook.specs.Book.{Book};
 ghost use Rattle.codec.specs.Ties.{Parities};
 ghost use Rattle.outer.specs.Words.{Word, nearest, nextAfter};
@@ -45,7 +45,7 @@ fn better(best: Best, bound: u64, key: u64, setting: usize) -> Best
 
 // The least key from a bound on among the first `count` words, and its setting.
 fn least(words: &[u32; 256], count: usize, sums: &[u32; 128], runs: usize, bound: u64) -> Best
-    requires { ⌜ (count ≤ 256) × (runs ≤ 8) × Small (now sums) runs ⌝ }
+    requires { ⌜ (count ≤ 256) × Fours runs × Small (now sums) runs ⌝ }
     ensures { λ r. ⌜ (let k = tableKey (now (sums .entry)) runs (now (words .entry)) in r ≡ bestOf k (leastFrom k bound count)) ⌝ }
 {
     let mut best = Best {
@@ -70,7 +70,7 @@ fn candidate(
     sums: &[u32; 128],
     runs: usize,
 ) -> Candidate
-    requires { ⌜ (best .setting < 256) × (runs ≤ 8) × Small (now sums) runs ⌝ }
+    requires { ⌜ (best .setting < 256) × Fours runs × Small (now sums) runs ⌝ }
     ensures { λ r. ⌜ r ≡ chosen (now (words .entry)) (now (sets .entry)) (now (sums .entry)) runs best ⌝ }
 {
     let at = best.setting;

@@ -16,10 +16,10 @@ use Rattle.outer.proofs.costs.prepare.Statement.{statement}
 use Rattle.outer.proofs.costs.prepare.Tie as tie
 
 abbrev Inv-loop : tie.InvT-loop
-Inv-loop numbers at n sums₀ p₀ sums p = (p * 4 < n + 4) × (length sums ≡ 128) × Runs sums p (part at n numbers)
+Inv-loop numbers at n sums₀ runs p₀ sums p = (p ≤ runs) × (length sums ≡ 128) × Runs sums p (part at n numbers)
 
 abbrev μ-loop : tie.MeasureT-loop
-μ-loop numbers at n sums₀ p₀ sums p = n - p * 4
+μ-loop numbers at n sums₀ runs p₀ sums p = runs - p
 
 -- a value that was read: small, so that it reads back
 read : {r : ℤ} (l : List ℤ) (i : ℕ) → All (Within 1048064) l → r ≡ getD l i (pos 0) → (back r ≡ getD l i (pos 0)) × (natAbs (back r) ≤ 1048064)
@@ -28,42 +28,42 @@ read {r} l i h e =
     let same : back r ≡ r = toZ-ofZ (abs-fits r (omega (arith, ap natAbs e))) in
     (same ∙ e, omega (arith, ap natAbs (same ∙ e)))
 
-loop-holds : tie.Need-loop-holds Inv-loop μ-loop
-loop-holds c = (omega arith, c .pre .0, λ q v l k. absurd (omega arith))
+run-count-requires : tie.Need-run-count-requires Inv-loop μ-loop
+run-count-requires c κs = c .pre .2
 
-mul-loop : tie.Need-mul-loop Inv-loop μ-loop
-mul-loop c = omega arith
+loop-holds : tie.Need-loop-holds Inv-loop μ-loop
+loop-holds c = (omega arith, c .before .pre .0, λ q v l k. absurd (omega arith))
 
 mul-i : tie.Need-mul-i Inv-loop μ-loop
 mul-i c = omega arith
 
 value-requires : tie.Need-value-requires Inv-loop μ-loop
-value-requires c κs = c .before .before .pre .1
+value-requires c κs = c .before .before .before .pre .1
 
 add-value : tie.Need-add-value Inv-loop μ-loop
 add-value c = omega arith
 
 value-requires-2 : tie.Need-value-requires-2 Inv-loop μ-loop
-value-requires-2 c κs = c .before .before .before .pre .1
+value-requires-2 c κs = c .before .before .before .before .pre .1
 
 add-value-2 : tie.Need-add-value-2 Inv-loop μ-loop
 add-value-2 c = omega arith
 
 value-requires-3 : tie.Need-value-requires-3 Inv-loop μ-loop
-value-requires-3 c κs = c .before .before .before .before .pre .1
+value-requires-3 c κs = c .before .before .before .before .before .pre .1
 
 add-value-3 : tie.Need-add-value-3 Inv-loop μ-loop
 add-value-3 c = omega arith
 
 value-requires-4 : tie.Need-value-requires-4 Inv-loop μ-loop
-value-requires-4 c κs = c .before .before .before .before .before .pre .1
+value-requires-4 c κs = c .before .before .before .before .before .before .pre .1
 
 mul-run : tie.Need-mul-run Inv-loop μ-loop
 mul-run c = omega arith
 
 run-requires : tie.Need-run-requires Inv-loop μ-loop
 run-requires c κs =
-    let s = c .before .before .before .before .before .before .before in
+    let s = c .before .before .before .before .before .before .before .before in
     let a = s .args in
     let x = c .before .before .before .before .before .before .loop in
     let l = part (a .at) (a .n) (a .numbers .now) in
@@ -87,7 +87,7 @@ loop-less c = omega arith
 
 loop-again : tie.Need-loop-again Inv-loop μ-loop
 loop-again c =
-    let s = c .before .before .before .before .before .before .before .before in
+    let s = c .before .before .before .before .before .before .before .before .before in
     let a = s .args in
     let x = c .before .before .before .before .before .before .before .loop in
     let l = part (a .at) (a .n) (a .numbers .now) in
@@ -105,11 +105,12 @@ loop-again c =
 
 returns : tie.Need-returns Inv-loop μ-loop
 returns c =
-    let s = c .before .before in
+    let s = c .before .before .before in
     let a = s .args in
     let x = c .before .loop in
-    let costs : Costs (x .sums) (x .p) (part (a .at) (a .n) (a .numbers .now)) =
-    record { few = omega arith; all = omega (arith, part-length (a .at) (a .n) (a .numbers .now) (s .pre .1)); at = x .inv .2 } in
+    let r = c .before .before .run-count in
+    let costs : Costs (x .sums) (r .result) (part (a .at) (a .n) (a .numbers .now)) =
+    record { few = r .ensures .0; all = omega (arith, part-length (a .at) (a .n) (a .numbers .now) (s .pre .1)); at = λ q v l k. x .inv .2 q v (omega arith) k } in
     (x .inv .1, costs, costs-small costs (s .pre .3))
 
 pub prepare-spec : {M : Type 1} → statement M
@@ -118,8 +119,8 @@ prepare-spec =
     (tie.spec
     Inv-loop
     μ-loop
+    run-count-requires
     loop-holds
-    mul-loop
     mul-i
     value-requires
     add-value
