@@ -1,8 +1,8 @@
 -- The exclusive or of numbers: it may be added in any order, and a bit of a sum is the sum of the bits. By halves: the parities first, then what is
 -- left above them. Assumes nothing.
-use mathlib.Core.Path.{_≡_, refl, sym, ap, ap₂, _∙_}
+use mathlib.Core.Path.{_≡_, refl, sym, ap, _∙_}
 use Prim.Native.Nat.{ℕ, zero, suc, _+_, _*_, _/_, _%_, _^_, _≤_, _<_}
-use native.Mathlib.Nat.{mul-zero, mul-one}
+use native.Mathlib.Nat.{mul-zero}
 use native.Mathlib.Omega.{arith}
 use lib.Bits.{bitXor, xor-comm, xor-self, xor-shr, xor-zero-l, xor-zero-r, xor-add-and}
 

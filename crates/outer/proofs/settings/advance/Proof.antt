@@ -1,6 +1,6 @@
 -- `outer::settings::advance` meets its contract, by what `follow` ensures. Assumes nothing.
 use mathlib.Core.Path.{_≡_, sym, ap, _∙_}
-use Prim.Native.Nat.{suc, _+_, _^_, _≤_}
+use Prim.Native.Nat.{suc, _+_, _^_}
 use native.Mathlib.Nat.{two-pow-succ}
 use native.Mathlib.Numerals.{add-one}
 use native.Mathlib.Omega.{arith}

@@ -1,5 +1,5 @@
 -- `outer::settings::double` meets its contract. The loop's invariant: the first k entries after the table are stored. Assumes nothing.
-use mathlib.Core.Path.{_≡_, ap, _∙_}
+use mathlib.Core.Path.{ap, _∙_}
 use Prim.Native.Nat.{_-_, _≤_}
 use native.Mathlib.Omega.{arith}
 use lib.ListN.{getD}

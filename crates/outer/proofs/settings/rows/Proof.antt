@@ -4,7 +4,6 @@ use mathlib.Core.List.{List, [], _∷_, zipWith}
 use Prim.Native.Nat.{ℕ}
 use lib.Dec.{eqb, eqb→eq}
 use lib.ListN.{getD}
-use borrow.Author.Needs.{needs}
 use Rattle.polar.specs.Bits.{addBits, number}
 use Rattle.polar.specs.Transform.{transform}
 use Rattle.outer.specs.Search.{unit, rowOf}
