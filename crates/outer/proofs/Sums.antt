@@ -130,7 +130,16 @@ costs-small {t} {runs} {vs} c h k l =
     let e : 16 * p + v ≡ k = omega arith in
     omega (arith, ap (λ i. getD t i 0) e, c .at p v (omega arith) (omega arith), cost-bound v (take 4 (drop (4 * p) vs)) (all-take (Within 1048064) 4 (drop (4 * p) vs) (all-drop (Within 1048064) (4 * p) vs h)), length-take 4 (drop (4 * p) vs))
 
--- ---- four runs at once
+-- ---- runs without a loop
+
+-- an entry that is picked
+pub entry-small : (t : List ℕ) (n p w r : ℕ) → Small t n → p < n → r ≡ getD t (16 * p + w % 16) 0 → r ≤ 4192256
+unfolding Small
+entry-small t n p w r s h e = omega (arith, s (16 * p + w % 16) (omega arith))
+
+pub picked-one : (t : List ℕ) (w : ℕ) → picked t 0 1 w ≡ getD t (16 * 0 + w % 16) 0
+unfolding picked
+picked-one t w = omega arith
 
 pub picked-four : (t : List ℕ) (p w : ℕ) → picked t p 4 w
     ≡ getD t (16 * p + w % 16) 0 + getD t (16 * (p + 1) + w / 16 % 16) 0 + getD t (16 * (p + 2) + w / 16 / 16 % 16) 0 + getD t (16 * (p + 3) + w / 16 / 16 / 16 % 16) 0

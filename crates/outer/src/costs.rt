@@ -45,12 +45,18 @@ fn run(sums: &mut [u32; 128], to: usize, s0: i32, s1: i32, s2: i32, s3: i32)
     }
 }
 
-// The number of runs for n values: 4, or 8 where these are too few.
+// The number of runs for n values: one, 4 or 8.
 fn run_count(n: usize) -> usize
     requires { ⌜ n ≤ 32 ⌝ }
     ensures { λ r. ⌜ Fours r × (n ≤ 4 * r) ⌝ }
 {
-    if n <= 16 { 4 } else { 8 }
+    if n <= 4 {
+        return 1;
+    }
+    if n <= 16 {
+        return 4;
+    }
+    8
 }
 
 // The costs of all half bytes at the n values at `at`, zeros past them; returns the number of runs.
@@ -96,6 +102,9 @@ pub fn cost_of(sums: &[u32; 128], runs: usize, word: u32) -> u32
     requires { ⌜ Fours runs × Small (now sums) runs ⌝ }
     ensures { λ r. ⌜ (r ≡ picked (now (sums .entry)) 0 runs word) × (r ≤ 33538048) ⌝ }
 {
+    if runs == 1 {
+        return pick(sums, 0, word);
+    }
     let low = four(sums, 0, word);
     if runs == 4 {
         return low;

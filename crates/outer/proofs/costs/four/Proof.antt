@@ -1,19 +1,9 @@
 -- `outer::costs::four` meets its contract, by what `pick` ensures. Assumes nothing.
-use mathlib.Core.Path.{_≡_}
-use mathlib.Core.List.{List}
-use Prim.Native.Nat.{ℕ, _+_, _*_, _%_, _≤_, _<_}
 use native.Mathlib.Omega.{arith}
 use borrow.Author.Needs.{needs}
-use lib.ListN.{getD}
-use Rattle.outer.specs.Search.{Small}
-use Rattle.outer.proofs.Sums.{picked-four}
+use Rattle.outer.proofs.Sums.{entry-small, picked-four}
 use Rattle.outer.proofs.costs.four.Statement.{statement}
 use Rattle.outer.proofs.costs.four.Tie as tie
-
--- an entry that is picked
-entry-small : (t : List ℕ) (n p w r : ℕ) → Small t n → p < n → r ≡ getD t (16 * p + w % 16) 0 → r ≤ 4192256
-unfolding Small
-entry-small t n p w r s h e = omega (arith, s (16 * p + w % 16) (omega arith))
 
 pick-requires : tie.Need-pick-requires
 pick-requires c κs = search needs

@@ -110,7 +110,7 @@ returns c =
     let x = c .before .loop in
     let r = c .before .before .run-count in
     let costs : Costs (x .sums) (r .result) (part (a .at) (a .n) (a .numbers .now)) =
-    record { few = r .ensures .0; all = omega (arith, part-length (a .at) (a .n) (a .numbers .now) (s .pre .1)); at = λ q v l k. x .inv .2 q v (omega arith) k } in
+    record { count = r .ensures .0; all = omega (arith, part-length (a .at) (a .n) (a .numbers .now) (s .pre .1)); at = λ q v l k. x .inv .2 q v (omega arith) k } in
     (x .inv .1, costs, costs-small costs (s .pre .3))
 
 pub prepare-spec : {M : Type 1} → statement M

@@ -33,7 +33,7 @@ prepare-requires c κs =
 least-requires : tie.Need-least-requires
 least-requires c κs =
     let f = c .before .before .prepare .ensures in
-    (few (c .before .before .before .before), f .1 .few, f .2)
+    (few (c .before .before .before .before), f .1 .count, f .2)
 
 candidate-requires : tie.Need-candidate-requires
 candidate-requires c κs =
@@ -41,7 +41,7 @@ candidate-requires c κs =
     let a = c .before .before .before .before .before .before .before .before .before .before .before .before .args in
     let k = tableKey (c .before .before .before .before .before .before .prepare .last .1 .1 .1 .0) (c .before .before .before .before .before .before .prepare .result) (c .before .before .before .before .before .before .before .before .fill .last .1 .1 .1 .1 .1 .0) in
     let n = c .before .before .before .before .before .before .before .before .fill .result in
-    (omega (arith, ap (λ b. b .setting) (c .before .before .before .least .ensures), best-within k n (leastFrom k (a .bound) n) (least-below k (a .bound) n) (few (c .before .before .before .before .before .before .before .before))), f .1 .few, f .2)
+    (omega (arith, ap (λ b. b .setting) (c .before .before .before .least .ensures), best-within k n (leastFrom k (a .bound) n) (least-below k (a .bound) n) (few (c .before .before .before .before .before .before .before .before))), f .1 .count, f .2)
 
 returns : tie.Need-returns
 unfolding found
