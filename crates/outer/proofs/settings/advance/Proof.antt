@@ -37,8 +37,8 @@ returns c =
     let a = s .args in
     let z = c .if1 .taken in
     let l = free-room (a .code) (a .free) z (s .pre .2) in (
-      length-set (a .words .now) (a .free + 1) (a .row) ∙ s .pre .0,
-      length-set (a .sets .now) (a .free + 1) (a .ties) ∙ s .pre .1,
+      length-set (a .words .now) (a .free + 1) _ ∙ s .pre .0,
+      length-set (a .sets .now) (a .free + 1) _ ∙ s .pre .1,
       ap (λ n. 2 ^ n) (add-one (a .free)) ∙ two-pow-succ (a .free) ∙ sym (grown-free (a .code) (2 ^ a .free) z),
       λ e h. free-spans (a .words .now) (a .sets .now) (a .free) e h (a .row) (a .ties) (a .code) z (omega (arith, s .pre .0, l)) (omega (arith, s .pre .1, l)),
     )
