@@ -16,3 +16,4 @@ pub mod Descent
 pub mod Rooted
 pub mod Fit
 pub mod Reached
+pub mod Next

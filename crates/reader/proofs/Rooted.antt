@@ -45,11 +45,11 @@ module _ (others : List (ℕ → ℕ)) (k : ℕ) (v : View) (h : ℕ) (g : 1 ≤
   unfolding upd
   written-has = cond-case (λ (i : ℕ). 1 ≤ i) (eqb h k) (λ _. writes-some others k v) (λ _. g)
 
-  claim-has : (j : ℕ) → 1 ≤ claim others j k v .ids h
+  pub claim-has : (j : ℕ) → 1 ≤ claim others j k v .ids h
   claim-has j = subst (λ (f : ℕ → ℕ). 1 ≤ f h) (sym (claim-ids others k v j)) written-has
 
 -- the last word goes into the sums
-commit-has : (B : Book) (others : List (ℕ → ℕ)) (p : Path) (b : ℕ) (v : View) (h : ℕ) → 1 ≤ v .ids h → 1 ≤ commit B others p b v .ids h
+pub commit-has : (B : Book) (others : List (ℕ → ℕ)) (p : Path) (b : ℕ) (v : View) (h : ℕ) → 1 ≤ v .ids h → 1 ≤ commit B others p b v .ids h
 unfolding commit putSums
 commit-has B others p zero v h g = g
 commit-has B others p (suc b) v h g = written-has others (place B b) v h g
@@ -103,7 +103,7 @@ module _ (B : Book) where
   copy-rooted D A p ps n (suc b) e r h = copyWith-rooted D A p b ps n _ e r h
 
   -- the view of the next block, before an array is taken for its word
-  down-has : Valid B → (others : List (ℕ → ℕ)) (A : Arrays) (p : Path) (b : ℕ) → p .blocks ≡ b → b < length (B .blocks) → Rooted B p →
+  pub down-has : Valid B → (others : List (ℕ → ℕ)) (A : Arrays) (p : Path) (b : ℕ) → p .blocks ≡ b → b < length (B .blocks) → Rooted B p →
       (h : ℕ) → blockAt B b .j ≤ h → h ≤ B .m →
       1 ≤ descend others (B .m - blockAt B b .j) (B .m) (startOf (B .blocks) b) (commit B others p b (viewOf A p)) .ids h
   unfolding startOf

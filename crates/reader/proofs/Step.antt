@@ -69,6 +69,30 @@ module _ (B : Book) (ys : List ℤ) (ok : Valid B) (ly : length ys ≡ 2 ^ (B .m
 
   -- ---- step 2: the copy
 
+  -- the next word of the last block is the machine's
+  pub next-matches : (A : Arrays) (u : List ℕ) (p : Path) (b : ℕ) → p .parities ≡ paritiesOf B u → Good B ys (viewOf A p) u p b →
+      MayPair (Matches B ys (take (startOf (B .blocks) b) u) b) (MW.nextAfter B ys u b)
+      (RW.nextAfter (ownWord B p b) B (valsOf (viewOf A p) (blockAt B b .j)) (p .earlier) b)
+  unfolding MW.nextAfter RW.nextAfter
+  next-matches A u p b e g =
+      let j : ℕ = blockAt B b .j in
+      let m : ℕ = B .m in
+      let s : ℕ = startOf (B .blocks) b in
+      let u′ : List ℕ = take s u in
+      let o : Placed B b = placed B ok b (g .within) in
+      let v : View = viewOf A p in
+      let at : valsOf v j ≡ node (m - j) m ys u′ s =
+      g .own ∙ vals-node (m - j) j m ys u s (g .way) (o .small) (g .root) (g .vals)
+      ∙ node-same (m - j) m ys u u′ s (sym (take-take s s u (omega arith))) in
+      let own : Matches B ys u′ b (rank B ys b u) (ownWord B p b) = own-matches B ys v u p b g e in
+      let next : Option Ranked = MW.nextAfter B ys u b in
+      let next′ : Parities → Option Word = λ x. RW.nextAfter (ownWord B p b) B (valsOf v j) x b in
+      let found : MayPair (Matches B ys u′ b) next (next′ (paritiesOf B u′)) =
+      nearest-matches B ys u′ b o ly (length-take-le s u (omega (arith, g .size))) (all-take Bit s u (g .bits)) (valsOf v j) at
+      (MW.nearer (rank B ys b u)) (RW.nearer (ownWord B p b))
+      (λ x y k. nearer-matches B ys u′ b (rank B ys b u) x (ownWord B p b) y own k) in
+      subst (λ x. MayPair (Matches B ys u′ b) next (next′ x)) (sym (g .earlier)) found
+
   -- c′ is what the machine's c is, and p sees what it saw
   record CopyIs (A : Arrays) (p : Path) (c : M.Cut) (c′ : R.Cut) : Type 0 where
     queue : Paired (StandsFor B ys (c′ .arrays)) (c .queue) (c′ .queue)
@@ -126,28 +150,55 @@ module _ (B : Book) (ys : List ℤ) (ok : Valid B) (ly : length ys ≡ 2 ^ (B .m
 
     copy-is : (b : ℕ) → p .parities ≡ paritiesOf B u → Inv B ys (viewOf A p) u p b →
         CopyIs A p (M.cut D qs n (M.copyOf B ys n b u)) (R.copy B D A p ps n b)
-    unfolding M.cut M.copyOf R.copy Inv MW.nextAfter RW.nextAfter
+    unfolding M.cut M.copyOf R.copy Inv
     copy-is zero e g = record { queue = hs; next = refl; crowded = refl; sees = sees-same A (p .ids) }
-    copy-is (suc b) e g =
-        let j : ℕ = blockAt B b .j in
-        let m : ℕ = B .m in
-        let s : ℕ = startOf (B .blocks) b in
-        let u′ : List ℕ = take s u in
-        let o : Placed B b = placed B ok b (g .within) in
-        let v : View = viewOf A p in
-        let at : valsOf v j ≡ node (m - j) m ys u′ s =
-        g .own ∙ vals-node (m - j) j m ys u s (g .way) (o .small) (g .root) (g .vals)
-        ∙ node-same (m - j) m ys u u′ s (sym (take-take s s u (omega arith))) in
-        let own : Matches B ys u′ b (rank B ys b u) (ownWord B p b) = own-matches B ys v u p b g e in
-        let next : Option Ranked = MW.nextAfter B ys u b in
-        let next′ : Parities → Option Word = λ x. RW.nextAfter (ownWord B p b) B (valsOf v j) x b in
-        let found : MayPair (Matches B ys u′ b) next (next′ (paritiesOf B u′)) =
-        nearest-matches B ys u′ b o ly (length-take-le s u (omega (arith, g .size))) (all-take Bit s u (g .bits)) (valsOf v j) at
-        (MW.nearer (rank B ys b u)) (RW.nearer (ownWord B p b))
-        (λ x y k. nearer-matches B ys u′ b (rank B ys b u) x (ownWord B p b) y own k) in
-        copyWith-is b next (next′ (p .earlier)) g (subst (λ x. MayPair (Matches B ys u′ b) next (next′ x)) (sym (g .earlier)) found)
+    copy-is (suc b) e g = copyWith-is b _ _ g (next-matches A u p b e g)
 
   -- ---- step 3: the path's own next block
+
+  -- what it sees once it has gone down to that block, and the block's nearest word there, which is the machine's
+  module _ (A : Arrays) (u : List ℕ) (p : Path) (others : List (ℕ → ℕ)) (h : Holds B ys A u p) (l : p .blocks < length (B .blocks)) where
+    abbrev down : View
+    down =
+        descend others (B .m - blockAt B (p .blocks) .j) (B .m) (startOf (B .blocks) (p .blocks)) (commit B others p (p .blocks) (viewOf A p))
+
+    down-good : Vals (B .m - blockAt B (p .blocks) .j) (B .m) ys u (startOf (B .blocks) (p .blocks)) (valsOf down)
+        × Sums (B .m) u (startOf (B .blocks) (p .blocks)) (sumsOf down)
+    down-good =
+        let b : ℕ = p .blocks in
+        let m : ℕ = B .m in
+        let d : ℕ = m - blockAt B b .j in
+        let t : ℕ = startOf (B .blocks) b in
+        let v₁ : View = commit B others p b (viewOf A p) in
+        let r : Ready B ys others u b v₁ = ready B ys ok others u p b (viewOf A p) (h .inv) in
+        let lt : t < 2 ^ m = start-less B ok b l in
+        descend-good others d m ys u t v₁ lt (r .root l) (r .prior l d) (sums-root m u t (sumsOf v₁) lt (r .sums)) (r .alone l)
+
+    down-root : valsOf down (B .m) ≡ ys
+    down-root =
+        let b : ℕ = p .blocks in
+        let v₁ : View = commit B others p b (viewOf A p) in
+        descend-above others (B .m - blockAt B b .j) (B .m) (startOf (B .blocks) b) v₁ (B .m) (omega arith) .0
+        ∙ ready B ys ok others u p b (viewOf A p) (h .inv) .root l
+
+    pub near-matches : let j = blockAt B (p .blocks) .j in
+        let v = claim others j (place B (p .blocks)) down in
+        MayPair (Matches B ys u (p .blocks)) (MW.nearest B ys u (p .blocks)) (RW.nearest B (valsOf v j) (p .parities) (p .blocks))
+    unfolding MW.nearest RW.nearest
+    near-matches =
+        let b : ℕ = p .blocks in
+        let j : ℕ = blockAt B b .j in
+        let m : ℕ = B .m in
+        let o : Placed B b = placed B ok b l in
+        let z : Sized B ys u p b = sized B ys (viewOf A p) u p ok b (h .inv) in
+        let v : View = claim others j (place B b) down in
+        let near : Option Ranked = MW.nearest B ys u b in
+        let near′ : Parities → Option Word = λ x. RW.nearest B (valsOf v j) x b in
+        let found : MayPair (Matches B ys u b) near (near′ (paritiesOf B u)) =
+        nearest-matches B ys u b o ly (z .size) (z .bits) (valsOf v j)
+        (claim-own others (place B b) down j ∙ vals-node (m - j) j m ys u (startOf (B .blocks) b) (valsOf down) (o .small) down-root (down-good .0))
+        (λ _. true) (λ _. true) (λ _ _ _. refl) in
+        subst (λ x. MayPair (Matches B ys u b) near (near′ x)) (sym (h .parities)) found
 
   -- the path moved stands for q, and the others for what they stood for
   record MoveIs (qs : List M.Path) (ps : List Path) (q : M.Path) (x : Moved) : Type 0 where
@@ -182,7 +233,7 @@ module _ (B : Book) (ys : List ℤ) (ok : Valid B) (ly : length ys ≡ 2 ^ (B .m
           }
 
       move-is : MoveIs qs ps (M.advance B ys (plain B p u)) (R.move B A p ps)
-      unfolding M.advance R.move MW.nearest RW.nearest plain now place
+      unfolding M.advance R.move plain place
       move-is =
           let b : ℕ = p .blocks in
           let j : ℕ = blockAt B b .j in
@@ -194,27 +245,18 @@ module _ (B : Book) (ys : List ℤ) (ok : Valid B) (ly : length ys ≡ 2 ^ (B .m
           let v₁ : View = commit B others p b (viewOf A p) in
           let v₂ : View = descend others d m t v₁ in
           let v : View = claim others j (place B b) v₂ in
-          let r : Ready B ys others u b v₁ = ready B ys ok others u p b (viewOf A p) (h .inv) in
           let lt : t < 2 ^ m = start-less B ok b l in
-          let down = descend-good others d m ys u t v₁ lt (r .root l) (r .prior l d) (sums-root m u t (sumsOf v₁) lt (r .sums)) (r .alone l) in
-          let root : valsOf v₂ m ≡ ys = descend-above others d m t v₁ m (omega arith) .0 ∙ r .root l in
+          let good = down-good A u p others h l in
           let lost : List ℕ = v₂ .arrays .sums (place B b) (writes others (place B b) v₂) in
           let sums : Sums (suc m) u t (sumsOf v) =
           subst (Sums (suc m) u t) (sym (claim-sums others (place B b) v₂ j))
-          (root-turn d j m t (o .small) (o .starts) u (sumsOf v₂) lost (sums-unroot m u t (sumsOf v₂) lt (down .1))) in
-          let own : valsOf v j ≡ valsOf v₂ j = claim-own others (place B b) v₂ j in
+          (root-turn d j m t (o .small) (o .starts) u (sumsOf v₂) lost (sums-unroot m u t (sumsOf v₂) lt (good .1))) in
           let kept : Kept others A (v .arrays) =
           kept-on others A (v₂ .arrays) (v .arrays)
           (kept-on others A (v₁ .arrays) (v₂ .arrays) (commit-kept B others p b (viewOf A p)) (descend-kept others d m t v₁))
           (claim-kept others (place B b) v₂ j) in
-          let near : Option Ranked = MW.nearest B ys u b in
-          let near′ : Parities → Option Word = λ x. RW.nearest B (valsOf v j) x b in
-          let found : MayPair (Matches B ys u b) near (near′ (paritiesOf B u)) =
-          nearest-matches B ys u b o ly (now .size) (now .bits) (valsOf v j) (own ∙ vals-node d j m ys u t (valsOf v₂) (o .small) root (down .0))
-          (λ _. true)
-          (λ _. true) (λ _ _ _. refl) in
-          moveWith-is v (valsOf v₂) near (near′ (p .parities)) kept root (down .0) (claim-vals others (place B b) v₂ j) own sums
-          (subst (λ x. MayPair (Matches B ys u b) near (near′ x)) (sym (h .parities)) found)
+          moveWith-is v (valsOf v₂) _ _ kept (down-root A u p others h l) (good .0) (claim-vals others (place B b) v₂ j)
+          (claim-own others (place B b) v₂ j) sums (near-matches A u p others h l)
 
   -- ---- step 4, and the whole extraction
 
