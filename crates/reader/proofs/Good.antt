@@ -20,7 +20,7 @@ use Rattle.codebook.specs.Limits.{Valid}
 use Rattle.codec.proofs.Fill.{After}
 use Rattle.machine.specs.Words.{Ranked, rank}
 use Rattle.machine.specs.Machine as M
-use Rattle.reader.specs.Arrays.{Arrays, View, valsOf, sumsOf, upd, writes, turn, joined}
+use Rattle.reader.specs.Arrays.{Arrays, View, valsOf, sumsOf, upd, writes, claim, turn, descend, joined}
 use Rattle.codec.specs.Ties.{fillBlock}
 use Rattle.outer.specs.Words.{Word}
 use Rattle.reader.specs.Paths.{Path, scoreOf, lastWord, ownWord, place, viewOf}
@@ -182,6 +182,15 @@ plain-path B ys u p h = ap {A = ℤ} {B = M.Path} (λ z. record { number = p .nu
     score : (b : ℕ) → M.scoreOf B ys b u ≡ scoreOf B p b
     score zero = refl
     score (suc b) = ap (λ z. z -ℤ blockAt B b .bias) (R-costs (B .m) ys u ∙ ap (λ n. negℤ (pos n)) (sym (h .total)))
+
+-- ---- the way to the next block
+
+-- what the path sees once it has gone down to block b, and once it has an array for the block's word
+abbrev pub downTo : Book → List (ℕ → ℕ) → Arrays → Path → ℕ → View
+downTo B others A p b = descend others (B .m - blockAt B b .j) (B .m) (startOf (B .blocks) b) (commit B others p b (viewOf A p))
+
+abbrev pub nextView : Book → List (ℕ → ℕ) → Arrays → Path → ℕ → View
+nextView B others A p b = claim others (blockAt B b .j) (place B b) (downTo B others A p b)
 
 -- ---- the last word goes into the sums
 

@@ -17,3 +17,4 @@ pub mod Rooted
 pub mod Fit
 pub mod Reached
 pub mod Next
+pub mod Found

@@ -18,12 +18,13 @@ use Rattle.codec.specs.Ties.{Parities, push, fillFrom, fillBlock}
 use Rattle.outer.specs.Blocks.{Bits}
 use Rattle.outer.proofs.Blocks.{Placed, placed}
 use Rattle.outer.proofs.Parities.{absorb-bits}
-use Rattle.reader.specs.Arrays.{Arrays, View, valsOf, sumsOf, writes, putSums, claim, descend, joined}
+use Rattle.reader.specs.Arrays.{Arrays, View, valsOf, sumsOf, writes, putSums, descend, joined}
 use Rattle.reader.specs.Paths.{Path, lastWord, place, viewOf}
 use Rattle.reader.specs.Reader.{commit}
 use Rattle.reader.specs.Fit.{Fit, FitFirst, FitFor}
 use Rattle.reader.proofs.Upd.{upd-other}
 use Rattle.reader.proofs.Arrays.{vals-lost, claim-own}
+use Rattle.reader.proofs.Good.{downTo, nextView}
 use Rattle.reader.proofs.Descent.{byP, put-vals, put-has, turn-within, descend-within, descend-turn, Turned, turn-place, place-most}
 use Rattle.reader.proofs.Rooted.{Rooted, claim-has, commit-has, down-has}
 
@@ -46,9 +47,9 @@ fill-bits B x k (frozen ∷ ks) ds h g = (omega arith, fill-bits B _ (suc k) ks 
 fill-bits B x k (tied ts ∷ ks) ds h g = (h k, fill-bits B _ (suc k) ks ds (absorb-bits B k (x k) x) g)
 
 module _ (B : Book) (ok : Valid B) (b : ℕ) (l : b < length (B .blocks)) (x : Parities) (w : ℕ) where
-  pub fill-length : length (fillBlock B x b w .bits) ≡ 2 ^ (blockAt B b .j)
+  pub filled-length : length (fillBlock B x b w .bits) ≡ 2 ^ (blockAt B b .j)
   unfolding fillBlock
-  fill-length = fill-size B x (startOf (B .blocks) b) (kindsOf B b) (toBits (freeCount (kindsOf B b)) w) ∙ placed B ok b l .size
+  filled-length = fill-size B x (startOf (B .blocks) b) (kindsOf B b) (toBits (freeCount (kindsOf B b)) w) ∙ placed B ok b l .size
 
   pub filled-bits : Bits x → All Bit (fillBlock B x b w .bits)
   unfolding fillBlock
@@ -79,7 +80,7 @@ module _ (B : Book) (ok : Valid B) (A : Arrays) (p : Path) where
     last-bits =
         let j : ℕ = blockAt B b .j in
         let l : List ℕ = fillBlock B (p .earlier) b (p .setting) .bits in (
-          transform-length j l (fill-length B ok b (f .within) (p .earlier) (p .setting)),
+          transform-length j l (filled-length B ok b (f .within) (p .earlier) (p .setting)),
           transform-bits j l (filled-bits B ok b (f .within) (p .earlier) (p .setting) (f .earlier)),
         )
 
@@ -149,13 +150,6 @@ module _ (B : Book) (others : List (ℕ → ℕ)) (p : Path) (v : View) where
       (descend-turn others m s j v₁ (t .after) (t .inside) (omega (arith, t .next, t .at)))
 
 -- ---- the next block
-
--- what the path sees once it has gone down to block b, and once it has an array for the block's word
-abbrev pub downTo : Book → List (ℕ → ℕ) → Arrays → Path → ℕ → View
-downTo B others A p b = descend others (B .m - blockAt B b .j) (B .m) (startOf (B .blocks) b) (commit B others p b (viewOf A p))
-
-abbrev pub nextView : Book → List (ℕ → ℕ) → Arrays → Path → ℕ → View
-nextView B others A p b = claim others (blockAt B b .j) (place B b) (downTo B others A p b)
 
 module _ (B : Book) (ok : Valid B) (A : Arrays) (p : Path) (others : List (ℕ → ℕ)) where
   down-within : (b : ℕ) → b < length (B .blocks) → FitFor B A p b → All (Within 1048064) (valsOf (downTo B others A p b) (blockAt B b .j))

@@ -35,7 +35,7 @@ use Rattle.codec.proofs.Ties.{paritiesOf}
 use Rattle.outer.proofs.Blocks.{Placed, placed, start-less}
 use Rattle.outer.proofs.Words.{Matches, nearer-matches, nearest-matches}
 use Rattle.reader.proofs.Arrays.{Sees, sees-same, Kept, kept-on, claim-kept, claim-vals, claim-own, claim-sums, descend-kept, descend-above, descend-good}
-use Rattle.reader.proofs.Good.{Good, Inv, Holds, plain, StandsFor, holds-frame, stands-frame, Sized, sized, plain-path, own-matches, commit-kept, Ready, ready, enter}
+use Rattle.reader.proofs.Good.{Good, Inv, Holds, plain, StandsFor, holds-frame, stands-frame, Sized, sized, plain-path, own-matches, commit-kept, downTo, nextView, Ready, ready, enter}
 use Rattle.reader.proofs.Queue.{insert-paired, ahead-paired, behind-paired, numbers-paired}
 
 module _ (B : Book) (ys : List ℤ) (A : Arrays) (q : M.Path) (p : Path) (h : StandsFor B ys A q p) where
@@ -158,12 +158,8 @@ module _ (B : Book) (ys : List ℤ) (ok : Valid B) (ly : length ys ≡ 2 ^ (B .m
 
   -- what it sees once it has gone down to that block, and the block's nearest word there, which is the machine's
   module _ (A : Arrays) (u : List ℕ) (p : Path) (others : List (ℕ → ℕ)) (h : Holds B ys A u p) (l : p .blocks < length (B .blocks)) where
-    abbrev down : View
-    down =
-        descend others (B .m - blockAt B (p .blocks) .j) (B .m) (startOf (B .blocks) (p .blocks)) (commit B others p (p .blocks) (viewOf A p))
-
-    down-good : Vals (B .m - blockAt B (p .blocks) .j) (B .m) ys u (startOf (B .blocks) (p .blocks)) (valsOf down)
-        × Sums (B .m) u (startOf (B .blocks) (p .blocks)) (sumsOf down)
+    down-good : Vals (B .m - blockAt B (p .blocks) .j) (B .m) ys u (startOf (B .blocks) (p .blocks)) (valsOf (downTo B others A p (p .blocks)))
+        × Sums (B .m) u (startOf (B .blocks) (p .blocks)) (sumsOf (downTo B others A p (p .blocks)))
     down-good =
         let b : ℕ = p .blocks in
         let m : ℕ = B .m in
@@ -174,16 +170,15 @@ module _ (B : Book) (ys : List ℤ) (ok : Valid B) (ly : length ys ≡ 2 ^ (B .m
         let lt : t < 2 ^ m = start-less B ok b l in
         descend-good others d m ys u t v₁ lt (r .root l) (r .prior l d) (sums-root m u t (sumsOf v₁) lt (r .sums)) (r .alone l)
 
-    down-root : valsOf down (B .m) ≡ ys
+    down-root : valsOf (downTo B others A p (p .blocks)) (B .m) ≡ ys
     down-root =
         let b : ℕ = p .blocks in
         let v₁ : View = commit B others p b (viewOf A p) in
         descend-above others (B .m - blockAt B b .j) (B .m) (startOf (B .blocks) b) v₁ (B .m) (omega arith) .0
         ∙ ready B ys ok others u p b (viewOf A p) (h .inv) .root l
 
-    pub near-matches : let j = blockAt B (p .blocks) .j in
-        let v = claim others j (place B (p .blocks)) down in
-        MayPair (Matches B ys u (p .blocks)) (MW.nearest B ys u (p .blocks)) (RW.nearest B (valsOf v j) (p .parities) (p .blocks))
+    pub near-matches : let b = p .blocks in
+        MayPair (Matches B ys u b) (MW.nearest B ys u b) (RW.nearest B (valsOf (nextView B others A p b) (blockAt B b .j)) (p .parities) b)
     unfolding MW.nearest RW.nearest
     near-matches =
         let b : ℕ = p .blocks in
@@ -191,12 +186,13 @@ module _ (B : Book) (ys : List ℤ) (ok : Valid B) (ly : length ys ≡ 2 ^ (B .m
         let m : ℕ = B .m in
         let o : Placed B b = placed B ok b l in
         let z : Sized B ys u p b = sized B ys (viewOf A p) u p ok b (h .inv) in
-        let v : View = claim others j (place B b) down in
+        let v : View = downTo B others A p b in
+        let vs : List ℤ = valsOf (nextView B others A p b) j in
         let near : Option Ranked = MW.nearest B ys u b in
-        let near′ : Parities → Option Word = λ x. RW.nearest B (valsOf v j) x b in
+        let near′ : Parities → Option Word = λ x. RW.nearest B vs x b in
         let found : MayPair (Matches B ys u b) near (near′ (paritiesOf B u)) =
-        nearest-matches B ys u b o ly (z .size) (z .bits) (valsOf v j)
-        (claim-own others (place B b) down j ∙ vals-node (m - j) j m ys u (startOf (B .blocks) b) (valsOf down) (o .small) down-root (down-good .0))
+        nearest-matches B ys u b o ly (z .size) (z .bits) vs
+        (claim-own others (place B b) v j ∙ vals-node (m - j) j m ys u (startOf (B .blocks) b) (valsOf v) (o .small) down-root (down-good .0))
         (λ _. true) (λ _. true) (λ _ _ _. refl) in
         subst (λ x. MayPair (Matches B ys u b) near (near′ x)) (sym (h .parities)) found
 
