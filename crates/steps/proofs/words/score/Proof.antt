@@ -31,13 +31,13 @@ negative c = sym (toZ-ofZ (sub-result c)) ∙ neg-is (cast-result c) (omega arit
 low : (c : tie.Start) → natAbs (pos 0 -ℤ back (total c)) + natAbs (c .args .bias) < 2147483648
 low c = omega (arith, ap natAbs (negative c), neg-abs (total c))
 
-sub-result-2 : tie.Need-sub-result-2
-sub-result-2 c = sub-fits (sub-result c) (c .fits .bias) (low c)
-
 returns : tie.Need-returns
 returns c =
     let e = sub-is (sub-result c) (c .fits .bias) (low c) ∙ ap (λ z. z -ℤ c .args .bias) (negative c) in
     (e, omega (arith, ap natAbs e, add-abs (negℤ (total c)) (negℤ (c .args .bias)), neg-abs (total c), neg-abs (c .args .bias)))
+
+sub-result-2 : tie.Need-sub-result-2
+sub-result-2 c = sub-fits (sub-result c) (c .fits .bias) (low c)
 
 pub score-spec : {M : Type 1} → statement M
 score-spec = tie.close (tie.spec add-result cast-result sub-result sub-result-2 returns)
