@@ -1,0 +1,5 @@
+pub mod Seeing
+pub mod Down
+pub mod Inside
+pub mod Joining
+pub mod Committing

@@ -1,0 +1,193 @@
+// What the path in a slot sees of the shared arrays, written height by height: an array is taken first, then written.
+ghost use mathlib.Core.Path.{_≡_};
+ghost use Prim.Native.Nat.{ℕ, suc, _+_, _-_, _*_, _^_, _≤_, _<_};
+ghost use lib.ListN.{length};
+ghost use Rattle.laws.specs.Lists.{All};
+ghost use Rattle.polar.specs.Bits.{Bit};
+ghost use Rattle.polar.specs.Layers.{part};
+ghost use Rattle.reader.specs.Arrays.{sumsOf, putSums, claim, descend, joined};
+ghost use Rattle.sharing.specs.Sharing.{idAt};
+ghost use Rattle.heights.specs.Workspace.{spot, Room, Id, bitsOf};
+ghost use Rattle.standing.specs.Seen.{memory, Lent, Viewed, Turned, IdsOnly};
+ghost use Rattle.views.specs.Steps.{Upper, lowered, Turning, turnedOver, Joinable, Claimable, Joined};
+use heights::arrays::copy_half;
+use heights::arrays::first_half;
+use heights::arrays::place;
+use heights::arrays::power;
+use heights::arrays::put_word;
+use heights::arrays::second_half;
+use polar::layers::add_sums;
+use sharing::holders::take;
+
+// A number of the table, as an index.
+fn wide(x: u32) -> usize
+    ensures { λ r. ⌜ r ≡ x ⌝ }
+{
+    x as usize
+}
+
+// The id of a slot's array of a height.
+pub fn id_of(rows: &[u32; 4096], slot: usize, h: usize) -> usize
+    requires { ⌜ (length (now rows) ≡ 4096) × (slot < 256) × (h ≤ 9) ⌝ }
+    ensures { λ r. ⌜ r ≡ idAt (now (rows .entry)) slot h ⌝ }
+{
+    wide(rows[slot * 16 + h])
+}
+
+// The values of height h, by Q.
+fn lower(
+    rows: &mut [u32; 4096],
+    holders: &mut [u16; 2570],
+    numbers: &mut [i32],
+    bytes: &[u8],
+    m: usize,
+    most: usize,
+    slot: usize,
+    h: usize,
+)
+    requires { ⌜ Lent m most (memory (now rows) (now holders) (now numbers) (now bytes)) × (slot < 256) × (h < m) ⌝ }
+    requires { ⌜ Viewed m most slot (memory (now rows) (now holders) (now numbers) (now bytes)) (Upper (suc h)) ⌝ }
+    ensures { λ _. ⌜ Lent m most (memory (now (rows .exit)) (now (holders .exit)) (now (numbers .exit)) (now (bytes .entry)))
+        × IdsOnly m slot (now (rows .entry)) (now (rows .exit)) ⌝ }
+    ensures { λ _. ⌜ Turned m most slot (memory (now (rows .entry)) (now (holders .entry)) (now (numbers .entry)) (now (bytes .entry)))
+        (memory (now (rows .exit)) (now (holders .exit)) (now (numbers .exit)) (now (bytes .entry))) (Upper (suc h)) (lowered h) ⌝ }
+{
+    let from = id_of(rows, slot, h + 1);
+    let to = take(rows, holders, slot, h, most);
+    first_half(numbers, m, most, h, from, to);
+}
+
+// The values of the heights below `top`, down to `low`, by Q.
+pub fn go_down(
+    rows: &mut [u32; 4096],
+    holders: &mut [u16; 2570],
+    numbers: &mut [i32],
+    bytes: &[u8],
+    m: usize,
+    most: usize,
+    slot: usize,
+    top: usize,
+    low: usize,
+)
+    requires { ⌜ Lent m most (memory (now rows) (now holders) (now numbers) (now bytes)) × (slot < 256) × (low ≤ top) × (top ≤ m) ⌝ }
+    requires { ⌜ Viewed m most slot (memory (now rows) (now holders) (now numbers) (now bytes)) (Upper top) ⌝ }
+    ensures { λ _. ⌜ Lent m most (memory (now (rows .exit)) (now (holders .exit)) (now (numbers .exit)) (now (bytes .entry)))
+        × IdsOnly m slot (now (rows .entry)) (now (rows .exit)) ⌝ }
+    ensures { λ _. ⌜ Turned m most slot (memory (now (rows .entry)) (now (holders .entry)) (now (numbers .entry)) (now (bytes .entry)))
+        (memory (now (rows .exit)) (now (holders .exit)) (now (numbers .exit)) (now (bytes .entry))) (Upper top)
+        (λ others v. descend others (top - low) top 0 v) ⌝ }
+{
+    let mut h = top;
+    while h > low {
+        h -= 1;
+        lower(rows, holders, numbers, bytes, m, most, slot, h);
+    }
+}
+
+// The values of height h, by P with the word in the path's sums of that height.
+pub fn turn_over(
+    rows: &mut [u32; 4096],
+    holders: &mut [u16; 2570],
+    numbers: &mut [i32],
+    bytes: &[u8],
+    m: usize,
+    most: usize,
+    slot: usize,
+    h: usize,
+)
+    requires { ⌜ Lent m most (memory (now rows) (now holders) (now numbers) (now bytes)) × (slot < 256) × (h < m) ⌝ }
+    requires { ⌜ Viewed m most slot (memory (now rows) (now holders) (now numbers) (now bytes)) (Turning h) ⌝ }
+    ensures { λ _. ⌜ Lent m most (memory (now (rows .exit)) (now (holders .exit)) (now (numbers .exit)) (now (bytes .entry)))
+        × IdsOnly m slot (now (rows .entry)) (now (rows .exit)) ⌝ }
+    ensures { λ _. ⌜ Turned m most slot (memory (now (rows .entry)) (now (holders .entry)) (now (numbers .entry)) (now (bytes .entry)))
+        (memory (now (rows .exit)) (now (holders .exit)) (now (numbers .exit)) (now (bytes .entry))) (Turning h) (turnedOver h) ⌝ }
+{
+    let from = id_of(rows, slot, h + 1);
+    let word = id_of(rows, slot, h);
+    let to = take(rows, holders, slot, h, most);
+    second_half(numbers, bytes, m, most, h, from, word, to);
+}
+
+// The word of 2^j bits at the end of the 2^h bytes at `at`, joined with the slot's sums of the heights from j up to h.
+fn join(
+    rows: &[u32; 4096],
+    bytes: &mut [u8],
+    m: usize,
+    most: usize,
+    slot: usize,
+    j: usize,
+    h: usize,
+    id: usize,
+)
+    requires { ⌜ (length (now rows) ≡ 4096) × (slot < 256) × (m ≤ 9) × (most ≤ 256) × (j ≤ h) × (h ≤ m) × Room m most (now bytes) × Id most id ⌝ }
+    requires { ⌜ ((k : ℕ) → j ≤ k → k < h → Id most (idAt (now rows) slot k) × All Bit (part (spot m (idAt (now rows) slot k) k) (2 ^ k) (now bytes))) ⌝ }
+    requires { ⌜ All Bit (part (spot m id h + (2 ^ h - 2 ^ j)) (2 ^ j) (now bytes)) ⌝ }
+    ensures { λ _. ⌜ Joined m h id (now (bytes .entry)) (now (bytes .exit)) ⌝ }
+    ensures { λ _. ⌜ part (spot m id h) (2 ^ h) (now (bytes .exit))
+        ≡ joined (λ k. part (spot m (idAt (now (rows .entry)) slot k) k) (2 ^ k) (now (bytes .entry))) j (h - j) (part (spot m id h + (2 ^ h - 2 ^ j)) (2 ^ j) (now (bytes .entry))) ⌝ }
+{
+    let end = place(m, id, h) + power(h);
+    let mut k = j;
+    while k < h {
+        let n = power(k);
+        let low = place(m, id_of(rows, slot, k), k);
+        add_sums(bytes, low, end - n, end - (n + n), n);
+        k += 1;
+    }
+}
+
+// A block's word goes into the sums of height h, joined with those of the heights below.
+pub fn commit(
+    rows: &mut [u32; 4096],
+    holders: &mut [u16; 2570],
+    numbers: &[i32],
+    bytes: &mut [u8],
+    m: usize,
+    most: usize,
+    slot: usize,
+    j: usize,
+    h: usize,
+    word: u32,
+)
+    requires { ⌜ Lent m most (memory (now rows) (now holders) (now numbers) (now bytes)) × (slot < 256) × (j ≤ h) × (h ≤ m) ⌝ }
+    requires { ⌜ Viewed m most slot (memory (now rows) (now holders) (now numbers) (now bytes)) (Joinable j h) ⌝ }
+    ensures { λ _. ⌜ Lent m most (memory (now (rows .exit)) (now (holders .exit)) (now (numbers .entry)) (now (bytes .exit)))
+        × IdsOnly m slot (now (rows .entry)) (now (rows .exit)) ⌝ }
+    ensures { λ _. ⌜ Turned m most slot (memory (now (rows .entry)) (now (holders .entry)) (now (numbers .entry)) (now (bytes .entry)))
+        (memory (now (rows .exit)) (now (holders .exit)) (now (numbers .entry)) (now (bytes .exit))) (Joinable j h)
+        (λ others v. putSums others h (joined (sumsOf v) j (h - j) (bitsOf (2 ^ j) word)) v) ⌝ }
+{
+    let to = take(rows, holders, slot, h, most);
+    let n = power(j);
+    put_word(bytes, place(m, to, h) + power(h) - n, n, word);
+    join(rows, bytes, m, most, slot, j, h, to);
+}
+
+// An array of height h for the word of a block of height j; the block's own values go along.
+pub fn claim(
+    rows: &mut [u32; 4096],
+    holders: &mut [u16; 2570],
+    numbers: &mut [i32],
+    bytes: &[u8],
+    m: usize,
+    most: usize,
+    slot: usize,
+    j: usize,
+    h: usize,
+)
+    requires { ⌜ Lent m most (memory (now rows) (now holders) (now numbers) (now bytes)) × (slot < 256) × (h ≤ m) ⌝ }
+    requires { ⌜ Viewed m most slot (memory (now rows) (now holders) (now numbers) (now bytes)) (Claimable j h) ⌝ }
+    ensures { λ _. ⌜ Lent m most (memory (now (rows .exit)) (now (holders .exit)) (now (numbers .exit)) (now (bytes .entry)))
+        × IdsOnly m slot (now (rows .entry)) (now (rows .exit)) ⌝ }
+    ensures { λ _. ⌜ Turned m most slot (memory (now (rows .entry)) (now (holders .entry)) (now (numbers .entry)) (now (bytes .entry)))
+        (memory (now (rows .exit)) (now (holders .exit)) (now (numbers .exit)) (now (bytes .entry))) (Claimable j h)
+        (λ others v. claim others j h v) ⌝ }
+{
+    let from = id_of(rows, slot, h);
+    let to = take(rows, holders, slot, h, most);
+    if h == j {
+        if from != to {
+            copy_half(numbers, m, most, h, from, to);
+        }
+    }
+}
