@@ -1,0 +1,4 @@
+pub mod Sides
+pub mod Tails
+pub mod Crowds
+pub mod Dismissals

@@ -1,0 +1,45 @@
+// Step 2, first part: the queue is cut to D - 2 paths.
+ghost use mathlib.Core.Path.{_≡_};
+ghost use mathlib.Core.List.{List, _∷_};
+ghost use Prim.Native.Nat.{ℕ, _+_, _-_, _≤_};
+ghost use lib.IntN.{ℤ};
+ghost use lib.ListN.{length};
+ghost use Rattle.machine.specs.Queue.{roomFor};
+ghost use Rattle.order.specs.Entries.{queueOf};
+ghost use Rattle.sharing.specs.Sharing.{Sizes};
+ghost use Rattle.standing.specs.Seen.{memory};
+ghost use Rattle.standing.specs.Standing.{Stands, InHand};
+use order::entries::slot_of;
+use order::moves::cut;
+use sharing::holders::release;
+
+// Leaves at most D - 2 of the queued paths, and returns how many; a path removed lets go of its arrays and its slot. A path is in hand beside them.
+pub fn crowd(
+    rows: &[u32; 4096],
+    holders: &mut [u16; 2570],
+    order: &mut [u64; 256],
+    vacant: &mut [u8; 256],
+    m: usize,
+    paths: usize,
+    queued: usize,
+) -> usize
+    requires { ⌜ Sizes (now rows) (now holders) × (length (now order) ≡ 256) × (length (now vacant) ≡ 256) × (m ≤ 9) ⌝ }
+    requires { ⌜ (2 ≤ paths) × (paths ≤ 256) × (queued + 1 ≤ paths) ⌝ }
+    requires { ⌜ ((e : ℕ) × (numbers : List ℤ) × (bytes : List ℕ) × InHand m paths (memory (now rows) (now holders) numbers bytes) e (queueOf (now order) queued) (queueOf (now vacant) (paths - (queued + 1)))) ⌝ }
+    ensures { λ r. ⌜ (length (now (holders .exit)) ≡ 2570) × (length (now (order .exit)) ≡ 256) × (length (now (vacant .exit)) ≡ 256)
+        × (r ≤ queued) × (r + 2 ≤ paths) ⌝ }
+    ensures { λ r. ⌜ ((e : ℕ) (numbers : List ℤ) (bytes : List ℕ)
+        (c : InHand m paths (memory (now (rows .entry)) (now (holders .entry)) numbers bytes) e (queueOf (now (order .entry)) queued) (queueOf (now (vacant .entry)) (paths - (queued + 1))))
+        → (r ≡ length (roomFor paths (c .rest)))
+        × Stands (c .book) paths (memory (now (rows .entry)) (now (holders .exit)) numbers bytes) (e ∷ queueOf (now (order .exit)) r) (queueOf (now (vacant .exit)) (paths - (r + 1)))
+        (c .arrays) (c .taken ∷ roomFor paths (c .rest))) ⌝ }
+{
+    if queued + 2 <= paths {
+        return queued;
+    }
+    let slot = slot_of(order[0]);
+    release(rows, holders, m, slot);
+    vacant[paths - (queued + 1)] = slot as u8;
+    cut(order, queued, queued - 1);
+    queued - 1
+}
