@@ -2,3 +2,4 @@ pub mod Sides
 pub mod Tails
 pub mod Crowds
 pub mod Dismissals
+pub mod Onward

@@ -1,6 +1,7 @@
 // The steps of one extraction of the reader, on the memory that stands for its state. specs/ says what each needs and what it does to that state.
 pub mod crowding;
 pub mod outruns;
+pub mod values;
 pub mod words;
 
 // A block: its first index, its height, its bias, and the height where its word goes.
