@@ -1,0 +1,5 @@
+pub mod Turning
+pub mod Begun
+pub mod First
+pub mod Received
+pub mod Visits

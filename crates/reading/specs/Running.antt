@@ -1,0 +1,60 @@
+-- The reader's run on the lent workspace: what it needs, and what it leaves. Assumes nothing.
+use mathlib.Core.Path.{_≡_}
+use mathlib.Core.Bool.{cond}
+use mathlib.Core.List.{List, map}
+use mathlib.Core.Option.{some}
+use Prim.Native.Nat.{ℕ, _^_, _≤_, _<_}
+use lib.ListN.{length, getD}
+use lib.Dec.{eqb, ltb}
+use lib.IntN.{ℤ, pos}
+use Rattle.laws.specs.Lists.{All, sum}
+use Rattle.polar.specs.Layers.{part, overAt, Within}
+use Rattle.codebook.specs.Book.{Book, startOf, blockAt}
+use Rattle.machine.specs.Queue.{Step, Final}
+use Rattle.reader.specs.Arrays.{Arrays}
+use Rattle.reader.specs.Reader.{Run}
+use Rattle.sharing.specs.Sharing.{one}
+use Rattle.heights.specs.Workspace.{spot, Id}
+use Rattle.steps.specs.declared.Setting.{Setting}
+use Rattle.steps.specs.Steps.{Booked}
+use Rattle.reading.specs.declared.Ran.{Ran}
+
+-- the arrays that a workspace holds
+unfoldable pub arraysOf : ℕ → List ℤ → List ℕ → Arrays
+arraysOf m numbers bytes =
+    record { vals = λ h i. part (spot m i h) (2 ^ h) numbers; sums = λ h i. part (spot m i h) (2 ^ h) bytes }
+
+-- the numbers of a workspace once the received values are the root values of array 1
+unfoldable pub received : ℕ → List ℤ → List ℤ → List ℤ
+received m values numbers = overAt (spot m 1 m) values numbers
+
+-- how many paths hold id i at height h at first: path 0 alone, which has array 1 at the root and none below
+unfoldable pub firstHeld : ℕ → ℕ → ℕ → ℕ
+firstHeld m h i = cond (eqb h m) (one 1 i) (cond (ltb h m) (one 0 i) 0)
+
+-- the tables are the book's
+pub record Tables (B : Book) (kinds terms heights starts : List ℕ) (biases : List ℤ) : Type 0 where
+  pub booked : Booked B kinds terms
+  pub height : (b : ℕ) → b < length (B .blocks) → getD heights b 0 ≡ blockAt B b .j
+  pub start : (b : ℕ) → b < length (B .blocks) → getD starts b 0 ≡ startOf (B .blocks) b
+  pub bias : (b : ℕ) → b < length (B .blocks) → getD biases b (pos 0) ≡ blockAt B b .bias
+
+-- a run's input: a book in tables, its shape, and received values within range
+pub record Running (s : Setting) (values : List ℤ) (kinds terms heights starts : List ℕ) (biases : List ℤ) : Type 0 where
+  pub book : Book
+  pub tables : Tables book kinds terms heights starts biases
+  pub deep : book .m ≡ s .m
+  pub blocks : length (book .blocks) ≡ s .blocks
+  pub size : length values ≡ 2 ^ (s .m)
+  pub range : All (Within 2047) values
+
+-- what a run answers, and where it leaves the final word
+pub record RanIs (m N : ℕ) (r : Run) (x : Ran) (bytes : List ℕ) : Type 0 where
+  pub final : Final
+  pub ends : r .final ≡ some final
+  pub extractions : x .extractions ≡ length (r .steps)
+  pub crowded : x .crowded ≡ sum (map (λ (s : Step). length (s .crowded)) (r .steps))
+  pub outrun : x .outrun ≡ sum (map (λ (s : Step). length (s .outrun)) (r .steps))
+  pub discrepancy : x .discrepancy ≡ final .discrepancy
+  pub id : Id N (x .id)
+  pub word : part (spot m (x .id) m) (2 ^ m) bytes ≡ final .word

@@ -1,0 +1,11 @@
+// The reader's run: one extraction after another, from any contents of the workspace.
+pub mod start;
+
+// What a run comes to: the counts, and the id of the root array whose sums are the final word.
+pub struct Ran {
+    pub extractions: u32,
+    pub crowded: u32,
+    pub outrun: u32,
+    pub discrepancy: u32,
+    pub id: usize,
+}
