@@ -3,3 +3,5 @@ pub mod Tails
 pub mod Crowds
 pub mod Dismissals
 pub mod Onward
+pub mod Forks
+pub mod Nexts

@@ -1,4 +1,5 @@
 // The steps of one extraction of the reader, on the memory that stands for its state. specs/ says what each needs and what it does to that state.
+pub mod copies;
 pub mod crowding;
 pub mod outruns;
 pub mod values;

@@ -1,0 +1,201 @@
+-- A copy with another word of the last block: what its entry and its row hold, and what memory stands for once it shares the arrays of the path in
+-- hand, has one of its own where its word will go, and is queued. Assumes nothing.
+use mathlib.Core.Path.{_≡_, refl, sym, ap, ap₂, _∙_, subst}
+use mathlib.Core.List.{List, [], _∷_}
+use mathlib.Core.Option.{some}
+use Prim.Native.Nat.{ℕ, zero, suc, _+_, _-_, _^_, _≤_, _<_}
+use native.Mathlib.Omega.{arith}
+use lib.ListN.{length}
+use lib.Seq.{take-all}
+use lib.Pow.{pow-pos, pow-mono}
+use lib.IntN.{ℤ, pos, negℤ, _-ℤ_}
+use Rattle.polar.specs.Bits.{number}
+use Rattle.polar.specs.Layers.{Within}
+use Rattle.codebook.specs.Book.{Book, startOf, blockAt}
+use Rattle.codebook.specs.Book as K
+use Rattle.laws.proofs.Pairs.{Paired}
+use Rattle.machine.specs.Queue.{roomFor, insert}
+use Rattle.outer.specs.declared.Candidate.{Candidate}
+use Rattle.outer.specs.Blocks.{candidateOf}
+use Rattle.outer.proofs.Blocks.{start-less}
+use Rattle.reader.specs.Arrays.{View, claim}
+use Rattle.reader.specs.Paths.{Path, scoreOf, keyOf, lastWord, place, idsOf, viewOf}
+use Rattle.reader.specs.Reader.{copyWith}
+use Rattle.reader.proofs.Descent.{place-most}
+use Rattle.order.specs.Entries.{keyAt, slotAt, Packed}
+use Rattle.sharing.specs.Sharing.{idAt, heldAt, Copied, MoreBy}
+use Rattle.standing.specs.Seen.{Memory, memory, Lent, Seen, Viewed, Turned, IdsOnly}
+use Rattle.standing.specs.Standing.{cell, Row, Stands, withIds, PutRow, Made}
+use Rattle.standing.proofs.Sizes.{slots-apart}
+use Rattle.standing.proofs.Leaving.{stands-held, stands-few}
+use Rattle.standing.proofs.Views.{stands-seen, stands-view}
+use Rattle.standing.proofs.Places.{stands-insert-second}
+use Rattle.standing.proofs.Written.{stands-share}
+use Rattle.views.specs.Steps.{Claimable}
+use Rattle.steps.specs.declared.Block.{Block}
+use Rattle.steps.specs.Steps.{Forking}
+
+-- a block has an index at least, so that no book has more than 512
+start-count : (bs : List K.Block) (b : ℕ) → b ≤ length bs → b ≤ startOf bs b
+unfolding startOf
+start-count bs zero h = omega arith
+start-count [] (suc b) h = absurd (omega arith)
+start-count (x ∷ bs) (suc b) h = omega (arith, start-count bs b (omega arith), pow-pos (x .j))
+
+module _ {m N : ℕ} {x : Memory} {e t : ℕ} {es vs : List ℕ} {last : Block} {found : Candidate} {b : ℕ}
+    (c : Forking m N x e t es vs last found b) where
+  -- the book, the path in hand, and the row of its slot
+  abbrev book : Book
+  book = c .hand .book
+
+  abbrev path : Path
+  path = c .hand .taken
+
+  row : Row book (x .rows) (slotAt e) path
+  unfolding Paired
+  row = c .hand .stands .queue .0 .row
+
+  pub fork-blocks : suc b < 1024
+  fork-blocks =
+      let l : b < length (book .blocks) = c .own .block .within in
+      let top : 2 ^ (book .m) ≤ 2 ^ 9 = pow-mono (c .valid .high) in
+      omega (arith, start-count (book .blocks) b (omega arith), start-less book (c .valid) b l)
+
+  -- ---- the entry
+
+  cost-is : found .cost ≡ c .word .cost
+  unfolding candidateOf
+  cost-is = ap (λ (y : Candidate). y .cost) (c .is)
+
+  pub fork-total : cell (x .rows) (slotAt e) 10 + found .cost ≤ 1048064
+  fork-total = omega (arith, row .spent, cost-is, c .total)
+
+  pub fork-bias : Within 1048576 (last .bias)
+  fork-bias = rw (c .own .block .bias) (c .valid .blocks b (c .own .block .within) .bias)
+
+  -- the copy, before it takes an array of its own
+  abbrev pub made : ℕ → Path
+  made n =
+      record {
+        number = n;
+        blocks = suc b;
+        spent = path .spent;
+        cost = c .word .cost;
+        setting = c .word .setting;
+        earlier = path .earlier;
+        parities = c .word .parities;
+        ids = path .ids;
+      }
+
+  pub fork-entry : {n d : ℕ} {s : ℤ} → Packed d (record { score = s; blocks = suc b; number = n }) t →
+      s ≡ negℤ (pos (cell (x .rows) (slotAt e) 10 + found .cost)) -ℤ last .bias → Packed d (keyOf book (made n)) t
+  unfolding keyOf scoreOf
+  fork-entry {n} {d} {s} p q =
+      let total : cell (x .rows) (slotAt e) 10 + found .cost ≡ path .spent + c .word .cost = omega (arith, row .spent, cost-is) in
+      let score : s ≡ scoreOf book (made n) (suc b) = q ∙ ap₂ (λ (k : ℕ) (z : ℤ). negℤ (pos k) -ℤ z) total (c .own .block .bias) in
+      subst (λ (z : ℤ). Packed d (record { score = z; blocks = suc b; number = n }) t) score p
+
+  -- memory stands for the copy in front, once its row is written
+  abbrev pub Written : ℕ → ℕ → Memory → Type 0
+  Written n d y = Stands book N y (d ∷ e ∷ es) vs (c .hand .arrays) (made n ∷ path ∷ c .hand .rest)
+
+  module _ (n : ℕ) {d : ℕ} (packed : Packed d (keyOf book (made n)) t) where
+    word-is : (k : ℕ) → suc b ≡ suc k → found .number ≡ number (lastWord book (made n) k)
+    unfolding candidateOf lastWord
+    word-is k q =
+        let same : b ≡ k = omega arith in
+        ap (λ (y : Candidate). y .number) (c .is) ∙ c .made ∙ ap (λ (i : ℕ). number (lastWord book (made n) i)) same
+
+    -- what its entry and its row hold
+    fork-made : Made book (made n) d t (cell (x .rows) (slotAt e) 10) (found .cost) (found .number) (cell (x .rows) (slotAt e) 13) (found .parities)
+    unfolding candidateOf
+    fork-made =
+        record {
+          entry = packed;
+          spent = row .spent;
+          cost = cost-is;
+          word = word-is;
+          earlier = row .earlier;
+          parities = ap (λ (y : Candidate). y .parities) (c .is);
+        }
+
+    -- ---- the row written
+
+    pub fork-written : {rows₁ rows₂ : List ℕ} (holders′ : List ℕ) → Lent m N x → Copied m (slotAt e) t (x .rows) rows₁ →
+        MoreBy m (x .rows) (slotAt e) (x .holders) holders′ →
+        PutRow t rows₁ rows₂ (cell (x .rows) (slotAt e) 10) (found .cost) (found .number) (cell (x .rows) (slotAt e) 13) (found .parities) →
+        Written n d (memory rows₂ holders′ (x .numbers) (x .bytes))
+    fork-written {rows₁} holders′ l copied more put =
+        let copied′ : Copied (book .m) (slotAt e) t (x .rows) rows₁ = subst (λ (k : ℕ). Copied k (slotAt e) t (x .rows) rows₁) (sym (c .hand .deep)) copied in
+        let more′ : MoreBy (book .m) (x .rows) (slotAt e) (x .holders) holders′ =
+        subst (λ (k : ℕ). MoreBy k (x .rows) (slotAt e) (x .holders) holders′) (sym (c .hand .deep)) more in
+        stands-share holders′ (c .hand .stands) (c .valid .high) (l .many) copied′ more′ put fork-made refl
+
+    -- what the copy sees, in slot s of a memory for books of depth k
+    abbrev Sees : ℕ → ℕ → Memory → Type 0
+    Sees k s y = Seen k N s y (path .ids ∷ idsOf (c .hand .rest)) (viewOf (c .hand .arrays) path)
+
+    fork-seen : {y : Memory} → Written n d y → Sees m t y
+    fork-seen {y} st = subst (λ (k : ℕ). Sees k t y) (c .hand .deep) (subst (λ (s : ℕ). Sees (book .m) s y) (packed .slot) (stands-seen st))
+
+    -- the block's own values are there
+    fork-claimable : Claimable (last .height) (last .place) (viewOf (c .hand .arrays) path)
+    unfolding Claimable
+    fork-claimable q =
+        let o = c .own .block in
+        c .own .fit .has (last .place) (omega (arith, o .height)) (omega (arith, o .word, place-most book (c .valid) b (o .within)))
+
+    pub fork-viewed : {y : Memory} → Written n d y → Viewed m N t y (Claimable (last .height) (last .place))
+    fork-viewed st = record { others = _; view = _; seen = fork-seen st; met = fork-claimable }
+
+    -- ---- once it has an array of its own, and is queued
+
+    -- what it sees then, among the paths qs, for a block of height j with its word at height h
+    abbrev claimed : List Path → ℕ → ℕ → View
+    claimed qs j h = claim (path .ids ∷ idsOf qs) j h (viewOf (c .hand .arrays) path)
+
+    abbrev Taken : Memory → List Path → ℕ → ℕ → Type 0
+    Taken z qs j h =
+        let v = claimed qs j h in
+        Stands book N z (e ∷ insert keyAt d es) vs (v .arrays) (path ∷ insert (keyOf book) (withIds (made n) (v .ids)) qs)
+
+    taken : {y z : Memory} → Written n d y → IdsOnly m t (y .rows) (z .rows) →
+        Turned m N t y z (Claimable (last .height) (last .place)) (λ others v. claim others (last .height) (last .place) v) →
+        Taken z (c .hand .rest) (last .height) (last .place)
+    unfolding Turned
+    taken {y} {z} st only turned =
+        let v : View = claimed (c .hand .rest) (last .height) (last .place) in
+        let others : List (ℕ → ℕ) = path .ids ∷ idsOf (c .hand .rest) in
+        let see : Seen m N (slotAt d) z others v = rw (packed .slot) (turned _ _ (fork-seen st) fork-claimable) in
+        let there : IdsOnly m (slotAt d) (y .rows) (z .rows) = rw (packed .slot) only in
+        stands-insert-second (stands-view st (c .valid .high)
+        (subst (λ (k : ℕ). Seen k N (slotAt d) z others v) (sym (c .hand .deep)) see)
+        (subst (λ (k : ℕ). IdsOnly k (slotAt d) (y .rows) (z .rows)) (sym (c .hand .deep)) there))
+
+    pub fork-queued : {y z : Memory} → Written n d y → IdsOnly m t (y .rows) (z .rows) →
+        Turned m N t y z (Claimable (last .height) (last .place)) (λ others v. claim others (last .height) (last .place) v) →
+        let k = copyWith book N (c .hand .arrays) path b (c .hand .rest) n (some (c .word)) in
+        Stands book N z (e ∷ insert keyAt d es) vs (k .arrays) (path ∷ k .queue)
+    unfolding copyWith withIds roomFor
+    fork-queued {z} st only turned =
+        let o = c .own .block in
+        let room : c .hand .rest ≡ roomFor N (c .hand .rest) = sym (take-all (N - 2) (c .hand .rest) (omega (arith, c .room))) in
+        subst (λ (qs : List Path). Taken z qs (blockAt book b .j) (place book b)) room
+        (subst (λ (j : ℕ). Taken z (c .hand .rest) j (place book b)) (o .height)
+        (subst (λ (h : ℕ). Taken z (c .hand .rest) (last .height) h) (o .word) (taken st only turned)))
+
+  -- ---- what sharing needs
+
+  pub fork-shareable : Lent m N x → (h : ℕ) → h ≤ m →
+      let id = idAt (x .rows) (slotAt e) h in (id ≤ 256) × (heldAt (x .holders) h id < 65535)
+  fork-shareable l h k =
+      let low : h ≤ book .m = omega (arith, c .hand .deep) in
+      let held = stands-held [] e es [] path (c .hand .rest) refl (c .hand .stands) h low in
+      let few = stands-few [] e es [] path (c .hand .rest) refl (c .hand .stands) h low in
+      (omega (arith, held .0, l .many), omega (arith, few, l .many))
+
+  pub fork-apart : (slotAt e ≡ t → ⊥) × (t < 256)
+  fork-apart = slots-apart (c .hand .stands)
+
+  pub fork-place : last .place ≤ m
+  fork-place = let o = c .own .block in omega (arith, o .word, place-most book (c .valid) b (o .within), c .hand .deep)

@@ -1,0 +1,238 @@
+-- `steps::copies::copy` meets its contract: the search answers the reader's next word; where there is none nothing changes, else the queue is cut, the
+-- top vacant slot is the copy's, and fork makes the copy. Nexts.antt has each step, for any state that memory stands for; the contract's own state
+-- shows what the calls need. Assumes nothing.
+use mathlib.Core.Path.{_≡_, refl, sym, ap, _∙_, subst}
+use mathlib.Core.Bool.{true, false}
+use mathlib.Core.List.{_∷_}
+use Prim.Native.Nat.{ℕ, suc, _+_, _-_}
+use native.Mathlib.Numerals.{add-one}
+use native.Mathlib.Omega.{arith}
+use borrow.Author.Needs.{needs}
+use lib.ListN.{length, getD}
+use borrow.Author.Tests.{not-true, not-false}
+use Rattle.machine.specs.Queue.{roomFor}
+use Rattle.outer.specs.Blocks.{candidateOf}
+use Rattle.reader.specs.Reader as R
+use Rattle.order.specs.Entries.{queueOf}
+use Rattle.order.proofs.Queues.{queue-first, queue-length}
+use Rattle.standing.specs.Seen.{Memory, memory}
+use Rattle.standing.specs.Standing.{Stands}
+use Rattle.steps.specs.Steps.{Forking, Copying}
+use Rattle.steps.proofs.Forks.{fork-apart}
+use Rattle.steps.proofs.Nexts.{next, copy-tabled, copy-row, copy-low, copy-id, copy-searchable, copy-cost, copy-found, copy-none, copy-fork, copy-done}
+use Rattle.steps.proofs.copies.copy.Statement.{statement}
+use Rattle.steps.proofs.copies.copy.Tie as tie
+
+-- the memory where the call began, and a state that it stands for
+abbrev at-start : tie.Start → Memory
+at-start s = memory (s .args .rows .now) (s .args .holders .now) (s .args .numbers .now) (s .args .bytes .now)
+
+abbrev Copy : tie.Start → ℕ → Type 0
+Copy s b =
+    let a = s .args in
+    Copying (a .s .m) (a .s .paths) (at-start s) (a .e) (queueOf (a .order .now) (a .t .queued)) (queueOf (a .vacant .now) (a .s .paths - (a .t .queued + 1)))
+    (a .kinds .now) (a .terms .now) (a .last) b
+
+own : (s : tie.Start) → Copy s (s .pre .1 .1 .0)
+own s = s .pre .1 .1 .2
+
+slot-of-requires : tie.Need-slot-of-requires
+slot-of-requires c κs = search needs
+
+next-word-requires : tie.Need-next-word-requires
+unfolding memory
+next-word-requires c κs =
+    let f = c .before .before .before .before .before .slot-of .ensures in
+    let s = c .before .before .before .before .before .before .before in
+    let l = s .pre .0 .0 in
+    let o = own s in
+    rw (f .0) (
+      (l .sizes .rows-size, omega (arith, f .0, f .1), l .deep, copy-low o, copy-id o (l .many)),
+      (copy-searchable o l, (s .pre .1 .0 .0, copy-cost o)),
+    )
+
+same-length : tie.Need-same-length
+same-length c = search needs
+
+-- the word found, for any state
+abbrev start : tie.After-next-word → tie.Start
+start c = c .before .before .before .before .before .before .before .before
+
+found-is : (c : tie.After-next-word) (b : ℕ) (o : Copy (start c) b) → c .next-word .result ≡ candidateOf (o .hand .book) (next o)
+unfolding memory
+found-is c b o =
+    let slot = c .before .before .before .before .before .before .slot-of .ensures .0 in
+    copy-found o
+    (rw slot at (c .next-word .ensures .1 (o .hand .book) b (o .hand .taken) (copy-tabled o) (o .own .fit .earlier) (rw slot (copy-row o)) (o .own .blocks)))
+
+none-there : (c : tie.Then1) → c .before .before .next-word .result .some ≡ false
+none-there c = not-true _ (c .if1 .taken)
+
+returns : tie.Need-returns
+unfolding memory
+returns c =
+    let t = c .before .before in
+    let s = start t in (
+      (s .pre .0 .0, s .pre .0 .1, s .pre .0 .2, t .next-word .ensures .0),
+      (
+        (refl, refl, s .pre .1 .0 .2),
+        λ b o q.
+            let k = copy-none o (s .args .t .next) (s .args .t .crowded) (found-is t b o) (none-there c) in
+            (sym (queue-length (s .args .t .queued) (s .args .order .now)) ∙ k .0, k .1, k .2, k .3),
+      ),
+    )
+
+crowd-requires : tie.Need-crowd-requires
+unfolding memory
+crowd-requires c κs =
+    let s = start (c .before .before .before .before .before .before) in
+    let l = s .pre .0 .0 in (
+      (l .sizes, s .pre .0 .1, s .pre .0 .2, l .deep),
+      ((s .pre .1 .0 .1, l .many, s .pre .1 .0 .2), (s .args .e, s .args .numbers .now, s .args .bytes .now, own s .hand)),
+    )
+
+-- the search before the queue was cut
+abbrev searched : tie.After-crowd → tie.After-next-word
+searched c = c .before .before .before .before .before .before .before
+
+add-to : tie.Need-add-to
+unfolding memory
+add-to c = let s = start (searched c) in omega (arith, c .crowd .ensures .0 .4, s .pre .0 .0 .many)
+
+sub-to : tie.Need-sub-to
+sub-to c = search needs
+
+element-copy-out-to : tie.Need-element-copy-out-to
+unfolding memory
+element-copy-out-to c = let s = start (searched c) in omega (arith, c .crowd .ensures .0 .4, s .pre .0 .0 .many)
+
+-- the copy's slot is the top vacant one, for any state
+some-there : (c : tie.After-crowd) → searched c .next-word .result .some ≡ true
+some-there c = not-false _ (c .before .before .before .before .before .if1 .left)
+
+abbrev top : tie.After-crowd → ℕ
+top c = start (searched c) .args .s .paths - (c .crowd .result + 2)
+
+abbrev slot : tie.After-crowd → ℕ
+slot c = getD (c .crowd .last .1 .1 .1 .0) (top c) 0
+
+abbrev at-crowd : tie.After-crowd → Memory
+at-crowd c = let a = start (searched c) .args in memory (a .rows .now) (c .crowd .last .1 .0) (a .numbers .now) (a .bytes .now)
+
+vacant-is : (c : tie.After-crowd) → queueOf (c .crowd .last .1 .1 .1 .0) (start (searched c) .args .s .paths - (c .crowd .result + 1)) ≡ slot c ∷ queueOf (c .crowd .last .1 .1 .1 .0) (top c)
+vacant-is c =
+    let a = start (searched c) .args in
+    let vacant = c .crowd .last .1 .1 .1 .0 in
+    let n : ℕ = a .s .paths - (c .crowd .result + 1) in
+    let down : n - 1 ≡ top c = omega arith in
+    queue-first n vacant (omega (arith, c .crowd .ensures .0 .4)) ∙ ap (λ (i : ℕ). getD vacant i 0 ∷ queueOf vacant i) down
+
+count : (c : tie.After-crowd) (b : ℕ) (o : Copy (start (searched c)) b) → c .crowd .result ≡ length (roomFor (start (searched c) .args .s .paths) (o .hand .rest))
+unfolding memory
+count c b o = let a = start (searched c) .args in c .crowd .ensures .1 (a .e) (a .numbers .now) (a .bytes .now) (o .hand) .0
+
+left : (c : tie.After-crowd) (b : ℕ) (o : Copy (start (searched c)) b) → let a = start (searched c) .args in
+    Stands (o .hand .book) (a .s .paths) (at-crowd c) (a .e ∷ queueOf (c .crowd .last .1 .1 .0) (c .crowd .result)) (slot c ∷ queueOf (c .crowd .last .1 .1 .1 .0) (top c))
+    (o .hand .arrays) (o .hand .taken ∷ roomFor (a .s .paths) (o .hand .rest))
+unfolding memory
+left c b o =
+    let a = start (searched c) .args in
+    rw (vacant-is c) at (c .crowd .ensures .1 (a .e) (a .numbers .now) (a .bytes .now) (o .hand) .1)
+
+forking : (c : tie.After-crowd) (b : ℕ) (o : Copy (start (searched c)) b) → let a = start (searched c) .args in
+    Forking (a .s .m) (a .s .paths) (at-crowd c) (a .e) (slot c) (queueOf (c .crowd .last .1 .1 .0) (c .crowd .result)) (queueOf (c .crowd .last .1 .1 .1 .0) (top c)) (a .last)
+    (searched c .next-word .result) b
+forking c b o = copy-fork o (found-is (searched c) b o) (some-there c) (count c b o) (c .crowd .ensures .0 .4) (left c b o)
+
+cast-to : tie.Need-cast-to
+cast-to c = let t = c .before in omega (arith, fork-apart (forking t _ (own (start (searched t)))) .1)
+
+fork-requires : tie.Need-fork-requires
+unfolding memory
+fork-requires c κs =
+    let t = c .before .before .before .before .before in
+    let s = start (searched t) in
+    let l = s .pre .0 .0 in
+    let o = own s in
+    let f = t .crowd .ensures .0 in (
+      (
+        record { deep = l .deep; many = l .many; sizes = record { rows-size = l .sizes .rows-size; holders-size = f .0 }; numbers = l .numbers; bytes = l .bytes },
+        f .1,
+        f .4,
+        s .pre .1 .0 .3,
+      ),
+      (s .pre .1 .1 .0, s .pre .1 .1 .1, queueOf (t .crowd .last .1 .1 .1 .0) (top t), forking t _ o),
+    )
+
+add-t35 : tie.Need-add-t35
+add-t35 c = search needs
+
+add-t46 : tie.Need-add-t46
+add-t46 c = let s = start (searched (c .before .before .before .before .before .before .before .before)) in omega (arith, s .pre .1 .0 .3)
+
+sub-t36 : tie.Need-sub-t36
+sub-t36 c = search needs
+
+cast-t47 : tie.Need-cast-t47
+cast-t47 c = let s = start (searched (c .before .before .before .before .before .before .before .before)) in omega (arith, s .pre .1 .0 .2, s .pre .0 .0 .many)
+
+add-t48 : tie.Need-add-t48
+add-t48 c = let s = start (searched (c .before .before .before .before .before .before .before .before .before)) in omega (arith, s .pre .1 .0 .2, s .pre .1 .0 .4, s .pre .0 .0 .many)
+
+same-length-2 : tie.Need-same-length-2
+same-length-2 c = search needs
+
+-- what memory stands for in the end, with so many queued and vacant
+abbrev Ends : (c : tie.After-fork) (b : ℕ) → Copy (start (searched (c .before .before .before .before .before .before))) b → ℕ → ℕ → Type 0
+Ends c b o i j =
+    let t = c .before .before .before .before .before .before in
+    let a = start (searched t) .args in
+    let k = R.copy (o .hand .book) (a .s .paths) (o .hand .arrays) (o .hand .taken) (o .hand .rest) (a .t .next) (suc b) in
+    Stands (o .hand .book) (a .s .paths) (memory (c .fork .last .0) (c .fork .last .1 .0) (c .fork .last .1 .1 .1 .0) (a .bytes .now))
+    (a .e ∷ queueOf (c .fork .last .1 .1 .0) i) (queueOf (t .crowd .last .1 .1 .1 .0) j) (k .arrays) (o .hand .taken ∷ k .queue)
+
+returns-2 : tie.Need-returns-2
+unfolding memory forking
+returns-2 c =
+    let t = c .before .before .before .before .before .before .before .before .before in
+    let s = start (searched t) in
+    let f = c .before .before .before .fork in
+    let g = t .crowd .ensures .0 in (
+      (f .ensures .0 .0, f .ensures .0 .1, g .2, searched t .next-word .ensures .0),
+      (
+        (refl, refl, omega (arith, g .4)),
+        λ b o q.
+            let h = f .ensures .1 b (queueOf (t .crowd .last .1 .1 .1 .0) (top t)) (forking t b o) q in
+            let k = copy-done o (found-is (searched t) b o) (some-there t) (count t b o) (g .4) (left t b o) (s .args .t .next) (s .args .t .crowded) h in
+            let one : suc (t .crowd .result) ≡ t .crowd .result + 1 = omega arith in
+            let two : top t ≡ s .args .s .paths - (t .crowd .result + 1 + 1) = omega arith in (
+              sym one ∙ k .0,
+              add-one (s .args .t .next) ∙ k .1,
+              ap (λ (i : ℕ). s .args .t .crowded + (i - t .crowd .result)) (sym (queue-length (s .args .t .queued) (s .args .order .now))) ∙ k .2,
+              subst (λ (i : ℕ). Ends (c .before .before .before) b o (t .crowd .result + 1) i) two
+                  (subst (λ (i : ℕ). Ends (c .before .before .before) b o i (top t)) one (k .3)),
+            ),
+      ),
+    )
+
+pub copy-spec : {M : Type 1} → statement M
+copy-spec =
+    tie.close
+    (tie.spec
+    slot-of-requires
+    next-word-requires
+    same-length
+    returns
+    crowd-requires
+    add-to
+    sub-to
+    element-copy-out-to
+    cast-to
+    fork-requires
+    add-t35
+    add-t46
+    sub-t36
+    cast-t47
+    add-t48
+    same-length-2
+    returns-2)

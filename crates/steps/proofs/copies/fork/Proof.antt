@@ -1,0 +1,219 @@
+-- `steps::copies::fork` meets its contract: the copy's entry and row hold what the copy is, so that memory stands for the copy in front of the path
+-- in hand; the array claimed and the insertion then do what the reader does. Forks.antt has each step, for any state that memory stands for; the
+-- contract's own state shows what the calls need. Assumes nothing.
+use mathlib.Core.Path.{_≡_, ap, ap₂, _∙_, subst}
+use mathlib.Core.List.{List}
+use Prim.Native.Nat.{ℕ, suc, _+_, _*_}
+use native.Mathlib.Omega.{arith}
+use borrow.Author.Needs.{needs}
+use lib.ListN.{getD}
+use lib.IntN.{ℤ, pos, negℤ, natAbs, _-ℤ_}
+use mir.Facts.{toZ-ofZ}
+use Rattle.laws.proofs.Signed.{back, abs-fits}
+use Rattle.machine.specs.Queue.{Key}
+use Rattle.reader.specs.Paths.{keyOf}
+use Rattle.order.specs.Entries.{slotAt, Packed, queueOf}
+use Rattle.sharing.specs.Sharing.{Copied, MoreBy}
+use Rattle.standing.specs.Seen.{Memory, memory, Lent}
+use Rattle.standing.specs.Standing.{cell, PutRow}
+use Rattle.steps.specs.Steps.{Forking}
+use Rattle.steps.proofs.Forks.{fork-blocks, fork-total, fork-bias, made, fork-entry, Written, fork-written, fork-viewed, fork-queued, fork-shareable, fork-apart, fork-place}
+use Rattle.steps.proofs.copies.fork.Statement.{statement}
+use Rattle.steps.proofs.copies.fork.Tie as tie
+
+slot-of-requires : tie.Need-slot-of-requires
+slot-of-requires c κs = search needs
+
+mul-spent : tie.Need-mul-spent
+mul-spent c = search needs
+
+add-spent : tie.Need-add-spent
+add-spent c = search needs
+
+mul-spent-2 : tie.Need-mul-spent-2
+mul-spent-2 c = search needs
+
+element-copy-out-spent : tie.Need-element-copy-out-spent
+element-copy-out-spent c = search needs
+
+mul-earlier : tie.Need-mul-earlier
+mul-earlier c = search needs
+
+add-earlier : tie.Need-add-earlier
+add-earlier c = search needs
+
+mul-earlier-2 : tie.Need-mul-earlier-2
+mul-earlier-2 c = search needs
+
+element-copy-out-earlier : tie.Need-element-copy-out-earlier
+element-copy-out-earlier c = search needs
+
+-- the memory where the call began, and a state that it stands for
+abbrev at-start : tie.Start → Memory
+at-start s = memory (s .args .rows .now) (s .args .holders .now) (s .args .numbers .now) (s .args .bytes .now)
+
+abbrev Fork : tie.Start → ℕ → List ℕ → Type 0
+Fork s b vs =
+    let a = s .args in
+    Forking (a .m) (a .paths) (at-start s) (a .e) (a .to) (queueOf (a .order .now) (a .queued)) vs (a .last) (a .found) b
+
+own : (s : tie.Start) → Fork s (s .pre .1 .0) (s .pre .1 .2)
+own s = s .pre .1 .3
+
+-- the slot, and the cells read
+abbrev start : tie.After-earlier → tie.Start
+start c = c .before .before .before .before .before
+
+abbrev cell-of : tie.After-earlier → ℕ → ℕ
+cell-of c f = cell (at-start (start c) .rows) (slotAt (start c .args .e)) f
+
+slot-is : (c : tie.After-earlier) → c .before .before .before .slot-of .result ≡ slotAt (start c .args .e)
+slot-is c = c .before .before .before .slot-of .ensures .0
+
+read : (c : tie.After-earlier) (f : ℕ) → getD (start c .args .rows .now) (c .before .before .before .slot-of .result * 16 + f) 0 ≡ cell-of c f
+unfolding memory cell
+read c f = ap (λ (i : ℕ). getD (start c .args .rows .now) (i * 16 + f) 0) (slot-is c)
+
+bias-back : (c : tie.After-earlier) → back (start c .args .last .bias) ≡ start c .args .last .bias
+unfolding memory
+bias-back c = toZ-ofZ (abs-fits _ (omega (arith, fork-bias (own (start c)))))
+
+score-requires : tie.Need-score-requires
+unfolding memory
+score-requires c κs = (omega (arith, read c 10, fork-total (own (start c))), rw (bias-back c) (fork-bias (own (start c))))
+
+score-back : (c : tie.After-score) → back (c .score .result) ≡ c .score .result
+score-back c = toZ-ofZ (abs-fits _ (omega (arith, c .score .ensures .1)))
+
+entry-requires : tie.Need-entry-requires
+unfolding memory
+entry-requires c κs =
+    let s = start (c .before) in
+    (omega (arith, ap natAbs (score-back c), c .score .ensures .1), omega (arith, s .pre .1 .1, fork-blocks (own s)), s .pre .0 .3, fork-apart (own s) .1)
+
+-- the score and the entry, for any state
+score-is : (c : tie.After-score) →
+    back (c .score .result) ≡ negℤ (pos (cell-of (c .before) 10 + start (c .before) .args .found .cost)) -ℤ start (c .before) .args .last .bias
+score-is c =
+    let a = start (c .before) .args in
+    score-back c ∙ c .score .ensures .0
+    ∙ ap₂ (λ (n : ℕ) (z : ℤ). negℤ (pos (n + a .found .cost)) -ℤ z) (read (c .before) 10) (bias-back (c .before))
+
+packed : (c : tie.After-entry) (b : ℕ) (vs : List ℕ) (o : Fork (start (c .before .before)) b vs) → start (c .before .before) .args .blocks ≡ suc b →
+    Packed (c .entry .result) (keyOf (o .hand .book) (made o (start (c .before .before) .args .number))) (start (c .before .before) .args .to)
+packed c b vs o q =
+    let a = start (c .before .before) .args in
+    let key : ℕ → Key = λ n. record { score = back (c .before .score .result); blocks = n; number = a .number } in
+    fork-entry o (subst (λ (n : ℕ). Packed (c .entry .result) (key n) (a .to)) q (c .entry .ensures)) (score-is (c .before))
+
+share-requires : tie.Need-share-requires
+unfolding memory
+share-requires c κs =
+    let t = c .before .before .before .before in
+    let s = start t in
+    let l = s .pre .0 .0 in
+    let o = own s in (
+      (l .sizes, l .deep, t .before .before .before .slot-of .ensures .1, fork-apart o .1),
+      (rw (slot-is t) (fork-shareable o l), rw (slot-is t) (fork-apart o .0)),
+    )
+
+put-requires : tie.Need-put-requires
+unfolding memory
+put-requires c κs =
+    let t = c .before .before .before .before .before .before in
+    (c .before .share .ensures .0 .rows-size, fork-apart (own (start t)) .1)
+
+-- where the cells were read, of a place after the row is written
+abbrev began : tie.After-put → tie.After-earlier
+began c = c .before .before .before .before .before .before .before
+
+-- the memory then
+abbrev at-put : tie.After-put → Memory
+at-put c = memory (c .put .last .0) (c .before .before .share .last .1 .0) (start (began c) .args .numbers .now) (start (began c) .args .bytes .now)
+
+put-lent : (c : tie.After-put) → Lent (start (began c) .args .m) (start (began c) .args .paths) (at-put c)
+unfolding memory
+put-lent c =
+    let l = start (began c) .pre .0 .0 in
+    let sizes = c .before .before .share .ensures .0 in
+    record {
+      deep = l .deep;
+      many = l .many;
+      sizes = record { rows-size = c .put .ensures .size ∙ sizes .rows-size; holders-size = sizes .holders-size };
+      numbers = l .numbers;
+      bytes = l .bytes;
+    }
+
+-- the copy's entry, and that memory stands for the copy in front
+entry-is : (c : tie.After-put) (b : ℕ) (vs : List ℕ) (o : Fork (start (began c)) b vs) → start (began c) .args .blocks ≡ suc b →
+    let a = start (began c) .args in Packed (c .before .before .before .before .before .entry .result) (keyOf (o .hand .book) (made o (a .number))) (a .to)
+entry-is c b vs o q = packed (c .before .before .before .before .before) b vs o q
+
+copied-in : (c : tie.After-put) (b : ℕ) (vs : List ℕ) (o : Fork (start (began c)) b vs) → start (began c) .args .blocks ≡ suc b →
+    Written o (start (began c) .args .number) (c .before .before .before .before .before .entry .result) (at-put c)
+unfolding memory
+copied-in c b vs o q =
+    let t = began c in
+    let a = start t .args in
+    let rows = c .before .before .share .last .0 in
+    let holders = c .before .before .share .last .1 .0 in
+    let f = c .before .before .share .ensures in
+    let copied : Copied (a .m) (slotAt (a .e)) (a .to) (a .rows .now) rows =
+    subst (λ (i : ℕ). Copied (a .m) i (a .to) (a .rows .now) rows) (slot-is t) (f .1 .0) in
+    let more : MoreBy (a .m) (a .rows .now) (slotAt (a .e)) (a .holders .now) holders =
+    subst (λ (i : ℕ). MoreBy (a .m) (a .rows .now) i (a .holders .now) holders) (slot-is t) (f .1 .1) in
+    let slot = t .before .before .before .slot-of .result in
+    let Put : ℕ → ℕ → Type 0 = λ p r. PutRow (a .to) rows (c .put .last .0) p (a .found .cost) (a .found .number) r (a .found .parities) in
+    let put : Put (cell-of t 10) (cell-of t 13) =
+    subst (λ (n : ℕ). Put (cell-of t 10) n) (read t 13) (subst (λ (n : ℕ). Put n (getD (a .rows .now) (slot * 16 + 13) 0)) (read t 10) (c .put .ensures)) in
+    fork-written o (a .number) (entry-is c b vs o q) holders (start t .pre .0 .0) copied more put
+
+claim-requires : tie.Need-claim-requires
+unfolding memory
+claim-requires c κs =
+    let u = c .before .before .before in
+    let s = start (began u) in
+    let o = own s in (
+      (put-lent u, fork-apart o .1, fork-place o),
+      fork-viewed o (s .args .number) (entry-is u _ _ o (s .pre .1 .1)) (copied-in u _ _ o (s .pre .1 .1)),
+    )
+
+insert-requires : tie.Need-insert-requires
+insert-requires c κs =
+    let s = start (began (c .before .before .before .before .before .before)) in
+    (s .pre .0 .1, omega (arith, s .pre .0 .2, s .pre .0 .0 .many))
+
+same-length : tie.Need-same-length
+same-length c = search needs
+
+returns : tie.Need-returns
+unfolding memory
+returns c =
+    let f = c .before .before .before .claim in
+    let u = c .before .before .before .before .before .before .before in (
+      (f .ensures .0 .0, c .insert .ensures .0),
+      λ b vs o q.
+          rw (c .insert .ensures .1) (fork-queued o (start (began u) .args .number) (entry-is u b vs o q) (copied-in u b vs o q) (f .ensures .0 .1) (f .ensures .1)),
+    )
+
+pub fork-spec : {M : Type 1} → statement M
+fork-spec =
+    tie.close
+    (tie.spec
+    slot-of-requires
+    mul-spent
+    add-spent
+    mul-spent-2
+    element-copy-out-spent
+    mul-earlier
+    add-earlier
+    mul-earlier-2
+    element-copy-out-earlier
+    score-requires
+    entry-requires
+    share-requires
+    put-requires
+    claim-requires
+    insert-requires
+    same-length
+    returns)

@@ -1,0 +1,151 @@
+// Step 2: if the last block of the path in hand has a next word, the queue is cut to D - 2 paths and a copy with that word is inserted.
+ghost use mathlib.Core.Path.{_≡_};
+ghost use mathlib.Core.List.{List, _∷_};
+ghost use mathlib.Core.Option.{some};
+ghost use Prim.Native.Nat.{ℕ, suc, _+_, _-_, _≤_, _<_};
+ghost use lib.ListN.{length};
+ghost use Rattle.outer.specs.Search.{Scratch};
+ghost use Rattle.reader.specs.Reader as R;
+ghost use Rattle.order.specs.Entries.{queueOf};
+ghost use Rattle.standing.specs.Seen.{memory, Lent};
+ghost use Rattle.standing.specs.Standing.{Stands};
+ghost use Rattle.steps.specs.Steps.{Forking, Copying};
+use crate::Block;
+use crate::Setting;
+use crate::Tally;
+use crate::crowding::crowd;
+use crate::words::next_word;
+use crate::words::put;
+use crate::words::score;
+use order::entries::entry;
+use order::entries::slot_of;
+use order::moves::insert;
+use outer::Candidate;
+use sharing::holders::share;
+use views::view::claim;
+
+// A copy of the path of entry e, with the word found, in the slot `to`; it is inserted.
+fn fork(
+    rows: &mut [u32; 4096],
+    holders: &mut [u16; 2570],
+    order: &mut [u64; 256],
+    numbers: &mut [i32],
+    bytes: &[u8],
+    m: usize,
+    paths: usize,
+    e: u64,
+    to: usize,
+    last: Block,
+    found: Candidate,
+    queued: usize,
+    blocks: u32,
+    number: u32,
+)
+    requires { ⌜ Lent m paths (memory (now rows) (now holders) (now numbers) (now bytes)) × (length (now order) ≡ 256) × (queued + 2 ≤ paths) × (number < 32768) ⌝ }
+    requires { ⌜ ((b : ℕ) × (blocks ≡ suc b) × (vs : List ℕ) × Forking m paths (memory (now rows) (now holders) (now numbers) (now bytes)) e to (queueOf (now order) queued) vs last found b) ⌝ }
+    ensures { λ _. ⌜ Lent m paths (memory (now (rows .exit)) (now (holders .exit)) (now (numbers .exit)) (now (bytes .entry))) × (length (now (order .exit)) ≡ 256) ⌝ }
+    ensures { λ _. ⌜ ((b : ℕ) (vs : List ℕ) (c : Forking m paths (memory (now (rows .entry)) (now (holders .entry)) (now (numbers .entry)) (now (bytes .entry))) e to (queueOf (now (order .entry)) queued) vs last found b)
+        → blocks ≡ suc b → (let k = R.copyWith (c .hand .book) paths (c .hand .arrays) (c .hand .taken) b (c .hand .rest) number (some (c .word)) in
+        Stands (c .hand .book) paths (memory (now (rows .exit)) (now (holders .exit)) (now (numbers .exit)) (now (bytes .entry))) (e ∷ queueOf (now (order .exit)) (suc queued)) vs
+        (k .arrays) (c .hand .taken ∷ k .queue))) ⌝ }
+{
+    let slot = slot_of(e);
+    let cost = found.cost;
+    let bias = last.bias;
+    let spent = rows[slot * 16 + 10];
+    let earlier = rows[slot * 16 + 13];
+    let d = entry(score(spent, cost, bias), blocks, number, to);
+    share(rows, holders, m, slot, to);
+    put(rows, to, spent, cost, found.number, earlier, found.parities);
+    claim(
+        rows,
+        holders,
+        numbers,
+        bytes,
+        m,
+        paths,
+        to,
+        last.height,
+        last.place,
+    );
+    insert(order, queued, d);
+}
+
+// The copy, if the last block of the path of entry e has a next word: the number of paths queued then, the next number, and the count.
+pub fn copy(
+    rows: &mut [u32; 4096],
+    holders: &mut [u16; 2570],
+    order: &mut [u64; 256],
+    vacant: &mut [u8; 256],
+    numbers: &mut [i32],
+    bytes: &[u8],
+    kinds: &[u8; 512],
+    terms: &[u32; 512],
+    s: Setting,
+    t: Tally,
+    e: u64,
+    blocks: u32,
+    last: Block,
+    words: &mut [u32; 256],
+    sets: &mut [u32; 256],
+    sums: &mut [u32; 128],
+) -> Tally
+    requires { ⌜ Lent (s .m) (s .paths) (memory (now rows) (now holders) (now numbers) (now bytes)) × (length (now order) ≡ 256) × (length (now vacant) ≡ 256) ⌝ }
+    requires { ⌜ Scratch (now words) (now sets) (now sums) × (2 ≤ s .paths) × (t .queued + 1 ≤ s .paths) × (t .next < 32768) × (t .crowded < 65536) ⌝ }
+    requires { ⌜ ((b : ℕ) × (blocks ≡ suc b) × Copying (s .m) (s .paths) (memory (now rows) (now holders) (now numbers) (now bytes)) e (queueOf (now order) (t .queued))
+        (queueOf (now vacant) (s .paths - (t .queued + 1))) (now kinds) (now terms) last b) ⌝ }
+    ensures { λ _. ⌜ Lent (s .m) (s .paths) (memory (now (rows .exit)) (now (holders .exit)) (now (numbers .exit)) (now (bytes .entry)))
+        × (length (now (order .exit)) ≡ 256) × (length (now (vacant .exit)) ≡ 256) × Scratch (now (words .exit)) (now (sets .exit)) (now (sums .exit)) ⌝ }
+    ensures { λ r. ⌜ (r .extractions ≡ t .extractions) × (r .outrun ≡ t .outrun) × (r .queued + 1 ≤ s .paths) ⌝ }
+    ensures { λ r. ⌜ ((b : ℕ) (c : Copying (s .m) (s .paths) (memory (now (rows .entry)) (now (holders .entry)) (now (numbers .entry)) (now (bytes .entry))) e (queueOf (now (order .entry)) (t .queued))
+        (queueOf (now (vacant .entry)) (s .paths - (t .queued + 1))) (now (kinds .entry)) (now (terms .entry)) last b)
+        → blocks ≡ suc b → (let k = R.copy (c .hand .book) (s .paths) (c .hand .arrays) (c .hand .taken) (c .hand .rest) (t .next) (suc b) in
+        (r .queued ≡ length (k .queue)) × (r .next ≡ k .next) × (r .crowded ≡ t .crowded + length (k .crowded))
+        × Stands (c .hand .book) (s .paths) (memory (now (rows .exit)) (now (holders .exit)) (now (numbers .exit)) (now (bytes .entry))) (e ∷ queueOf (now (order .exit)) (r .queued))
+        (queueOf (now (vacant .exit)) (s .paths - (r .queued + 1))) (k .arrays) (c .hand .taken ∷ k .queue))) ⌝ }
+{
+    let m = s.m;
+    let paths = s.paths;
+    let queued = t.queued;
+    let slot = slot_of(e);
+    let found = next_word(
+        rows,
+        numbers,
+        kinds,
+        terms,
+        m,
+        slot,
+        last,
+        words,
+        sets,
+        sums,
+    );
+    if !found.some {
+        return t;
+    }
+    let left = crowd(rows, holders, order, vacant, m, paths, queued);
+    let to = vacant[paths - (left + 2)] as usize;
+    fork(
+        rows,
+        holders,
+        order,
+        numbers,
+        bytes,
+        m,
+        paths,
+        e,
+        to,
+        last,
+        found,
+        left,
+        blocks,
+        t.next,
+    );
+    Tally {
+        queued: left + 1,
+        next: t.next + 1,
+        extractions: t.extractions,
+        crowded: t.crowded + (queued - left) as u32,
+        outrun: t.outrun,
+    }
+}
