@@ -1,5 +1,6 @@
 -- A copy with another word of the last block: what its entry and its row hold, and what memory stands for once it shares the arrays of the path in
--- hand, has one of its own where its word will go, and is queued. Assumes nothing.
+-- hand, has one of its own where its word will go, and is queued. Each is a law of crates/standing for that change of memory; the reader's own cut
+-- of the queue leaves it whole, since there is room. Assumes nothing.
 use mathlib.Core.Path.{_≡_, refl, sym, ap, ap₂, _∙_, subst}
 use mathlib.Core.List.{List, [], _∷_}
 use mathlib.Core.Option.{some}
@@ -87,6 +88,7 @@ module _ {m N : ℕ} {x : Memory} {e t : ℕ} {es vs : List ℕ} {last : Block} 
         ids = path .ids;
       }
 
+  -- the code's score is the copy's, so that the entry is
   pub fork-entry : {n d : ℕ} {s : ℤ} → Packed d (record { score = s; blocks = suc b; number = n }) t →
       s ≡ negℤ (pos (cell (x .rows) (slotAt e) 10 + found .cost)) -ℤ last .bias → Packed d (keyOf book (made n)) t
   unfolding keyOf scoreOf
@@ -99,6 +101,7 @@ module _ {m N : ℕ} {x : Memory} {e t : ℕ} {es vs : List ℕ} {last : Block} 
   abbrev pub Written : ℕ → ℕ → Memory → Type 0
   Written n d y = Stands book N y (d ∷ e ∷ es) vs (c .hand .arrays) (made n ∷ path ∷ c .hand .rest)
 
+  -- the copy is number n, and its entry d
   module _ (n : ℕ) {d : ℕ} (packed : Packed d (keyOf book (made n)) t) where
     word-is : (k : ℕ) → suc b ≡ suc k → found .number ≡ number (lastWord book (made n) k)
     unfolding candidateOf lastWord

@@ -49,6 +49,7 @@ none-word B (some y) r e t = let z : _≡_ {A = ℕ} 0 1 = cc in absurd (omega a
 
 module _ {m N : ℕ} {x : Memory} {e : ℕ} {es vs kinds terms : List ℕ} {last : Block} {b : ℕ}
     (c : Copying m N x e es vs kinds terms last b) where
+  -- the book, the path in hand, and the paths queued
   abbrev book : Book
   book = c .hand .book
 
@@ -141,6 +142,7 @@ module _ {m N : ℕ} {x : Memory} {e : ℕ} {es vs kinds terms : List ℕ} {last
 
   -- ---- a next word, the queue cut
 
+  -- so many are left, and t is the first vacant slot
   module _ {found : Candidate} (is : found ≡ candidateOf book next) (there : found .some ≡ true) {y : Memory} {left t : ℕ} {qs ws : List ℕ}
       (count : left ≡ length (roomFor N rest)) (room : left + 2 ≤ N)
       (st : Stands book N y (e ∷ qs) (t ∷ ws) (c .hand .arrays) (path ∷ roomFor N rest)) where
@@ -151,6 +153,7 @@ module _ {m N : ℕ} {x : Memory} {e : ℕ} {es vs kinds terms : List ℕ} {last
     unfolding word
     word-is = some-word book next found is there .1
 
+    -- what the copy needs
     pub copy-fork : Forking m N y e t qs ws last found b
     copy-fork =
         record {

@@ -71,6 +71,21 @@ fn fork(
     insert(order, queued, d);
 }
 
+// The tally once the queue is cut to `left` paths and a copy is queued.
+fn tallied(t: Tally, left: usize) -> Tally
+    requires { ⌜ (left ≤ t .queued) × (t .queued ≤ 256) × (t .next < 32768) × (t .crowded < 65536) ⌝ }
+    ensures { λ r. ⌜ (r .queued ≡ suc left) × (r .next ≡ suc (t .next)) × (r .extractions ≡ t .extractions)
+        × (r .crowded ≡ t .crowded + (t .queued - left)) × (r .outrun ≡ t .outrun) ⌝ }
+{
+    Tally {
+        queued: left + 1,
+        next: t.next + 1,
+        extractions: t.extractions,
+        crowded: t.crowded + (t.queued - left) as u32,
+        outrun: t.outrun,
+    }
+}
+
 // The copy, if the last block of the path of entry e has a next word: the number of paths queued then, the next number, and the count.
 pub fn copy(
     rows: &mut [u32; 4096],
@@ -141,11 +156,5 @@ pub fn copy(
         blocks,
         t.next,
     );
-    Tally {
-        queued: left + 1,
-        next: t.next + 1,
-        extractions: t.extractions,
-        crowded: t.crowded + (queued - left) as u32,
-        outrun: t.outrun,
-    }
+    tallied(t, left)
 }

@@ -5,7 +5,6 @@ use mathlib.Core.Path.{_≡_, refl, sym, ap, _∙_, subst}
 use mathlib.Core.Bool.{true, false}
 use mathlib.Core.List.{_∷_}
 use Prim.Native.Nat.{ℕ, suc, _+_, _-_}
-use native.Mathlib.Numerals.{add-one}
 use native.Mathlib.Omega.{arith}
 use borrow.Author.Needs.{needs}
 use lib.ListN.{length, getD}
@@ -65,6 +64,7 @@ found-is c b o =
     copy-found o
     (rw slot at (c .next-word .ensures .1 (o .hand .book) b (o .hand .taken) (copy-tabled o) (o .own .fit .earlier) (rw slot (copy-row o)) (o .own .blocks)))
 
+-- what the test tells
 none-there : (c : tie.Then1) → c .before .before .next-word .result .some ≡ false
 none-there c = not-true _ (c .if1 .taken)
 
@@ -106,10 +106,10 @@ element-copy-out-to : tie.Need-element-copy-out-to
 unfolding memory
 element-copy-out-to c = let s = start (searched c) in omega (arith, c .crowd .ensures .0 .4, s .pre .0 .0 .many)
 
--- the copy's slot is the top vacant one, for any state
 some-there : (c : tie.After-crowd) → searched c .next-word .result .some ≡ true
 some-there c = not-false _ (c .before .before .before .before .before .if1 .left)
 
+-- the copy's slot is the top vacant one
 abbrev top : tie.After-crowd → ℕ
 top c = start (searched c) .args .s .paths - (c .crowd .result + 2)
 
@@ -127,6 +127,7 @@ vacant-is c =
     let down : n - 1 ≡ top c = omega arith in
     queue-first n vacant (omega (arith, c .crowd .ensures .0 .4)) ∙ ap (λ (i : ℕ). getD vacant i 0 ∷ queueOf vacant i) down
 
+-- what memory stands for once the queue is cut
 count : (c : tie.After-crowd) (b : ℕ) (o : Copy (start (searched c)) b) → c .crowd .result ≡ length (roomFor (start (searched c) .args .s .paths) (o .hand .rest))
 unfolding memory
 count c b o = let a = start (searched c) .args in c .crowd .ensures .1 (a .e) (a .numbers .now) (a .bytes .now) (o .hand) .0
@@ -139,6 +140,7 @@ left c b o =
     let a = start (searched c) .args in
     rw (vacant-is c) at (c .crowd .ensures .1 (a .e) (a .numbers .now) (a .bytes .now) (o .hand) .1)
 
+-- what fork needs
 forking : (c : tie.After-crowd) (b : ℕ) (o : Copy (start (searched c)) b) → let a = start (searched c) .args in
     Forking (a .s .m) (a .s .paths) (at-crowd c) (a .e) (slot c) (queueOf (c .crowd .last .1 .1 .0) (c .crowd .result)) (queueOf (c .crowd .last .1 .1 .1 .0) (top c)) (a .last)
     (searched c .next-word .result) b
@@ -159,25 +161,17 @@ fork-requires c κs =
         record { deep = l .deep; many = l .many; sizes = record { rows-size = l .sizes .rows-size; holders-size = f .0 }; numbers = l .numbers; bytes = l .bytes },
         f .1,
         f .4,
-        s .pre .1 .0 .3,
+        omega (arith, s .pre .1 .0 .3),
       ),
       (s .pre .1 .1 .0, s .pre .1 .1 .1, queueOf (t .crowd .last .1 .1 .1 .0) (top t), forking t _ o),
     )
 
-add-t35 : tie.Need-add-t35
-add-t35 c = search needs
-
-add-t46 : tie.Need-add-t46
-add-t46 c = let s = start (searched (c .before .before .before .before .before .before .before .before)) in omega (arith, s .pre .1 .0 .3)
-
-sub-t36 : tie.Need-sub-t36
-sub-t36 c = search needs
-
-cast-t47 : tie.Need-cast-t47
-cast-t47 c = let s = start (searched (c .before .before .before .before .before .before .before .before)) in omega (arith, s .pre .1 .0 .2, s .pre .0 .0 .many)
-
-add-t48 : tie.Need-add-t48
-add-t48 c = let s = start (searched (c .before .before .before .before .before .before .before .before .before)) in omega (arith, s .pre .1 .0 .2, s .pre .1 .0 .4, s .pre .0 .0 .many)
+tallied-requires : tie.Need-tallied-requires
+unfolding memory
+tallied-requires c κs =
+    let t = c .before .before .before .before .before .before .before in
+    let s = start (searched t) in
+    (t .crowd .ensures .0 .3, omega (arith, s .pre .1 .0 .2, s .pre .0 .0 .many), s .pre .1 .0 .3, s .pre .1 .0 .4)
 
 same-length-2 : tie.Need-same-length-2
 same-length-2 c = search needs
@@ -194,23 +188,24 @@ Ends c b o i j =
 returns-2 : tie.Need-returns-2
 unfolding memory forking
 returns-2 c =
-    let t = c .before .before .before .before .before .before .before .before .before in
+    let t = c .before .before .before .before .before .before .before .before in
     let s = start (searched t) in
-    let f = c .before .before .before .fork in
-    let g = t .crowd .ensures .0 in (
-      (f .ensures .0 .0, f .ensures .0 .1, g .2, searched t .next-word .ensures .0),
+    let u = c .before .before in
+    let f = u .fork .ensures in
+    let g = t .crowd .ensures .0 in
+    let r = c .tallied .ensures in (
+      (f .0 .0, f .0 .1, g .2, searched t .next-word .ensures .0),
       (
-        (refl, refl, omega (arith, g .4)),
+        (r .2, r .4, omega (arith, r .0, g .4)),
         λ b o q.
-            let h = f .ensures .1 b (queueOf (t .crowd .last .1 .1 .1 .0) (top t)) (forking t b o) q in
+            let h = f .1 b (queueOf (t .crowd .last .1 .1 .1 .0) (top t)) (forking t b o) q in
             let k = copy-done o (found-is (searched t) b o) (some-there t) (count t b o) (g .4) (left t b o) (s .args .t .next) (s .args .t .crowded) h in
-            let one : suc (t .crowd .result) ≡ t .crowd .result + 1 = omega arith in
-            let two : top t ≡ s .args .s .paths - (t .crowd .result + 1 + 1) = omega arith in (
-              sym one ∙ k .0,
-              add-one (s .args .t .next) ∙ k .1,
-              ap (λ (i : ℕ). s .args .t .crowded + (i - t .crowd .result)) (sym (queue-length (s .args .t .queued) (s .args .order .now))) ∙ k .2,
-              subst (λ (i : ℕ). Ends (c .before .before .before) b o (t .crowd .result + 1) i) two
-                  (subst (λ (i : ℕ). Ends (c .before .before .before) b o i (top t)) one (k .3)),
+            let down : top t ≡ s .args .s .paths - (c .tallied .result .queued + 1) = omega (arith, r .0) in
+            let here = queue-length (s .args .t .queued) (s .args .order .now) in (
+              r .0 ∙ k .0,
+              r .1 ∙ k .1,
+              r .3 ∙ ap (λ (i : ℕ). s .args .t .crowded + (i - t .crowd .result)) (sym here) ∙ k .2,
+              subst (λ (i : ℕ). Ends u b o (c .tallied .result .queued) i) down (subst (λ (i : ℕ). Ends u b o i (top t)) (sym (r .0)) (k .3)),
             ),
       ),
     )
@@ -229,10 +224,6 @@ copy-spec =
     element-copy-out-to
     cast-to
     fork-requires
-    add-t35
-    add-t46
-    sub-t36
-    cast-t47
-    add-t48
+    tallied-requires
     same-length-2
     returns-2)
