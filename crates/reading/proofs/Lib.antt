@@ -3,3 +3,4 @@ pub mod Begun
 pub mod First
 pub mod Received
 pub mod Visits
+pub mod Seconds
