@@ -4,3 +4,5 @@ pub mod First
 pub mod Received
 pub mod Visits
 pub mod Seconds
+pub mod Counts
+pub mod Moves
