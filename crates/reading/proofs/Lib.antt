@@ -6,3 +6,4 @@ pub mod Visits
 pub mod Seconds
 pub mod Counts
 pub mod Moves
+pub mod Extracts
