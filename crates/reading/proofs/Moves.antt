@@ -4,7 +4,6 @@ use mathlib.Core.Path.{_≡_, refl, sym, ap, ap₂, _∙_, subst}
 use mathlib.Core.List.{List, _∷_}
 use mathlib.Core.Option.{Option, some}
 use Prim.Native.Nat.{ℕ, zero, suc, _+_, _^_, _≤_, _<_}
-use native.Mathlib.Numerals.{add-one}
 use native.Mathlib.Omega.{arith}
 use lib.ListN.{length}
 use lib.IntN.{ℤ, pos, negℤ, _-ℤ_}
@@ -21,7 +20,7 @@ use Rattle.outer.specs.Blocks.{paritySet, Bits, BlockTabled, candidateOf}
 use Rattle.outer.proofs.Entries.{block-low, block-walkable}
 use Rattle.reader.specs.Arrays.{Arrays, View, valsOf}
 use Rattle.reader.specs.Paths.{Path, scoreOf, keyOf, lastWord, idsOf}
-use Rattle.reader.specs.Reader.{Moved, moveWith, move}
+use Rattle.reader.specs.Reader.{moveWith, move}
 use Rattle.reader.specs.Fit.{FitFor}
 use Rattle.reader.proofs.Descent.{place-own, place-most}
 use Rattle.reader.proofs.Found.{nearest-number}

@@ -63,8 +63,22 @@ fn second(
         return t;
     }
     copy(
-        rows, holders, order, vacant, numbers, bytes, kinds, terms, s, t, e, blocks, last, words,
-        sets, sums,
+        rows,
+        holders,
+        order,
+        vacant,
+        numbers,
+        bytes,
+        kinds,
+        terms,
+        s,
+        t,
+        e,
+        blocks,
+        last,
+        words,
+        sets,
+        sums,
     )
 }
 
@@ -102,7 +116,15 @@ fn third(
     let parities = rows[slot * 16 + 14];
     let found = nearest_word(rows, numbers, kinds, terms, m, slot, at, words, sets, sums);
     let cost = found.cost;
-    put(rows, slot, spent, cost, found.number, parities, found.parities);
+    put(
+        rows,
+        slot,
+        spent,
+        cost,
+        found.number,
+        parities,
+        found.parities,
+    );
     insert(
         order,
         queued,
@@ -154,13 +176,50 @@ pub fn extract(
     let m = s.m;
     let paths = s.paths;
     let mut x = second(
-        rows, holders, order, vacant, numbers, bytes, kinds, terms, s, t, e, last, words, sets, sums,
+        rows,
+        holders,
+        order,
+        vacant,
+        numbers,
+        bytes,
+        kinds,
+        terms,
+        s,
+        t,
+        e,
+        last,
+        words,
+        sets,
+        sums,
     );
     let queued = x.queued;
     third(
-        rows, holders, order, numbers, bytes, kinds, terms, m, paths, queued, e, last, at, words, sets,
+        rows,
+        holders,
+        order,
+        numbers,
+        bytes,
+        kinds,
+        terms,
+        m,
+        paths,
+        queued,
+        e,
+        last,
+        at,
+        words,
+        sets,
         sums,
     );
     x.queued = queued + 1;
-    outrun(rows, holders, order, vacant, visits, s, x, blocks_of(e) as usize)
+    outrun(
+        rows,
+        holders,
+        order,
+        vacant,
+        visits,
+        s,
+        x,
+        blocks_of(e) as usize,
+    )
 }

@@ -2,7 +2,7 @@
 -- its last block. Seconds.antt has both cases, for any state that memory stands for; the contract's own state shows what the call needs. Assumes
 -- nothing.
 use mathlib.Core.Path.{_≡_, refl, sym, _∙_}
-use Prim.Native.Nat.{ℕ, suc, _+_, _-_}
+use Prim.Native.Nat.{suc, _-_}
 use native.Mathlib.Omega.{arith}
 use borrow.Author.Needs.{needs}
 use Rattle.order.specs.Entries.{keyAt}
