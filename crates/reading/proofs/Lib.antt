@@ -7,3 +7,7 @@ pub mod Seconds
 pub mod Counts
 pub mod Moves
 pub mod Extracts
+pub mod Walks
+pub mod Bounded
+pub mod Ended
+pub mod Going
