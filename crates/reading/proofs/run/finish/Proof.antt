@@ -1,0 +1,149 @@
+-- `reading::run::finish` meets its contract: the word that the row holds goes into the sums of the root, and no more than the row's ids changed; so
+-- the array of the path's id at the root holds the final word. Assumes nothing.
+use borrow.Author.Needs.{needs}
+use mathlib.Core.Path.{_≡_, refl, ap₂}
+use mathlib.Core.List.{List}
+use Prim.Native.Nat.{ℕ, _+_, _*_}
+use native.Mathlib.Omega.{arith}
+use lib.ListN.{getD}
+use Rattle.reader.specs.Paths.{idsOf}
+use Rattle.standing.specs.Seen.{Memory, memory, Seen}
+use Rattle.standing.specs.Standing.{cell}
+use Rattle.reading.specs.Ending.{Ending, lastView}
+use Rattle.reading.proofs.Ended.{end-heights, end-viewed, end-seen, end-word, end-spent}
+use Rattle.reading.proofs.run.finish.Statement.{statement}
+use Rattle.reading.proofs.run.finish.Tie as tie
+use Rattle.reading.proofs.run.finish.Reads as reads
+use Rattle.reading.proofs.run.finish.Lts as lts
+use Rattle.order.proofs.entries.slot_of.Reads as slot-of-reads
+use Rattle.views.proofs.view.commit.Reads as commit-reads
+use Rattle.views.proofs.view.id_of.Reads as id-of-reads
+
+slot-of-requires : tie.Need-slot-of-requires
+slot-of-requires c κs = search needs
+
+mul-word : tie.Need-mul-word
+mul-word c = search needs
+
+add-word : tie.Need-add-word
+add-word c = search needs
+
+mul-word-2 : tie.Need-mul-word-2
+mul-word-2 c = search needs
+
+element-copy-out-word : tie.Need-element-copy-out-word
+element-copy-out-word c = search needs
+
+-- the memory at the call, and a path in hand there
+abbrev old : tie.Start → Memory
+old s = memory (s .args .rows .now) (s .args .holders .now) (s .args .numbers .now) (s .args .bytes .now)
+
+abbrev Hand : tie.Start → List ℕ → List ℕ → Type 0
+Hand s es vs = Ending (s .args .s .m) (s .args .s .paths) (old s) (s .args .e) es vs (s .args .last)
+
+commit-requires : tie.Need-commit-requires
+commit-requires c κs =
+    let t = c .before .before .before .before in
+    let s = t .before .before in
+    let r = t .slot-of .ensures in
+    let h = s .pre .1 .2 in
+    let l = end-heights h (r .0) in
+    ((s .pre .0 .0, r .1, l .0, l .1), end-viewed h (r .0))
+
+-- once the word is in the sums: where it began, the slot, and what the path sees
+abbrev start : tie.After-commit → tie.Start
+start u = u .before .before .before .before .before .before .before
+
+abbrev slot : tie.After-commit → tie.After-slot-of
+slot u = u .before .before .before .before .before
+
+abbrev summed : tie.After-commit → Memory
+summed u = memory (u .commit .last .0) (u .commit .last .1 .0) (start u .args .numbers .now) (u .commit .last .1 .1 .1 .0)
+
+sum-seen : (u : tie.After-commit) {es vs : List ℕ} (c : Hand (start u) es vs) →
+    Seen (start u .args .s .m) (start u .args .s .paths) (slot u .slot-of .result) (summed u) (idsOf (c .hand .rest)) (lastView (c .hand))
+unfolding memory cell
+sum-seen u c = end-seen c (slot u .slot-of .ensures .0) (summed u) _ refl (u .commit .ensures .1)
+
+-- the row's spent and cost
+row-spent : (u : tie.After-commit) {es vs : List ℕ} (c : Hand (start u) es vs) →
+    let k = slot u .slot-of .result * 16 in
+    (getD (u .commit .last .0) (k + 10) 0 ≡ c .hand .taken .spent) × (getD (u .commit .last .0) (k + 11) 0 ≡ c .hand .taken .cost)
+unfolding memory
+row-spent u c = end-spent c (slot u .slot-of .ensures .0) (start u .pre .0 .0 .deep) (u .commit .last .0) (u .commit .ensures .0 .1)
+
+add-t17 : tie.Need-add-t17
+add-t17 c = search needs
+
+mul-t12 : tie.Need-mul-t12
+mul-t12 c = search needs
+
+add-t13 : tie.Need-add-t13
+add-t13 c = search needs
+
+mul-t14 : tie.Need-mul-t14
+mul-t14 c = search needs
+
+element-copy-out-t25 : tie.Need-element-copy-out-t25
+element-copy-out-t25 c = search needs
+
+mul-t26 : tie.Need-mul-t26
+mul-t26 c = search needs
+
+add-t27 : tie.Need-add-t27
+add-t27 c = search needs
+
+mul-t28 : tie.Need-mul-t28
+mul-t28 c = search needs
+
+element-copy-out-t31 : tie.Need-element-copy-out-t31
+element-copy-out-t31 c = search needs
+
+add-t32 : tie.Need-add-t32
+add-t32 c =
+    let u = c .before .before .before .before .before in
+    let h = start u .pre .1 .2 in
+    omega (arith, row-spent u h .0, row-spent u h .1, h .own .fit .total)
+
+id-of-requires : tie.Need-id-of-requires
+unfolding memory
+id-of-requires c κs =
+    let u = c .before .before .before .before .before .before in
+    (u .commit .ensures .0 .0 .sizes .rows-size, slot u .slot-of .ensures .1, start u .pre .0 .0 .deep)
+
+same-length : tie.Need-same-length
+same-length c = search needs
+
+returns : tie.Need-returns
+unfolding memory
+returns c =
+    let u = c .before .before .before .before .before .before .before in (
+      (refl, refl, refl),
+      λ es vs h.
+          let w = end-word h (slot u .slot-of .ensures .0) (summed u) (sum-seen u h) (c .id-of .result) (c .id-of .ensures) in
+          (ap₂ (λ a b. a + b) (row-spent u h .0) (row-spent u h .1), w .0, w .1),
+    )
+
+pub finish-spec : {M : Type 1} → statement M
+finish-spec =
+    tie.close
+    (tie.spec
+    slot-of-requires
+    mul-word
+    add-word
+    mul-word-2
+    element-copy-out-word
+    commit-requires
+    add-t17
+    mul-t12
+    add-t13
+    mul-t14
+    element-copy-out-t25
+    mul-t26
+    add-t27
+    mul-t28
+    element-copy-out-t31
+    add-t32
+    id-of-requires
+    same-length
+    returns)
