@@ -11,3 +11,4 @@ pub mod Walks
 pub mod Bounded
 pub mod Ended
 pub mod Going
+pub mod Turns

@@ -14,7 +14,7 @@ use Rattle.heights.proofs.Spots.{spot-room}
 use Rattle.reading.specs.Running.{arraysOf, received}
 
 -- array 1 begins the workspace
-root-spot : (m : ℕ) → spot m 1 m ≡ 2 ^ m
+pub root-spot : (m : ℕ) → spot m 1 m ≡ 2 ^ m
 unfolding spot
 root-spot m = omega arith
 
@@ -32,7 +32,7 @@ received-is m at values numbers e = ap (λ k. overAt k values numbers) (e ∙ sy
 
 module _ (m N : ℕ) (values numbers : List ℤ) (room : Room m N numbers) (some : 1 ≤ N) (size : length values ≡ 2 ^ m) where
   -- they lie within the workspace
-  root-within : spot m 1 m + length values ≤ length numbers
+  pub root-within : spot m 1 m + length values ≤ length numbers
   root-within =
       let d : Id N 1 = record { some = omega arith; most = some } in
       omega (arith, spot-room {m = m} {N = N} {h = m} {i = 1} (omega arith) d numbers room)

@@ -8,7 +8,7 @@ use native.Mathlib.Omega.{arith}
 use lib.IntN.{ℤ, pos}
 use lib.ListN.{length, set, drop, length-map}
 use Rattle.laws.specs.Lists.{over, sum}
-use Rattle.laws.proofs.Lists.{over-last, over-length}
+use Rattle.laws.proofs.Lists.{over-last}
 use Rattle.machine.specs.Queue.{Key, Step}
 use Rattle.machine.specs.Calls.{walked}
 
@@ -22,9 +22,6 @@ module _ (f : Step → ℤ) where
   map-last : (done : List Step) (s : Step) → map f (done ++ s ∷ []) ≡ map f done ++ f s ∷ []
   map-last [] s = refl
   map-last (x ∷ done) s = ap (λ l. f x ∷ l) (map-last done s)
-
-  walked-length : (done : List Step) (old : List ℤ) → length done ≤ length old → length (walked f done old) ≡ length old
-  walked-length done old h = ap length (walked-over done old) ∙ over-length (map f done) old (omega (arith, length-map done f))
 
   walked-next : (done : List Step) (s : Step) (old : List ℤ) (x : ℤ) → x ≡ f s → length done < length old →
       set (walked f done old) (length done) x ≡ walked f (done ++ s ∷ []) old
@@ -50,16 +47,6 @@ pub record Long (n : ℕ) (path₀ blocks₀ score₀ : List ℤ) : Type 0 where
   pub path-long : n ≤ length path₀
   pub blocks-long : n ≤ length blocks₀
   pub score-long : n ≤ length score₀
-
--- and stay so
-pub walks-long : {done : List Step} {path₀ blocks₀ score₀ path blocks score : List ℤ} (n : ℕ) → length done ≤ n → Long n path₀ blocks₀ score₀ →
-    Walks done path₀ blocks₀ score₀ path blocks score → Long n path blocks score
-walks-long {done} {path₀} {blocks₀} {score₀} n h l w =
-    record {
-      path-long = omega (arith, l .path-long, ap length (w .path-is), walked-length (λ (s : Step). pos (s .path)) done path₀ (omega (arith, l .path-long)));
-      blocks-long = omega (arith, l .blocks-long, ap length (w .blocks-is), walked-length (λ (s : Step). pos (s .blocks)) done blocks₀ (omega (arith, l .blocks-long)));
-      score-long = omega (arith, l .score-long, ap length (w .score-is), walked-length (λ (s : Step). s .score) done score₀ (omega (arith, l .score-long)));
-    }
 
 -- what a key writes at entry n
 pub record Noted (n : ℕ) (k : Key) (path blocks score path′ blocks′ score′ : List ℤ) : Type 0 where

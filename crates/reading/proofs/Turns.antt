@@ -1,0 +1,228 @@
+-- A run on its tables: what each call of the run needs, from a run under way (Going) on a book in tables, and what the run answers at its end. The
+-- blocks are read off the tables; a run of a valid book ends with a final word, by its agreement with the machine (reader). Assumes nothing.
+use mathlib.Core.Path.{_≡_, refl, sym, ap, _∙_, subst}
+use mathlib.Core.List.{List, [], _∷_}
+use mathlib.Core.Option.{some}
+use Prim.Native.Nat.{ℕ, zero, suc, _+_, _-_, _*_, _^_, _≤_, _<_}
+use native.Mathlib.Omega.{arith}
+use lib.IntN.{ℤ, pos}
+use lib.ListN.{length, getD, set, replicate}
+use lib.Pow.{pow-mono}
+use Rattle.polar.specs.Layers.{part}
+use Rattle.codebook.specs.Book.{Book, blockAt}
+use Rattle.codebook.specs.Limits.{BlockOk, Valid}
+use Rattle.codec.specs.Code.{readData}
+use Rattle.machine.specs.Queue.{Final}
+use Rattle.machine.specs.Machine as M
+use Rattle.machine.specs.Calls.{finalOf}
+use Rattle.reader.specs.Arrays.{Arrays, sumsOf}
+use Rattle.reader.specs.Paths.{scoreOf, keyOf, firstPath, idsOf, viewOf}
+use Rattle.reader.specs.Fit.{Fit, FitFor}
+use Rattle.reader.specs.Reader as R
+use Rattle.reader.proofs.Agree.{valid-agree}
+use Rattle.reader.proofs.Reached.{reached-fit}
+use Rattle.order.specs.Entries.{keyAt, Packed, queueOf}
+use Rattle.sharing.specs.Sharing.{heldAt}
+use Rattle.heights.specs.Workspace.{spot, Id}
+use Rattle.standing.specs.Seen.{Memory, memory}
+use Rattle.standing.specs.Standing.{Stands, InHand}
+use Rattle.steps.specs.declared.Block.{Block}
+use Rattle.steps.specs.declared.Setting.{Setting}
+use Rattle.steps.specs.declared.Tally.{Tally}
+use Rattle.steps.specs.Steps.{BlockIs}
+use Rattle.reading.specs.declared.Ran.{Ran}
+use Rattle.reading.specs.Running.{arraysOf, firstHeld, Tables, Running, RanIs}
+use Rattle.reading.specs.Extraction.{Extracting}
+use Rattle.reading.specs.Ending.{Ending, lastView}
+use Rattle.reading.proofs.First.{first-stands}
+use Rattle.reading.proofs.Walks.{Walks, Long, Noted}
+use Rattle.reading.proofs.Bounded.{blocks-most, blocks-some}
+use Rattle.reading.proofs.Going.{Going, going-first, going-key, going-blocks, going-within, going-fuel, going-some, going-next, last-final, last-count, last-crowded, last-outrun, last-walks}
+
+-- r is block b of any book in these tables that has it
+abbrev pub ReadAt : List ℕ → List ℕ → List ℤ → ℕ → Block → Type 0
+ReadAt heights starts biases b r =
+    (B : Book) (kinds terms : List ℕ) → Valid B → Tables B kinds terms heights starts biases → b < length (B .blocks) → BlockIs B b r
+
+-- the first path's key
+first-key : (B : Book) (e : ℕ) → Packed e (record { score = pos 0; blocks = 0; number = 0 }) 0 → Packed e (keyOf B (firstPath B)) 0
+unfolding scoreOf keyOf firstPath
+first-key B e p = p
+
+module _ {s : Setting} {values : List ℤ} {kinds terms heights starts : List ℕ} {biases : List ℤ} (c : Running s values kinds terms heights starts biases) where
+  abbrev ok : Valid (c .book)
+  ok = c .tables .booked .valid
+
+  -- the book's shape
+  pub run-deep : s .m ≤ 9
+  run-deep = omega (arith, ok .high, c .deep)
+
+  pub run-blocks : (0 < s .blocks) × (s .blocks ≤ 512)
+  run-blocks = (omega (arith, blocks-some (c .book) ok, c .blocks), omega (arith, blocks-most (c .book) ok, c .blocks))
+
+  -- a block's place in the tables
+  pub table-fits : (b : ℕ) → b < s .blocks → (b < 512) × (getD heights b 0 ≤ 5) × (getD starts b 0 + 2 ^ getD heights b 0 ≤ 512)
+  table-fits b l =
+      let h : b < length (c .book .blocks) = omega (arith, c .blocks) in
+      let o : BlockOk (c .book) b = ok .blocks b h in
+      let e : getD heights b 0 ≡ blockAt (c .book) b .j = c .tables .height b h in (
+        omega (arith, run-blocks .1),
+        omega (arith, o .short),
+        omega (arith, c .tables .start b h, ap (λ j. 2 ^ j) e, o .within, pow-mono (ok .high)),
+      )
+
+  -- the run has a final word
+  pub run-found : (A : Arrays) → 1 ≤ s .visits → A .vals (s .m) 1 ≡ values → (f : Final) × (R.runOf (c .book) (s .visits) (s .paths) A .final ≡ some f)
+  run-found A l root =
+      let B : Book = c .book in (
+        finalOf B values (M.runOf B (s .visits) (s .paths) values .final),
+        valid-agree B ok (s .visits) (s .paths) values A l (c .size ∙ ap (λ n. 2 ^ n) (sym (c .deep))) (ap (λ n. A .vals n 1) (c .deep) ∙ root) .1,
+      )
+
+  -- ---- at first
+
+  module _ (rows holders vacant : List ℕ) (numbers : List ℤ) (bytes : List ℕ) (e : ℕ) (order : List ℕ) (path₀ blocks₀ score₀ : List ℤ) where
+    pub run-first : 1 ≤ s .paths → s .paths ≤ 256 → rows ≡ set (replicate 4096 0) (s .m) 1 →
+        ((h i : ℕ) → h ≤ 9 → i ≤ 256 → heldAt holders h i ≡ firstHeld (s .m) h i) → ((k : ℕ) → k + 1 < s .paths → getD vacant k 0 ≡ k + 1) →
+        Packed e (record { score = pos 0; blocks = 0; number = 0 }) 0 → arraysOf (s .m) numbers bytes .vals (s .m) 1 ≡ values →
+        Going (c .book) values (s .visits) (s .paths) (R.runOf (c .book) (s .visits) (s .paths) (arraysOf (s .m) numbers bytes))
+        (memory rows holders numbers bytes) order vacant (replicate 512 0)
+        (record { queued = 0; next = 1; extractions = 0; crowded = 0; outrun = 0 }) e path₀ blocks₀ score₀ path₀ blocks₀ score₀
+    run-first some′ most is held free p root =
+        let A : Arrays = arraysOf (s .m) numbers bytes in
+        let k : Packed e (keyOf (c .book) (firstPath (c .book))) 0 = first-key (c .book) e p in
+        going-first (c .book) values (s .visits) (s .paths) A (memory rows holders numbers bytes) order vacant e path₀ blocks₀ score₀ ok some′
+        (ap (λ n. A .vals n 1) (c .deep) ∙ root)
+        (first-stands (c .book) (s .m) (s .paths) ok (c .deep) some′ most rows holders vacant is held free e k numbers bytes)
+
+  -- ---- under way
+
+  module _ {whole : R.Run} {x : Memory} {order vacant visits : List ℕ} {t : Tally} {e : ℕ} {path₀ blocks₀ score₀ path blocks score : List ℤ}
+      (g : Going (c .book) values (s .visits) (s .paths) whole x order vacant visits t e path₀ blocks₀ score₀ path blocks score) where
+    -- the path in hand
+    abbrev pub run-hand : InHand (s .m) (s .paths) x e (queueOf order (t .queued)) (queueOf vacant (s .paths - (t .queued + 1)))
+    run-hand = record { book = c .book; arrays = g .arrays; taken = g .taken; rest = g .rest; deep = c .deep; stands = g .stands }
+
+    -- extractions still to come
+    pub run-left : t .extractions < s .visits * s .blocks + 1
+    run-left = omega (arith, going-fuel g, ap (λ n. s .visits * n) (c .blocks))
+
+    -- it has a next block
+    pub run-next : (keyAt e .blocks ≡ s .blocks → ⊥) → g .taken .blocks < length (c .book .blocks)
+    run-next d =
+        let n : g .taken .blocks ≡ length (c .book .blocks) → ⊥ = λ q. d (going-blocks g ∙ q ∙ c .blocks) in
+        omega (arith, going-within g ok)
+
+    pub run-within : (keyAt e .blocks ≡ s .blocks → ⊥) → keyAt e .blocks < s .blocks
+    run-within d = omega (arith, run-next d, going-blocks g, c .blocks)
+
+    -- what an extraction needs
+    abbrev pub run-extracting : (last at : Block) (i b : ℕ) → b ≡ keyAt e .blocks → i ≡ b - 1 → (keyAt e .blocks ≡ s .blocks → ⊥) →
+        ReadAt heights starts biases i last → ReadAt heights starts biases b at →
+        Extracting (s .m) (s .paths) x e (queueOf order (t .queued)) (queueOf vacant (s .paths - (t .queued + 1))) kinds terms last at
+    run-extracting last at i b p q d l a =
+        record {
+          hand = run-hand;
+          booked = c .tables .booked;
+          values = values;
+          size = c .size ∙ ap (λ n. 2 ^ n) (sym (c .deep));
+          range = c .range;
+          reached = g .reached;
+          next =
+              subst (λ n. BlockIs (c .book) n at) (p ∙ going-blocks g) (a (c .book) kinds terms ok (c .tables) (omega (arith, run-within d, c .blocks)));
+          last-is = λ k h.
+              let j : i ≡ k = omega (arith, going-blocks g) in
+              subst (λ n. BlockIs (c .book) n last) j (l (c .book) kinds terms ok (c .tables) (omega (arith, run-within d, c .blocks)));
+        }
+
+    -- ---- an extraction
+
+    -- what it comes to
+    abbrev pub run-made : R.Extracted
+    run-made = R.extract (c .book) (s .visits) (s .paths) (g .arrays) (g .taken) (g .rest) (t .next) visits
+
+    -- the walk has an entry for each
+    long-enough : (s .visits * s .blocks + 1 ≤ length path₀) × (s .visits * s .blocks + 1 ≤ length blocks₀) × (s .visits * s .blocks + 1 ≤ length score₀) →
+        Long (s .visits * length (c .book .blocks) + 1) path₀ blocks₀ score₀
+    long-enough l =
+        let e : s .visits * length (c .book .blocks) ≡ s .visits * s .blocks = ap (λ n. s .visits * n) (c .blocks) in
+        record { path-long = omega (arith, l .0); blocks-long = omega (arith, l .1); score-long = omega (arith, l .2) }
+
+    module _ (two : 2 ≤ s .paths) (most : s .paths ≤ 256) (found : (f : Final) × (whole .final ≡ some f)) (d : keyAt e .blocks ≡ s .blocks → ⊥) (r : Tally) where
+      -- a path is queued after it
+      pub run-some : r .queued ≡ length (run-made .state .queue) → 1 ≤ r .queued
+      run-some q = going-some g ok (c .size ∙ ap (λ n. 2 ^ n) (sym (c .deep))) two most (found .0) (found .1) (run-next d) r q
+
+      pub run-turn : (y : Memory) (order′ vacant′ visits′ : List ℕ) →
+          (r .queued ≡ length (run-made .state .queue)) × (r .next ≡ run-made .state .next) × (visits′ ≡ run-made .state .visits)
+          × (r .crowded ≡ t .crowded + length (run-made .step .crowded)) × (r .outrun ≡ t .outrun + length (run-made .step .outrun))
+          × Stands (c .book) (s .paths) y (queueOf order′ (r .queued)) (queueOf vacant′ (s .paths - r .queued)) (run-made .state .arrays) (run-made .state .queue) →
+          r .extractions ≡ t .extractions + 1 →
+          (s .visits * s .blocks + 1 ≤ length path₀) × (s .visits * s .blocks + 1 ≤ length blocks₀) × (s .visits * s .blocks + 1 ≤ length score₀) →
+          {path′ blocks′ score′ : List ℤ} → Noted (t .extractions) (keyAt e) path blocks score path′ blocks′ score′ →
+          Going (c .book) values (s .visits) (s .paths) whole y order′ vacant′ visits′
+          (record { queued = r .queued - 1; next = r .next; extractions = r .extractions; crowded = r .crowded; outrun = r .outrun })
+          (getD order′ (r .queued - 1) 0) path₀ blocks₀ score₀ path′ blocks′ score′
+      run-turn y order′ vacant′ visits′ x more l n =
+          going-next g ok (c .size ∙ ap (λ n. 2 ^ n) (sym (c .deep))) two most (found .0) (found .1) (run-next d) r (x .0) y order′ vacant′ visits′ (x .1) (x .2) (x .3) (x .4) more (x .5)
+          (long-enough l) n
+
+    -- ---- the end
+
+    module _ (d : keyAt e .blocks ≡ s .blocks) where
+      run-all : g .taken .blocks ≡ length (c .book .blocks)
+      run-all = sym (going-blocks g) ∙ d ∙ sym (c .blocks)
+
+      -- the path has a last block
+      pub last-index : g .taken .blocks ≡ suc (s .blocks - 1)
+      last-index = omega (arith, run-all, c .blocks, run-blocks .0)
+
+      pub last-fit : Fit (c .book) (g .arrays) (g .taken) (s .blocks - 1)
+      unfolding FitFor
+      last-fit =
+          subst (FitFor (c .book) (g .arrays) (g .taken)) last-index
+          (reached-fit (c .book) values ok (c .size ∙ ap (λ n. 2 ^ n) (sym (c .deep))) (c .range) (s .paths) (g .arrays) (g .taken) (g .rest) (g .reached))
+
+      abbrev pub run-ending : (last : Block) (i : ℕ) → i ≡ s .blocks - 1 → ReadAt heights starts biases i last →
+          Ending (s .m) (s .paths) x e (queueOf order (t .queued)) (queueOf vacant (s .paths - (t .queued + 1))) last
+      run-ending last i q l =
+          record {
+            hand = run-hand;
+            valid = ok;
+            b = s .blocks - 1;
+            own =
+                record {
+                  blocks = last-index;
+                  block =
+                      subst (λ n. BlockIs (c .book) n last) q (l (c .book) kinds terms ok (c .tables) (omega (arith, run-blocks .0, c .blocks)));
+                  fit = last-fit;
+                };
+            whole = omega (arith, run-blocks .0, c .blocks);
+          }
+
+      -- its walk
+      pub run-walks :
+          (s .visits * s .blocks + 1 ≤ length path₀) × (s .visits * s .blocks + 1 ≤ length blocks₀) × (s .visits * s .blocks + 1 ≤ length score₀) →
+          {path′ blocks′ score′ : List ℤ} → Noted (t .extractions) (keyAt e) path blocks score path′ blocks′ score′ →
+          Walks (whole .steps) path₀ blocks₀ score₀ path′ blocks′ score′
+      run-walks l n = last-walks g run-all (long-enough l) n
+
+      -- what the run answers
+      pub run-ran : (r : Ran) (bytes : List ℕ) → (r .extractions ≡ t .extractions + 1) × (r .crowded ≡ t .crowded) × (r .outrun ≡ t .outrun) →
+          (r .discrepancy ≡ g .taken .spent + g .taken .cost) × Id (s .paths) (r .id)
+          × (part (spot (s .m) (r .id) (s .m)) (2 ^ (s .m)) bytes ≡ sumsOf (lastView run-hand) (s .m)) → RanIs (s .m) (s .paths) whole r bytes
+      unfolding R.stopped lastView
+      run-ran r bytes n w =
+          let B : Book = c .book in
+          let word : List ℕ = sumsOf (R.commit B (idsOf (g .rest)) (g .taken) (g .taken .blocks) (viewOf (g .arrays) (g .taken))) (B .m) in
+          record {
+            final = record { word = word; bits = readData B word; discrepancy = g .taken .spent + g .taken .cost };
+            ends = last-final g run-all;
+            extractions = n .0 ∙ last-count g run-all;
+            crowded = n .1 ∙ last-crowded g run-all;
+            outrun = n .2 ∙ last-outrun g run-all;
+            discrepancy = w .0;
+            id = w .1;
+            word =
+                w .2 ∙ ap (sumsOf (R.commit B (idsOf (g .rest)) (g .taken) (g .taken .blocks) (viewOf (g .arrays) (g .taken)))) (sym (c .deep));
+          }
