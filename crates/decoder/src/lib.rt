@@ -1,0 +1,31 @@
+// The decoding calls, by layers: the settings and their check; checks of what is lent; buffers cleared and written.
+pub mod buffers;
+pub mod checks;
+pub mod ranges;
+
+use codebook::Refusal;
+
+// Settings that lie in their ranges, when made by `checked`.
+pub struct Settings {
+    pub visits: u32,
+    pub paths: u32,
+    pub limit: u32,
+}
+
+// Settings, or why there are none.
+pub enum Checked {
+    Good(Settings),
+    Bad(Refusal),
+}
+
+// The lengths of what is lent: values, word and data; the workspace's numbers and bytes; the walk's paths, blocks and scores.
+pub struct Lengths {
+    pub values: usize,
+    pub word: usize,
+    pub bits: usize,
+    pub numbers: usize,
+    pub bytes: usize,
+    pub paths: usize,
+    pub blocks: usize,
+    pub scores: usize,
+}
