@@ -1,22 +1,22 @@
 -- What one extraction adds to a run's counts: at most one number given out, one path crowded out, as many outrun as there are paths, one visit. And
--- a book has at most 512 blocks, and some. By the definitions of its steps. Assumes nothing.
+-- a book has a block. By the definitions of its steps. Assumes nothing.
 use mathlib.Core.Path.{_≡_, ap}
 use mathlib.Core.Logic.{_⊎_, inl, inr}
-use mathlib.Core.List.{List, [], _∷_}
+use mathlib.Core.List.{List}
 use mathlib.Core.Option.{Option, none, some}
-use Prim.Native.Nat.{ℕ, zero, suc, _+_, _-_, _≤_, _<_}
+use Prim.Native.Nat.{ℕ, zero, suc, _-_, _≤_, _<_}
 use native.Mathlib.Decide.{ℕ-discrete}
 use native.Mathlib.Omega.{arith}
 use lib.ListN.{length, getD, drop, length-map, length-drop, List·getD-eq-default, length-set}
 use lib.Seq.{getD-set-same, getD-set-other}
-use lib.Pow.{pow-mono, pow-pos}
+use lib.Pow.{pow-pos}
 use lib.Dec.{eqb}
 use Rattle.laws.proofs.Lists.{keep-length}
 use Rattle.laws.proofs.Tests.{cond-case, lt-or}
-use Rattle.codebook.specs.Book.{Book, Block, startOf}
+use Rattle.codebook.specs.Book.{Book}
 use Rattle.codebook.specs.Limits.{Valid}
 use Rattle.codebook.proofs.Blocks.{start-some}
-use Rattle.machine.specs.Queue.{Key, insert, behind, numbers, crowdedOut, visit}
+use Rattle.machine.specs.Queue.{insert, behind, numbers, crowdedOut, visit}
 use Rattle.runs.proofs.Order.{insert-length}
 use Rattle.outer.specs.Words.{Word}
 use Rattle.reader.specs.Arrays.{Arrays}
@@ -27,20 +27,12 @@ use Rattle.reader.proofs.Bounds.{alive}
 
 -- ---- the blocks of a book
 
-starts-least : (bs : List Block) → length bs ≤ startOf bs (length bs)
-unfolding startOf
-starts-least [] = omega arith
-starts-least (x ∷ bs) = omega (arith, starts-least bs, pow-pos (x .j))
-
-pub blocks-most : (B : Book) → Valid B → length (B .blocks) ≤ 512
-blocks-most B ok = omega (arith, starts-least (B .blocks), ok .covered, pow-mono (ok .high))
-
 pub blocks-some : (B : Book) → Valid B → 0 < length (B .blocks)
 blocks-some B ok = start-some (B .blocks) (omega (arith, ok .covered, pow-pos (B .m)))
 
 -- ---- a visit
 
-pub visit-most : (visits : List ℕ) (b n : ℕ) → ((i : ℕ) → getD visits i 0 ≤ n) → (i : ℕ) → getD (visit visits b) i 0 ≤ suc n
+visit-most : (visits : List ℕ) (b n : ℕ) → ((i : ℕ) → getD visits i 0 ≤ n) → (i : ℕ) → getD (visit visits b) i 0 ≤ suc n
 unfolding visit
 visit-most visits b n h i = go (ℕ-discrete i b) (lt-or b (length visits))
   where

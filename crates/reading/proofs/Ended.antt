@@ -2,9 +2,9 @@
 -- the book's last word is the root; and what the path then sees at the root lies in the array of its id. Assumes nothing.
 use mathlib.Core.Path.{_≡_, sym, ap, ap₂, _∙_, subst, subst₂}
 use mathlib.Core.List.{List}
-use Prim.Native.Nat.{ℕ, suc, _+_, _*_, _-_, _^_, _≤_, _<_}
+use Prim.Native.Nat.{ℕ, _+_, _*_, _-_, _^_, _≤_}
 use native.Mathlib.Omega.{arith}
-use lib.ListN.{length, getD}
+use lib.ListN.{getD}
 use Rattle.laws.proofs.Pairs.{Paired}
 use Rattle.polar.specs.Layers.{part}
 use Rattle.codebook.specs.Book.{Book, blockAt}

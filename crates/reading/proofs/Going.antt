@@ -2,7 +2,6 @@
 -- and the counts and the walk are those of the extractions done. It holds at first; an extraction keeps it, since a run that ends with a final word
 -- has fuel left and a path queued; and at a path with all blocks it gives the whole run. Assumes nothing.
 use mathlib.Core.Path.{_≡_, refl, sym, ap, ap₂, _∙_, subst}
-use mathlib.Core.Bool.{cond}
 use mathlib.Core.List.{List, [], _∷_, _++_, map, append-assoc}
 use mathlib.Core.Option.{some}
 use Prim.Native.Nat.{ℕ, zero, suc, _+_, _-_, _*_, _^_, _≤_, _<_}
@@ -10,12 +9,11 @@ use native.Mathlib.Numerals.{add-one}
 use native.Mathlib.Nat.{mul-le-mul}
 use native.Mathlib.Omega.{arith}
 use lib.IntN.{ℤ}
-use lib.ListN.{length, getD, replicate, length-append}
+use lib.ListN.{length, getD, replicate}
 use borrow.Author.Tests.{eq-eqb, ne-eqb}
-use Rattle.laws.specs.Lists.{All, sum}
+use Rattle.laws.specs.Lists.{sum}
 use Rattle.laws.proofs.Lists.{length-snoc}
 use Rattle.laws.proofs.Pairs.{Paired}
-use Rattle.polar.specs.Layers.{Within}
 use Rattle.codebook.specs.Book.{Book}
 use Rattle.codebook.specs.Limits.{Valid}
 use Rattle.machine.specs.Queue.{Key, Step, Final}
@@ -27,12 +25,13 @@ use Rattle.order.specs.Entries.{keyAt, queueOf}
 use Rattle.order.proofs.Queues.{queue-first, queue-length}
 use Rattle.standing.specs.Seen.{Memory}
 use Rattle.standing.specs.Standing.{Stands}
-use Rattle.standing.proofs.Sizes.{stands-length, stands-room}
+use Rattle.standing.proofs.Sizes.{stands-room}
 use Rattle.steps.specs.declared.Tally.{Tally}
 use Rattle.reading.proofs.Begun.{zeros}
 use Rattle.reading.proofs.Visits.{run-wide}
 use Rattle.reading.proofs.Walks.{Walks, Long, Noted, walks-none, walks-next, sum-next}
-use Rattle.reading.proofs.Bounded.{blocks-most, next-most, crowded-most, outrun-most, visits-most}
+use Rattle.reading.proofs.Counts.{blocks-few}
+use Rattle.reading.proofs.Bounded.{next-most, crowded-most, outrun-most, visits-most}
 
 -- the numbers of paths that an extraction crowded out, and that it outran
 abbrev pub crowdedBy : Step → ℕ
@@ -103,7 +102,7 @@ pub going-first : (B : Book) (values : List ℤ) (L N : ℕ) (A : Arrays) (x : M
 unfolding queueOf sum
 going-first B values L N A x order vacant e path₀ blocks₀ score₀ ok some′ root st =
     let V′ : ℕ = length (B .blocks) in
-    let w = run-wide B L N A (blocks-most B ok) ∙ ap (λ n. R.run n B L N A (firstPath B ∷ []) 1 (replicate 512 0)) (add-one (L * V′)) in
+    let w = run-wide B L N A (blocks-few B ok) ∙ ap (λ n. R.run n B L N A (firstPath B ∷ []) 1 (replicate 512 0)) (add-one (L * V′)) in
     record {
       arrays = A;
       taken = firstPath B;
@@ -152,7 +151,7 @@ module _ {B : Book} {values : List ℤ} {L N : ℕ} {whole : R.Run} {x : Memory}
 
   pub going-limits : Valid B → L ≤ 32 → (t .extractions < 16385) × (t .next < 32768) × (t .crowded < 65536) × (t .outrun < 16777216) × ((b : ℕ) → getD visits b 0 < 65536)
   going-limits ok l =
-      let most : L * length (B .blocks) ≤ 32 * 512 = mul-le-mul l (blocks-most B ok) in
+      let most : L * length (B .blocks) ≤ 32 * 512 = mul-le-mul l (blocks-few B ok) in
       let n : length (g .done) < 16385 = omega (arith, g .count) in (
         omega (arith, g .extractions),
         omega (arith, g .next-few),

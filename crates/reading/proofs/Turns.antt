@@ -1,9 +1,9 @@
 -- A run on its tables: what each call of the run needs, from a run under way (Going) on a book in tables, and what the run answers at its end. The
 -- blocks are read off the tables; a run of a valid book ends with a final word, by its agreement with the machine (reader). Assumes nothing.
-use mathlib.Core.Path.{_≡_, refl, sym, ap, _∙_, subst}
-use mathlib.Core.List.{List, [], _∷_}
+use mathlib.Core.Path.{_≡_, sym, ap, _∙_, subst}
+use mathlib.Core.List.{List}
 use mathlib.Core.Option.{some}
-use Prim.Native.Nat.{ℕ, zero, suc, _+_, _-_, _*_, _^_, _≤_, _<_}
+use Prim.Native.Nat.{ℕ, suc, _+_, _-_, _*_, _^_, _≤_, _<_}
 use native.Mathlib.Omega.{arith}
 use lib.IntN.{ℤ, pos}
 use lib.ListN.{length, getD, set, replicate}
@@ -36,8 +36,9 @@ use Rattle.reading.specs.Extraction.{Extracting}
 use Rattle.reading.specs.Ending.{Ending, lastView}
 use Rattle.reading.proofs.First.{first-stands}
 use Rattle.reading.proofs.Walks.{Walks, Long, Noted}
-use Rattle.reading.proofs.Bounded.{blocks-most, blocks-some}
-use Rattle.reading.proofs.Going.{Going, going-first, going-key, going-blocks, going-within, going-fuel, going-some, going-next, last-final, last-count, last-crowded, last-outrun, last-walks}
+use Rattle.reading.proofs.Counts.{blocks-few}
+use Rattle.reading.proofs.Bounded.{blocks-some}
+use Rattle.reading.proofs.Going.{Going, going-first, going-blocks, going-within, going-fuel, going-some, going-next, last-final, last-count, last-crowded, last-outrun, last-walks}
 
 -- r is block b of any book in these tables that has it
 abbrev pub ReadAt : List ℕ → List ℕ → List ℤ → ℕ → Block → Type 0
@@ -58,7 +59,7 @@ module _ {s : Setting} {values : List ℤ} {kinds terms heights starts : List �
   run-deep = omega (arith, ok .high, c .deep)
 
   pub run-blocks : (0 < s .blocks) × (s .blocks ≤ 512)
-  run-blocks = (omega (arith, blocks-some (c .book) ok, c .blocks), omega (arith, blocks-most (c .book) ok, c .blocks))
+  run-blocks = (omega (arith, blocks-some (c .book) ok, c .blocks), omega (arith, blocks-few (c .book) ok, c .blocks))
 
   -- a block's place in the tables
   pub table-fits : (b : ℕ) → b < s .blocks → (b < 512) × (getD heights b 0 ≤ 5) × (getD starts b 0 + 2 ^ getD heights b 0 ≤ 512)

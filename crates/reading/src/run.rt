@@ -4,11 +4,11 @@ ghost use mathlib.Core.List.{List};
 ghost use Prim.Native.Nat.{ℕ, _+_, _-_, _*_, _^_, _≤_, _<_};
 ghost use lib.IntN.{pos};
 ghost use lib.ListN.{length};
+ghost use Rattle.polar.specs.Layers.{part};
 ghost use Rattle.machine.specs.Queue.{Step};
 ghost use Rattle.machine.specs.Calls.{walked};
-ghost use Rattle.reader.specs.Reader as R;
-ghost use Rattle.polar.specs.Layers.{part};
 ghost use Rattle.reader.specs.Arrays.{sumsOf};
+ghost use Rattle.reader.specs.Reader as R;
 ghost use Rattle.heights.specs.Workspace.{spot, Room, Id};
 ghost use Rattle.standing.specs.Seen.{memory, Lent};
 ghost use Rattle.reading.specs.Ending.{Ending, lastView};
@@ -58,7 +58,18 @@ fn finish(
     let m = s.m;
     let slot = slot_of(e);
     let word = rows[slot * 16 + 12];
-    commit(rows, holders, numbers, bytes, m, s.paths, slot, last.height, last.place, word);
+    commit(
+        rows,
+        holders,
+        numbers,
+        bytes,
+        m,
+        s.paths,
+        slot,
+        last.height,
+        last.place,
+        word,
+    );
     Ran {
         extractions: t.extractions + 1,
         crowded: t.crowded,
@@ -119,20 +130,47 @@ pub fn run(
     };
     let mut e = entry(0, 0, 0, 0);
     while blocks_of(e) as usize != blocks {
-        note(walk_path, walk_blocks, walk_score, t.extractions as usize, e);
+        note(
+            walk_path,
+            walk_blocks,
+            walk_score,
+            t.extractions as usize,
+            e,
+        );
         t.extractions = t.extractions + 1;
         let b = blocks_of(e) as usize;
         let last = block_at(heights, starts, biases, before(b));
         let at = block_at(heights, starts, biases, b);
         t = extract(
-            &mut rows, &mut holders, &mut order, &mut vacant, &mut visits, numbers, bytes, kinds, terms,
-            s, t, e, last, at, &mut words, &mut sets, &mut sums,
+            &mut rows,
+            &mut holders,
+            &mut order,
+            &mut vacant,
+            &mut visits,
+            numbers,
+            bytes,
+            kinds,
+            terms,
+            s,
+            t,
+            e,
+            last,
+            at,
+            &mut words,
+            &mut sets,
+            &mut sums,
         );
         let left = t.queued - 1;
         t.queued = left;
         e = order[left];
     }
-    note(walk_path, walk_blocks, walk_score, t.extractions as usize, e);
+    note(
+        walk_path,
+        walk_blocks,
+        walk_score,
+        t.extractions as usize,
+        e,
+    );
     let last = block_at(heights, starts, biases, before(blocks));
     finish(&mut rows, &mut holders, numbers, bytes, s, t, e, last)
 }

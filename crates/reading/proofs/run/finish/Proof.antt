@@ -13,11 +13,6 @@ use Rattle.reading.specs.Ending.{Ending, lastView}
 use Rattle.reading.proofs.Ended.{end-heights, end-viewed, end-seen, end-word, end-spent}
 use Rattle.reading.proofs.run.finish.Statement.{statement}
 use Rattle.reading.proofs.run.finish.Tie as tie
-use Rattle.reading.proofs.run.finish.Reads as reads
-use Rattle.reading.proofs.run.finish.Lts as lts
-use Rattle.order.proofs.entries.slot_of.Reads as slot-of-reads
-use Rattle.views.proofs.view.commit.Reads as commit-reads
-use Rattle.views.proofs.view.id_of.Reads as id-of-reads
 
 slot-of-requires : tie.Need-slot-of-requires
 slot-of-requires c κs = search needs

@@ -5,10 +5,10 @@ use borrow.Author.Needs.{needs}
 use mathlib.Core.Path.{_≡_, refl, sym, ap, _∙_, subst}
 use mathlib.Core.List.{List}
 use mathlib.Core.Option.{some}
-use Prim.Native.Nat.{ℕ, suc, _+_, _-_, _*_, _≤_, _<_}
+use Prim.Native.Nat.{ℕ, _+_, _-_, _*_, _≤_, _<_}
 use native.Mathlib.Omega.{arith}
 use lib.IntN.{ℤ, pos}
-use lib.ListN.{length, getD, set, replicate, length-set, length-replicate}
+use lib.ListN.{length, getD, replicate, length-set, length-replicate}
 use Rattle.machine.specs.Queue.{Step, Final}
 use Rattle.machine.specs.Calls.{walked}
 use Rattle.outer.specs.Search.{Scratch}
@@ -23,7 +23,6 @@ use Rattle.reading.specs.Running.{arraysOf, received, Running, RanIs}
 use Rattle.reading.specs.Extraction.{Extracting}
 use Rattle.reading.specs.Ending.{Ending}
 use Rattle.reading.proofs.Received.{root-spot, root-within, received-is, received-root, received-room}
-use Rattle.reading.proofs.Walks.{Noted}
 use Rattle.reading.proofs.Going.{Going, going-small, going-room, going-limits}
 use Rattle.reading.proofs.Turns.{run-deep, run-blocks, table-fits, run-found, run-first, run-left, run-within, run-extracting, run-some, run-turn, run-ending, run-walks, run-ran}
 use Rattle.reading.proofs.run.run.Statement.{statement}
@@ -379,8 +378,7 @@ returns c r =
     × (n .note2 .last .0 ≡ walked (λ (y : Step). pos (y .path)) (x .steps) (a .walk-path .now))
     × (n .note2 .last .1 .0 ≡ walked (λ (y : Step). pos (y .blocks)) (x .steps) (a .walk-blocks .now))
     × (n .note2 .last .1 .1 .0 ≡ walked (λ (y : Step). y .score) (x .steps) (a .walk-score .now)))
-    (received-now (y .before))
-    (
+    (received-now (y .before)) (
       run-ran r g (all (u .before)) (f .finish .result) (f .finish .last .1 .1 .1 .0) (f .finish .ensures .0) (f .finish .ensures .1 _ _ (last-hand u r)),
       w .path-is,
       w .blocks-is,
