@@ -104,7 +104,7 @@ id-of-requires : tie.Need-id-of-requires
 unfolding memory
 id-of-requires c κs =
     let u = c .before .before .before .before .before .before in
-    (u .commit .ensures .0 .0 .sizes .rows-size, slot u .slot-of .ensures .1, start u .pre .0 .0 .deep)
+    (u .commit .ensures .0 .0 .sizes .rows-size, omega (arith, slot u .slot-of .ensures .1), omega (arith, start u .pre .0 .0 .deep))
 
 same-length : tie.Need-same-length
 same-length c = search needs
