@@ -20,6 +20,7 @@ pub mod judge;
 pub mod kernel;
 pub mod machine;
 pub mod model;
+pub mod noise;
 pub mod plan;
 pub mod record;
 pub mod recorder;
