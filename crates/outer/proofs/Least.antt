@@ -1,7 +1,8 @@
 -- The scan for the least key: one setting more is what the scan makes of the best so far, and equal keys give equal answers. By cases on what
 -- was found before. Assumes nothing.
-use mathlib.Core.Path.{_≡_, refl, sym, ap, ap₂, _∙_}
+use mathlib.Core.Path.{_≡_, refl, sym, ap, ap₂, _∙_, subst}
 use mathlib.Core.Bool.{Bool, true, false, cond, true≢false}
+use mathlib.Core.Logic.{_⊎_, inl, inr}
 use mathlib.Core.Option.{Option, none, some}
 use Prim.Native.Nat.{ℕ, zero, suc, _+_, _≤_, _<_}
 use native.Mathlib.Numerals.{add-one}
@@ -9,10 +10,15 @@ use native.Mathlib.Omega.{arith}
 use lib.Dec.{ltb, leb}
 use borrow.Author.Tests.{lt-ltb, le-ltb, le-leb, lt-leb}
 use Rattle.laws.specs.Lists.{May}
-use Rattle.laws.proofs.Tests.{cond-case}
+use Rattle.laws.proofs.Tests.{cond-case, lt-or}
 use Rattle.machine.specs.Choice.{choose, firstOf}
 use Rattle.outer.specs.declared.Best.{Best}
 use Rattle.outer.specs.Search.{tried, lesser, leastFrom, bestOf}
+
+-- the setting found, by another count
+abbrev pub mapped : (ℕ → ℕ) → Option ℕ → Option ℕ
+mapped f none = none
+mapped f (some w) = some (f w)
 
 pub least-more : (k : ℕ → ℕ) (bound w : ℕ) → choose (lesser k) (leb bound (k w)) w (leastFrom k bound w) ≡ leastFrom k bound (w + 1)
 unfolding leastFrom firstOf tried
@@ -30,18 +36,74 @@ least-below k bound (suc n) = go (leb bound (k n)) (leastFrom k bound n) (least-
     go false none h = tt
     go false (some y) h = omega arith
 
+-- keys with the same order, and bounds that they pass alike
+pub least-like : (f g : ℕ → ℕ) (b b′ n : ℕ) → ((v w : ℕ) → v < n → w < n → lesser f v w ≡ lesser g v w) → ((w : ℕ) → w < n → leb b (f w) ≡ leb b′ (g w))
+    → leastFrom f b n ≡ leastFrom g b′ n
+unfolding leastFrom firstOf tried May choose
+least-like f g b b′ zero o t = refl
+least-like f g b b′ (suc n) o t =
+    go (leb b (f n)) (leastFrom f b n) (least-below f b n)
+    ∙ ap₂ (λ (c : Bool) (y : Option ℕ). choose (lesser g) c n y) (t n (omega arith)) (least-like f g b b′ n (λ v w l k. o v w (omega arith) (omega arith)) (λ w l. t w (omega arith)))
+  where
+    go : (c : Bool) (y : Option ℕ) → May (λ (w : ℕ). w < n) y → choose (lesser f) c n y ≡ choose (lesser g) c n y
+    go true none l = refl
+    go true (some y) l = ap (λ (c : Bool). some (cond c n y)) (o n y (omega arith) (omega arith))
+    go false y l = refl
+
 -- keys that agree
 pub least-same : (f g : ℕ → ℕ) (bound n : ℕ) → ((w : ℕ) → w < n → f w ≡ g w) → leastFrom f bound n ≡ leastFrom g bound n
-unfolding leastFrom firstOf tried May choose lesser
-least-same f g bound zero h = refl
-least-same f g bound (suc n) h =
-    go (leb bound (f n)) (leastFrom f bound n) (least-below f bound n)
-    ∙ ap₂ (λ (t : Bool) (o : Option ℕ). choose (lesser g) t n o) (ap (leb bound) (h n (omega arith))) (least-same f g bound n (λ w l. h w (omega arith)))
+unfolding lesser
+least-same f g bound n h = least-like f g bound bound n (λ v w l k. ap₂ ltb (h v l) (h w k)) (λ w l. ap (leb bound) (h w l))
+
+-- what is found: the first of the least from the bound on, or nothing where all are below
+abbrev pub Chosen : (ℕ → ℕ) → ℕ → ℕ → Option ℕ → Type 0
+Chosen k b n none = (w : ℕ) → w < n → k w < b
+Chosen k b n (some y) = (y < n) × (b ≤ k y) × ((v : ℕ) → v < n → b ≤ k v → k y ≤ k v) × ((v : ℕ) → v < y → b ≤ k v → k y < k v)
+
+pub least-chosen : (k : ℕ → ℕ) (b n : ℕ) → Chosen k b n (leastFrom k b n)
+unfolding leastFrom firstOf tried choose lesser
+least-chosen k b zero = λ w l. absurd (omega arith)
+least-chosen k b (suc n) = go (lt-or (k n) b) (leastFrom k b n) (least-chosen k b n)
   where
-    go : (t : Bool) (o : Option ℕ) → May (λ (w : ℕ). w < n) o → choose (lesser f) t n o ≡ choose (lesser g) t n o
-    go true none l = refl
-    go true (some y) l = ap (λ (b : Bool). some (cond b n y)) (ap₂ ltb (h n (omega arith)) (h y (omega arith)))
-    go false o l = refl
+    at : (v : ℕ) → v < suc n → n ≤ v → k v ≡ k n
+    at v m l = let e : v ≡ n = omega arith in ap k e
+
+    -- a fact of the keys below n and of the last one
+    both : (P : ℕ → Type 0) → ((v : ℕ) → v < n → P (k v)) → P (k n) → (v : ℕ) → v < suc n → P (k v)
+    both P f g v m = one (lt-or v n)
+      where
+        one : (v < n) ⊎ (n ≤ v) → P (k v)
+        one (inl l) = f v l
+        one (inr l) = subst P (sym (at v m l)) g
+
+    go : (k n < b) ⊎ (b ≤ k n) → (o : Option ℕ) → Chosen k b n o → Chosen k b (suc n) (choose (lesser k) (leb b (k n)) n o)
+    go (inl l) none h = rw (lt-leb b (k n) l) (both (λ x. x < b) h l)
+    go (inl l) (some y) h = rw (lt-leb b (k n) l) (omega arith, h .1, both (λ x. b ≤ x → k y ≤ x) (h .2) (λ q. absurd (omega arith)), h .3)
+    go (inr l) none h =
+        rw (le-leb b (k n) l) (omega arith, l, both (λ x. b ≤ x → k n ≤ x) (λ v m q. absurd (omega (arith, h v m))) (λ q. omega arith), λ v m q. absurd (omega (arith, h v m)))
+    go (inr l) (some y) h = rw (le-leb b (k n) l) (pick (lt-or (k n) (k y)))
+      where
+        pick : (k n < k y) ⊎ (k y ≤ k n) → Chosen k b (suc n) (some (cond (ltb (k n) (k y)) n y))
+        pick (inl m) =
+            rw (lt-ltb (k n) (k y) m) (omega arith, l, both (λ x. b ≤ x → k n ≤ x) (λ v j q. omega (arith, h .2 v j q)) (λ q. omega arith), λ v j q. omega (arith, h .2 v j q))
+        pick (inr m) = rw (le-ltb (k n) (k y) m) (omega arith, h .1, both (λ x. b ≤ x → k y ≤ x) (h .2) (λ q. m), h .3)
+
+-- the same keys in another order, where no two are equal: it is found at its place there
+pub least-moved : (k : ℕ → ℕ) (b n : ℕ) (there back : ℕ → ℕ) → ((w : ℕ) → w < n → there w < n) → ((w : ℕ) → w < n → back w < n)
+    → ((w : ℕ) → w < n → back (there w) ≡ w) → ((x : ℕ) → x < n → there (back x) ≡ x) → ((x y : ℕ) → x < n → y < n → k x ≡ k y → x ≡ y)
+    → (o : Option ℕ) → leastFrom k b n ≡ o → leastFrom (λ w. k (there w)) b n ≡ mapped back o
+least-moved k b n there back t u p q i o e = go o (subst (Chosen k b n) e (least-chosen k b n)) (leastFrom (λ w. k (there w)) b n) (least-chosen (λ w. k (there w)) b n)
+  where
+    same : (x : ℕ) → x < n → k (there (back x)) ≡ k x
+    same x l = ap k (q x l)
+
+    go : (o : Option ℕ) → Chosen k b n o → (r : Option ℕ) → Chosen (λ w. k (there w)) b n r → r ≡ mapped back o
+    go none h none g = refl
+    go none h (some y) g = absurd (omega (arith, h (there y) (t y (g .0)), g .1))
+    go (some x) h none g = absurd (omega (arith, g (back x) (u x (h .0)), same x (h .0), h .1))
+    go (some x) h (some y) g =
+        let least : k x ≡ k (there y) = omega (arith, h .2 (there y) (t y (g .0)) (g .1), g .2 (back x) (u x (h .0)) (omega (arith, same x (h .0), h .1)), same x (h .0)) in
+        ap some (sym (p y (g .0)) ∙ ap back (sym (i x (there y) (h .0) (t y (g .0)) least)))
 
 pub best-within : (k : ℕ → ℕ) (n : ℕ) (o : Option ℕ) → May (λ (w : ℕ). w < n) o → n ≤ 256 → bestOf k o .setting < 256
 unfolding bestOf May

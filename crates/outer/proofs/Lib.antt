@@ -11,3 +11,6 @@ pub mod Numbers
 pub mod Parities
 pub mod Entries
 pub mod Nearest
+pub mod LeastKey
+pub mod Bytes
+pub mod Picks

@@ -7,13 +7,13 @@ use mathlib.Core.Logic.{_⊎_, inl, inr}
 use Prim.Native.Nat.{ℕ, zero, suc, _+_, _-_, _*_, _/_, _%_, _^_, _≤_, _<_}
 use native.Mathlib.Nat.{mul-zero, mul-one, two-pow-succ}
 use native.Mathlib.Omega.{arith}
-use lib.Bits.{bitXor, xor-zero-r}
+use lib.Bits.{bitXor, xor-comm, xor-zero-r}
 use lib.ListN.{length, getD, set}
 use lib.Pow.{high, shr-shr}
 use lib.Seq.{getD-set-same, getD-set-other}
 use Rattle.laws.proofs.Tests.{lt-or}
 use Rattle.outer.specs.Search.{spread}
-use Rattle.outer.proofs.Xor.{xor-swap, xor-pairs, xor-bit, xor-masks}
+use Rattle.outer.proofs.Xor.{xor-assoc, xor-swap, xor-pairs, xor-bit, xor-masks}
 
 -- by the entries up to n alone
 spread-same : (ds es : List ℕ) (n w : ℕ) → ((k : ℕ) → k ≤ n → getD es k 0 ≡ getD ds k 0) → spread es 0 n w ≡ spread ds 0 n w
@@ -32,6 +32,16 @@ spread-more ds d n w h =
     ∙ ap₂ (λ x y. bitXor x (y * (w % 2)))
     (spread-same ds (set ds (n + 1) d) n (w / 2) (λ k l. getD-set-other ds (n + 1) k d 0 (λ q. omega arith)))
     (ap (λ k. getD (set ds (n + 1) d) k 0) f ∙ getD-set-same ds (n + 1) d 0 h)
+
+-- the last direction's bit is the lowest: added to a sum, it may be added first
+pub spread-last : (ds : List ℕ) (s n w : ℕ) → 0 < n → bitXor (bitXor s (getD ds n 0 * (w % 2))) (spread ds 0 (n - 1) (w / 2)) ≡ bitXor s (spread ds 0 n w)
+unfolding spread
+spread-last ds s zero w h = absurd (omega arith)
+spread-last ds s (suc n) w h =
+    let d : ℕ = getD ds (suc n) 0 * (w % 2) in
+    let e : suc n - 1 ≡ n = omega arith in
+    let f : suc n ≡ 0 + suc n = omega arith in
+    ap (λ k. bitXor (bitXor s d) (spread ds 0 k (w / 2))) e ∙ xor-assoc s d (spread ds 0 n (w / 2)) ∙ ap (bitXor s) (xor-comm d (spread ds 0 n (w / 2)) ∙ ap (λ k. bitXor (spread ds 0 n (w / 2)) (getD ds k 0 * (w % 2))) f)
 
 -- ---- a tie
 

@@ -8,9 +8,11 @@ use native.Mathlib.Omega.{arith}
 use lib.IntN.{ℤ, pos, natAbs}
 use lib.ListN.{length, getD, take, drop, length-take, drop-of-length-le}
 use lib.Seq.{getD-drop, drop-drop}
+use mir.Facts.{toZ-ofZ}
 use Rattle.laws.specs.Lists.{All}
 use Rattle.laws.proofs.Tests.{lt-or}
 use Rattle.laws.proofs.Lists.{all-take, all-drop}
+use Rattle.laws.proofs.Signed.{back, abs-fits}
 use Rattle.polar.specs.Bits.{Bit, number}
 use Rattle.polar.specs.Soft.{cost, discrepancy}
 use Rattle.polar.specs.Layers.{part, Within}
@@ -29,16 +31,28 @@ discrepancy-number (b ∷ c) (v ∷ vs) e h =
     let high : number c ≡ (b + 2 * number c) / 2 = omega (arith, h .0) in
     ap₂ _+_ (ap (λ x. cost x v) low) (discrepancy-number c vs (omega arith) (h .1) ∙ ap (λ x. costOf x vs) high)
 
-cost-bound : (w : ℕ) (vs : List ℤ) → All (Within 1048064) vs → costOf w vs ≤ 1048064 * length vs
+pub cost-bound : (w : ℕ) (vs : List ℤ) → All (Within 1048064) vs → costOf w vs ≤ 1048064 * length vs
 unfolding costOf All
 cost-bound w [] h = omega arith
 cost-bound w (v ∷ vs) h = omega (arith, cost-le (w % 2) v, h .0, cost-bound (w / 2) vs (h .1))
 
-pub value-small : (vs : List ℤ) (i : ℕ) → All (Within 1048064) vs → natAbs (getD vs i (pos 0)) ≤ 1048064
+-- the cost of a half byte
+pub half-small : {r : ℕ} (v : ℕ) (a b c d : ℤ) → r ≡ costOf v (a ∷ b ∷ c ∷ d ∷ []) → Within 1048064 a → Within 1048064 b → Within 1048064 c → Within 1048064 d → r ≤ 4192256
+unfolding All
+half-small {r} v a b c d e ha hb hc hd = omega (arith, cost-bound v (a ∷ b ∷ c ∷ d ∷ []) (ha, (hb, (hc, (hd, tt)))))
+
+value-small : (vs : List ℤ) (i : ℕ) → All (Within 1048064) vs → natAbs (getD vs i (pos 0)) ≤ 1048064
 unfolding All
 value-small [] i h = omega arith
 value-small (v ∷ vs) zero h = h .0
 value-small (v ∷ vs) (suc i) h = value-small vs i (h .1)
+
+-- a value that was read: small, so that it reads back
+pub read-back : {r : ℤ} (l : List ℤ) (i : ℕ) → All (Within 1048064) l → r ≡ getD l i (pos 0) → (back r ≡ getD l i (pos 0)) × (natAbs (back r) ≤ 1048064)
+read-back {r} l i h e =
+    let small : natAbs (getD l i (pos 0)) ≤ 1048064 = value-small l i h in
+    let same : back r ≡ r = toZ-ofZ (abs-fits r (omega (arith, ap natAbs e))) in
+    (same ∙ e, omega (arith, ap natAbs (same ∙ e)))
 
 -- ---- four values
 
@@ -58,7 +72,7 @@ four-costs w (a ∷ b ∷ c ∷ []) = omega (arith, none (w / 2 / 2 / 2 % 2))
 four-costs w (a ∷ b ∷ c ∷ d ∷ l) = refl
 
 -- the four values from k on
-part-costs : (w k : ℕ) (vs : List ℤ) → costOf w (getD vs (k + 0) (pos 0) ∷ getD vs (k + 1) (pos 0) ∷ getD vs (k + 2) (pos 0) ∷ getD vs (k + 3) (pos 0) ∷ []) ≡ costOf w (part k 4 vs)
+pub part-costs : (w k : ℕ) (vs : List ℤ) → costOf w (getD vs (k + 0) (pos 0) ∷ getD vs (k + 1) (pos 0) ∷ getD vs (k + 2) (pos 0) ∷ getD vs (k + 3) (pos 0) ∷ []) ≡ costOf w (part k 4 vs)
 unfolding part
 part-costs w k vs = rw (← getD-drop k vs 0 (pos 0), ← getD-drop k vs 1 (pos 0), ← getD-drop k vs 2 (pos 0), ← getD-drop k vs 3 (pos 0)) (four-costs w (drop k vs))
 
@@ -74,7 +88,7 @@ third w s = let e : w / 2 / 2 % 2 ≡ w % 16 / 2 / 2 % 2 = omega arith in ap (λ
 fourth : (w : ℕ) (s : ℤ) → cost (w / 2 / 2 / 2 % 2) s ≡ cost (w % 16 / 2 / 2 / 2 % 2) s
 fourth w s = let e : w / 2 / 2 / 2 % 2 ≡ w % 16 / 2 / 2 / 2 % 2 = omega arith in ap (λ b. cost b s) e
 
-split : (w : ℕ) (l : List ℤ) → costOf w l ≡ costOf (w % 16) (take 4 l) + costOf (w / 16) (drop 4 l)
+pub split : (w : ℕ) (l : List ℤ) → costOf w l ≡ costOf (w % 16) (take 4 l) + costOf (w / 16) (drop 4 l)
 unfolding costOf
 split w [] = refl
 split w (a ∷ []) = omega (arith, first w a)
@@ -121,14 +135,20 @@ runs-more old new p vs {s0} {s1} {s2} {s3} r same made e0 e1 e2 e3 q v l k = go 
         let n : p * 4 ≡ 4 * q = omega arith in
         ap (λ m. getD new m 0) i ∙ made v k ∙ values ∙ ap (λ m. costOf v (part m 4 vs)) n
 
+-- the cost of a half byte at the four values from k on
+pub part-small : (v k : ℕ) (vs : List ℤ) → All (Within 1048064) vs → costOf v (part k 4 vs) ≤ 4192256
+unfolding part
+part-small v k vs h =
+    omega (arith, cost-bound v (take 4 (drop k vs)) (all-take (Within 1048064) 4 (drop k vs) (all-drop (Within 1048064) k vs h)), length-take 4 (drop k vs))
+
 -- its entries are small
 pub costs-small : {t : List ℕ} {runs : ℕ} {vs : List ℤ} → Costs t runs vs → All (Within 1048064) vs → Small t runs
-unfolding Small part
+unfolding Small
 costs-small {t} {runs} {vs} c h k l =
     let p : ℕ = k / 16 in
     let v : ℕ = k % 16 in
     let e : 16 * p + v ≡ k = omega arith in
-    omega (arith, ap (λ i. getD t i 0) e, c .at p v (omega arith) (omega arith), cost-bound v (take 4 (drop (4 * p) vs)) (all-take (Within 1048064) 4 (drop (4 * p) vs) (all-drop (Within 1048064) (4 * p) vs h)), length-take 4 (drop (4 * p) vs))
+    omega (arith, ap (λ i. getD t i 0) e, c .at p v (omega arith) (omega arith), part-small v (4 * p) vs h)
 
 -- ---- runs without a loop
 

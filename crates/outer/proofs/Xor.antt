@@ -20,7 +20,7 @@ assoc-below (suc n) a b c h k l =
     let g : x / 2 ≡ y / 2 = e ∙ assoc-below n (a / 2) (b / 2) (c / 2) (omega arith) (omega arith) (omega arith) ∙ sym f in
     omega (arith, g, xor-add-and a b, xor-add-and (bitXor a b) c, xor-add-and b c, xor-add-and a (bitXor b c))
 
-xor-assoc : (a b c : ℕ) → bitXor (bitXor a b) c ≡ bitXor a (bitXor b c)
+pub xor-assoc : (a b c : ℕ) → bitXor (bitXor a b) c ≡ bitXor a (bitXor b c)
 xor-assoc a b c = assoc-below (a + b + c) a b c (omega arith) (omega arith) (omega arith)
 
 pub xor-swap : (a b c : ℕ) → bitXor (bitXor a b) c ≡ bitXor (bitXor a c) b

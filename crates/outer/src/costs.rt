@@ -10,7 +10,7 @@ ghost use Rattle.outer.specs.Search.{costOf, picked, Fours, Costs, Small
 use polar::values::cost;
 
 // Value i of the n values at `at`, 0 past them.
-fn value(numbers: &[i32], at: usize, n: usize, i: usize) -> i32
+pub fn value(numbers: &[i32], at: usize, n: usize, i: usize) -> i32
     requires { ⌜ at + n ≤ length (now numbers) ⌝ }
     ensures { λ r. ⌜ r ≡ getD (part at n (now (numbers .entry))) i (pos 0) ⌝ }
 {
@@ -25,7 +25,7 @@ fn bit(v: usize) -> u8
 }
 
 // The cost of half byte v at four values.
-fn half_byte(v: usize, s0: i32, s1: i32, s2: i32, s3: i32) -> u32
+pub fn half_byte(v: usize, s0: i32, s1: i32, s2: i32, s3: i32) -> u32
     requires { ⌜ Within 1048064 s0 × Within 1048064 s1 × Within 1048064 s2 × Within 1048064 s3 ⌝ }
     ensures { λ r. ⌜ r ≡ costOf v (s0 ∷ s1 ∷ s2 ∷ s3 ∷ []) ⌝ }
 {

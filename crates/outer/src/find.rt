@@ -3,9 +3,11 @@ ghost use mathlib.Core.Path.{_≡_};
 ghost use mathlib.Core.Option.{Option};
 ghost use Prim.Native.Nat.{ℕ, _+_, _^_, _≤_, _<_};
 ghost use lib.Dec.{leb};
-ghost use Rattle.polar.specs.Layers.{part};
+ghost use lib.ListN.{length};
+ghost use Rattle.laws.specs.Lists.{All};
+ghost use Rattle.polar.specs.Layers.{part, Within};
 ghost use Rattle.machine.specs.Choice.{choose};
-ghost use Rattle.outer.specs.Search.{Fours, Small, keyOf, tableKey, lesser, leastFrom, bestOf, chosen, found, Scratch, Searchable};
+ghost use Rattle.outer.specs.Search.{Fours, Small, keyOf, tableKey, lesser, leastFrom, bestOf, chosen, found, Scratch, Walkable, Searchable};
 ghost use Rattle.codebook.specs.Book.{Book};
 ghost use Rattle.codec.specs.Ties.{Parities};
 ghost use Rattle.outer.specs.Words.{Word, nearest, nextAfter};
@@ -15,6 +17,8 @@ use crate::Candidate;
 use crate::costs::cost_of;
 use crate::costs::prepare;
 use crate::settings::fill;
+use crate::short::power;
+use crate::short::search_short;
 
 // A cost and a number as one key: the cost counts first.
 fn key(cost: u32, number: u32) -> u64
@@ -93,12 +97,29 @@ fn candidate(
     }
 }
 
-// The number of positions of a block of height j.
-fn positions(j: u32) -> usize
-    requires { ⌜ j ≤ 5 ⌝ }
-    ensures { λ r. ⌜ r ≡ 2 ^ j ⌝ }
+// The word of least key from a bound on, of a block of n positions.
+fn search_long(
+    numbers: &[i32],
+    at: usize,
+    kinds: &[u8; 512],
+    terms: &[u32; 512],
+    start: usize,
+    n: usize,
+    parities: u32,
+    bound: u64,
+    words: &mut [u32; 256],
+    sets: &mut [u32; 256],
+    sums: &mut [u32; 128],
+) -> Candidate
+    requires { ⌜ Scratch (now words) (now sets) (now sums) × Walkable (now kinds) start n × (at + n ≤ length (now numbers))
+        × All (Within 1048064) (part at n (now numbers)) ⌝ }
+    ensures { λ r. ⌜ Scratch (now (words .exit)) (now (sets .exit)) (now (sums .exit))
+        × (r ≡ found (now (kinds .entry)) (now (terms .entry)) start parities n (part at n (now (numbers .entry))) bound) ⌝ }
 {
-    1 << j
+    let count = fill(kinds, terms, start, n, parities, words, sets);
+    let runs = prepare(numbers, at, n, sums);
+    let best = least(words, count, sums, runs, bound);
+    candidate(best, words, sets, sums, runs)
 }
 
 // The word of least key from a bound on.
@@ -120,11 +141,34 @@ fn search(
     ensures { λ _. ⌜ Scratch (now (words .exit)) (now (sets .exit)) (now (sums .exit)) ⌝ }
     ensures { λ r. ⌜ r ≡ found (now (kinds .entry)) (now (terms .entry)) start parities (2 ^ j) (part at (2 ^ j) (now (numbers .entry))) bound ⌝ }
 {
-    let n = positions(j);
-    let count = fill(kinds, terms, start, n, parities, words, sets);
-    let runs = prepare(numbers, at, n, sums);
-    let best = least(words, count, sums, runs, bound);
-    candidate(best, words, sets, sums, runs)
+    let n = power(j);
+    if n <= 8 {
+        return search_short(
+            numbers,
+            at,
+            kinds,
+            terms,
+            start,
+            n,
+            parities,
+            bound,
+            words,
+            sets,
+        );
+    }
+    search_long(
+        numbers,
+        at,
+        kinds,
+        terms,
+        start,
+        n,
+        parities,
+        bound,
+        words,
+        sets,
+        sums,
+    )
 }
 
 // The nearest word of a block: of all settings of its free bits, after the given parities, the least cost, equals by the smaller number. The

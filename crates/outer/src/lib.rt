@@ -2,6 +2,7 @@
 pub mod costs;
 pub mod find;
 pub mod settings;
+pub mod short;
 
 // A word of a block: the setting of the free bits that makes it, the set of the parities after it, its cost and its number; zeros for none.
 pub struct Candidate {

@@ -47,7 +47,7 @@ fn rows() -> [u32; 32]
 }
 
 // x where the bit is 1, else 0.
-fn where_set(x: u32, bit: u32) -> u32
+pub fn where_set(x: u32, bit: u32) -> u32
     requires { ⌜ bit < 2 ⌝ }
     ensures { λ r. ⌜ r ≡ x * bit ⌝ }
 {
@@ -108,7 +108,7 @@ fn advance(
 }
 
 // The entry of setting 0 and the directions of the n indices from `start` on, after the given parities, and the number of directions.
-fn walk(
+pub fn walk(
     kinds: &[u8; 512],
     terms: &[u32; 512],
     start: usize,
@@ -155,7 +155,7 @@ fn double(table: &mut [u32; 256], count: usize, mask: u32)
 }
 
 // The entries of all settings of the free bits, by the entry of setting 0 and the directions: the last direction first. Returns their number.
-fn double_all(table: &mut [u32; 256], steps: &[u32; 9], free: usize) -> usize
+pub fn double_all(table: &mut [u32; 256], steps: &[u32; 9], free: usize) -> usize
     requires { ⌜ (length (now table) ≡ 256) × (free ≤ 8) ⌝ }
     ensures { λ r. ⌜ (length (now (table .exit)) ≡ 256) × (r ≡ 2 ^ free)
         × ((k : ℕ) → k < 2 ^ free → getD (now (table .exit)) k 0 ≡ spread (now (steps .entry)) 0 free k) ⌝ }

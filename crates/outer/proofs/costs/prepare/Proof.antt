@@ -1,17 +1,12 @@
 -- `outer::costs::prepare` meets its contract. The loop's invariant: the first p runs are there. Assumes nothing.
-use mathlib.Core.Path.{_≡_, ap, _∙_}
-use mathlib.Core.List.{List}
-use Prim.Native.Nat.{ℕ, _+_, _-_, _*_, _≤_}
+use mathlib.Core.Path.{_≡_}
+use Prim.Native.Nat.{_+_, _-_, _*_, _≤_}
 use native.Mathlib.Omega.{arith}
-use lib.IntN.{ℤ, pos, natAbs}
-use lib.ListN.{length, getD}
-use mir.Facts.{toZ-ofZ}
-use Rattle.laws.specs.Lists.{All}
-use Rattle.laws.proofs.Signed.{back, abs-fits}
-use Rattle.polar.specs.Layers.{part, Within}
+use lib.ListN.{length}
+use Rattle.polar.specs.Layers.{part}
 use Rattle.polar.proofs.Writes.{part-length}
 use Rattle.outer.specs.Search.{Costs}
-use Rattle.outer.proofs.Sums.{Runs, runs-more, costs-small, value-small}
+use Rattle.outer.proofs.Sums.{Runs, runs-more, costs-small, read-back}
 use Rattle.outer.proofs.costs.prepare.Statement.{statement}
 use Rattle.outer.proofs.costs.prepare.Tie as tie
 
@@ -20,13 +15,6 @@ Inv-loop numbers at n sums₀ runs p₀ sums p = (p ≤ runs) × (length sums �
 
 abbrev μ-loop : tie.MeasureT-loop
 μ-loop numbers at n sums₀ runs p₀ sums p = runs - p
-
--- a value that was read: small, so that it reads back
-read : {r : ℤ} (l : List ℤ) (i : ℕ) → All (Within 1048064) l → r ≡ getD l i (pos 0) → (back r ≡ getD l i (pos 0)) × (natAbs (back r) ≤ 1048064)
-read {r} l i h e =
-    let small : natAbs (getD l i (pos 0)) ≤ 1048064 = value-small l i h in
-    let same : back r ≡ r = toZ-ofZ (abs-fits r (omega (arith, ap natAbs e))) in
-    (same ∙ e, omega (arith, ap natAbs (same ∙ e)))
 
 run-count-requires : tie.Need-run-count-requires Inv-loop μ-loop
 run-count-requires c κs = c .pre .2
@@ -70,10 +58,10 @@ run-requires c κs =
     let i = x .p * 4 in
     let h = s .pre .3 in (
       (
-        read l i h (c .before .before .before .before .value .ensures) .1,
-        read l (i + 1) h (c .before .before .before .value2 .ensures) .1,
-        read l (i + 2) h (c .before .before .value3 .ensures) .1,
-        read l (i + 3) h (c .before .value4 .ensures) .1,
+        read-back l i h (c .before .before .before .before .value .ensures) .1,
+        read-back l (i + 1) h (c .before .before .before .value2 .ensures) .1,
+        read-back l (i + 2) h (c .before .before .value3 .ensures) .1,
+        read-back l (i + 3) h (c .before .value4 .ensures) .1,
       ),
       x .inv .1,
       omega arith,
@@ -97,10 +85,10 @@ loop-again c =
       omega arith,
       r .0,
       runs-more (x .sums) (c .run .last .0) (x .p) l (x .inv .2) (r .1) (r .2)
-          (read l i h (c .before .before .before .before .before .value .ensures) .0)
-          (read l (i + 1) h (c .before .before .before .before .value2 .ensures) .0)
-          (read l (i + 2) h (c .before .before .before .value3 .ensures) .0)
-          (read l (i + 3) h (c .before .before .value4 .ensures) .0),
+          (read-back l i h (c .before .before .before .before .before .value .ensures) .0)
+          (read-back l (i + 1) h (c .before .before .before .before .value2 .ensures) .0)
+          (read-back l (i + 2) h (c .before .before .before .value3 .ensures) .0)
+          (read-back l (i + 3) h (c .before .before .value4 .ensures) .0),
     )
 
 returns : tie.Need-returns Inv-loop μ-loop

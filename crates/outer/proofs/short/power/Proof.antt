@@ -1,12 +1,12 @@
--- `outer::find::positions` meets its contract: the shift does not wrap. Assumes nothing.
+-- `outer::short::power` meets its contract: the shift does not wrap. Assumes nothing.
 use mathlib.Core.Path.{_∙_}
 use Prim.Native.Nat.{_^_}
 use native.Mathlib.Nat.{one-mul}
 use native.Mathlib.Omega.{arith}
 use lib.Pow.{shl-exact}
 use borrow.Author.Needs.{needs}
-use Rattle.outer.proofs.find.positions.Statement.{statement}
-use Rattle.outer.proofs.find.positions.Tie as tie
+use Rattle.outer.proofs.short.power.Statement.{statement}
+use Rattle.outer.proofs.short.power.Tie as tie
 
 shl-result : tie.Need-shl-result
 shl-result c = search needs
@@ -14,5 +14,5 @@ shl-result c = search needs
 returns : tie.Need-returns
 returns c = shl-exact {a = 1} 1 (c .args .j) 64 (omega arith) (omega arith) ∙ one-mul (2 ^ c .args .j)
 
-pub positions-spec : {M : Type 1} → statement M
-positions-spec = tie.close (tie.spec shl-result returns)
+pub power-spec : {M : Type 1} → statement M
+power-spec = tie.close (tie.spec shl-result returns)
