@@ -1,6 +1,6 @@
 -- The search's answer is the word that specs/Words.antt defines: entries are words, keys order settings as `nearer` orders their words, and a
 -- bound is a test. Assumes nothing.
-use mathlib.Core.Path.{_≡_, refl, sym, ap, ap₂, _∙_}
+use mathlib.Core.Path.{_≡_, refl, sym, ap, ap₂, _∙_, subst}
 use mathlib.Core.Bool.{Bool, true, _&&_, _||_}
 use mathlib.Core.List.{List}
 use mathlib.Core.Option.{Option, none, some}
@@ -20,9 +20,10 @@ use Rattle.polar.specs.Soft.{discrepancy}
 use Rattle.polar.proofs.Transform.{transform-length, transform-bits}
 use Rattle.codebook.specs.Book.{Book, freeCount, kindsOf}
 use Rattle.codec.specs.Ties.{Parities, fillBlock}
+use Rattle.outer.specs.declared.Candidate.{Candidate}
 use Rattle.outer.specs.Words.{Word, wordOf, nearer, nearestWith, nearest, nextAfter}
 use Rattle.outer.specs.Blocks.{paritySet, Bits, BlockTabled, candidateOf}
-use Rattle.outer.specs.Search.{Entry, entry, costOf, keyOf, tried, lesser, leastFrom, answer, keyAt, found}
+use Rattle.outer.specs.Search.{Entry, entry, costOf, keyOf, tried, lesser, leastFrom, answer, keyAt, found, foundPair}
 use Rattle.outer.proofs.Words.{first-pair}
 use Rattle.outer.proofs.Numbers.{number-lt}
 use Rattle.outer.proofs.Sums.{discrepancy-number}
@@ -113,12 +114,18 @@ module _ (B : Book) (b : ℕ) (kinds terms : List ℕ) (start j : ℕ) (o : Bloc
   answered (some w) none p = absurd p
   answered (some w) (some y) p = rw (entry-cost w, entry-set w, entry-word w) (ap (λ (z : Word). candidateOf B (some z)) (sym p))
 
+  -- the setting found, and the word
+  paired : (test : Word → Bool) (bound : ℕ) → ((w : ℕ) → leb bound (keyAt e vs w) ≡ test (W w))
+      → MayPair Same (leastFrom (keyAt e vs) bound (2 ^ freeCount (kindsOf B b))) (nearestWith test B vs x b)
+  unfolding leastFrom nearestWith tried Same W
+  paired test bound t =
+      first-pair Same (lesser (keyAt e vs)) nearer (λ w. leb bound (keyAt e vs w)) test order-same (λ w y p. t w ∙ ap test (sym p)) tried W (λ w. refl) (2 ^ freeCount (kindsOf B b))
+
   found-with : (test : Word → Bool) (bound : ℕ) → ((w : ℕ) → leb bound (keyAt e vs w) ≡ test (W w)) → found kinds terms start (paritySet B x) (2 ^ j) vs bound ≡ candidateOf B (nearestWith test B vs x b)
-  unfolding found leastFrom nearestWith tried Same e W
+  unfolding found e
   found-with test bound t =
       ap (λ n. answer e vs (leastFrom (keyAt e vs) bound n)) (block-settings B b kinds terms start j o x hx)
-      ∙ answered (leastFrom (keyAt e vs) bound (2 ^ freeCount (kindsOf B b))) (nearestWith test B vs x b)
-      (first-pair Same (lesser (keyAt e vs)) nearer (λ w. leb bound (keyAt e vs w)) test order-same (λ w y p. t w ∙ ap test (sym p)) tried W (λ w. refl) (2 ^ freeCount (kindsOf B b)))
+      ∙ answered (leastFrom (keyAt e vs) bound (2 ^ freeCount (kindsOf B b))) (nearestWith test B vs x b) (paired test bound t)
 
   pub found-nearest : found kinds terms start (paritySet B x) (2 ^ j) vs 0 ≡ candidateOf B (nearest B vs x b)
   unfolding nearest
@@ -129,3 +136,21 @@ module _ (B : Book) (b : ℕ) (kinds terms : List ℕ) (start j : ℕ) (o : Bloc
   found-next own l =
       found-with (nearer own) (keyOf (own .cost) (own .number) + 1)
       (λ w. above (keyOf (own .cost) (own .number)) (keyAt e vs w) ∙ ap (ltb (keyOf (own .cost) (own .number))) (entry-key w) ∙ key-order (own .cost) (own .number) (W w .cost) (W w .number) l (word-lt w))
+
+  -- the number of the nearest word
+  nearest-lt : (w : Word) → nearest B vs x b ≡ some w → w .number < 4294967296
+  unfolding nearest Same MayPair
+  nearest-lt w q = go (leastFrom (keyAt e vs) 0 (2 ^ freeCount (kindsOf B b))) (subst (MayPair Same (leastFrom (keyAt e vs) 0 (2 ^ freeCount (kindsOf B b)))) q (paired (λ _. true) 0 every))
+    where
+      every : (v : ℕ) → leb 0 (keyAt e vs v) ≡ true
+      every v = le-leb 0 (keyAt e vs v) (omega arith)
+
+      go : (s : Option ℕ) → MayPair Same s (some w) → w .number < 4294967296
+      go none p = absurd p
+      go (some v) p = omega (arith, word-lt v, ap (λ (y : Word). y .number) p)
+
+  pub found-second : (w : Word) → nearest B vs x b ≡ some w → foundPair kinds terms start (paritySet B x) (2 ^ j) vs .second ≡ candidateOf B (nextAfter w B vs x b)
+  unfolding foundPair candidateOf
+  found-second w q =
+      let first : found kinds terms start (paritySet B x) (2 ^ j) vs 0 ≡ candidateOf B (some w) = found-nearest ∙ ap (candidateOf B) q in
+      ap (λ (c : Candidate). found kinds terms start (paritySet B x) (2 ^ j) vs (keyOf (c .cost) (c .number) + 1)) first ∙ found-next w (nearest-lt w q)

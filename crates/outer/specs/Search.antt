@@ -18,6 +18,7 @@ use Rattle.polar.specs.Layers.{part, Within}
 use Rattle.machine.specs.Choice.{firstOf}
 use Rattle.outer.specs.declared.Best.{Best}
 use Rattle.outer.specs.declared.Candidate.{Candidate}
+use Rattle.outer.specs.declared.Pair.{Pair}
 
 -- ---- the words and parities of all settings
 
@@ -170,3 +171,9 @@ unfoldable pub found : List ℕ → List ℕ → ℕ → ℕ → ℕ → List �
 found kinds terms start p n vs bound =
     let e = entry kinds terms start p n in
     answer e vs (leastFrom (keyAt e vs) bound (settings kinds start n))
+
+-- the first of all words, and the first after it
+unfoldable pub foundPair : List ℕ → List ℕ → ℕ → ℕ → ℕ → List ℤ → Pair
+foundPair kinds terms start p n vs =
+    let c = found kinds terms start p n vs 0 in
+    record { first = c; second = found kinds terms start p n vs (keyOf (c .cost) (c .number) + 1) }

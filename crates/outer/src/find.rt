@@ -1,22 +1,26 @@
 // The nearest word of a block, and the next after one: the least key, cost before number, among all settings.
 ghost use mathlib.Core.Path.{_≡_};
-ghost use mathlib.Core.Option.{Option};
+ghost use mathlib.Core.List.{List};
+ghost use mathlib.Core.Option.{Option, some};
 ghost use Prim.Native.Nat.{ℕ, _+_, _^_, _≤_, _<_};
 ghost use lib.Dec.{leb};
+ghost use lib.IntN.{ℤ};
 ghost use lib.ListN.{length};
 ghost use Rattle.laws.specs.Lists.{All};
 ghost use Rattle.polar.specs.Layers.{part, Within};
 ghost use Rattle.machine.specs.Choice.{choose};
-ghost use Rattle.outer.specs.Search.{Fours, Small, keyOf, tableKey, lesser, leastFrom, bestOf, chosen, found, Scratch, Walkable, Searchable};
+ghost use Rattle.outer.specs.Search.{Entry, Holds, Fours, Costs, Small, keyOf, keyAt, tableKey, lesser, leastFrom, bestOf, chosen, answer, found, foundPair, Scratch, Walkable, Searchable};
 ghost use Rattle.codebook.specs.Book.{Book};
 ghost use Rattle.codec.specs.Ties.{Parities};
 ghost use Rattle.outer.specs.Words.{Word, nearest, nextAfter};
 ghost use Rattle.outer.specs.Blocks.{paritySet, Bits, BlockTabled, candidateOf};
 use crate::Best;
 use crate::Candidate;
+use crate::Pair;
 use crate::costs::cost_of;
 use crate::costs::prepare;
 use crate::settings::fill;
+use crate::short::pair_short;
 use crate::short::power;
 use crate::short::search_short;
 
@@ -25,6 +29,14 @@ fn key(cost: u32, number: u32) -> u64
     ensures { λ r. ⌜ r ≡ keyOf cost number ⌝ }
 {
     (cost as u64) * 4294967296 + number as u64
+}
+
+// The least bound above the key of a cost and a number.
+pub fn after(cost: u32, number: u32) -> u64
+    requires { ⌜ cost < 4294967295 ⌝ }
+    ensures { λ r. ⌜ r ≡ keyOf cost number + 1 ⌝ }
+{
+    key(cost, number) + 1
 }
 
 // The lesser of the best so far and a key that is not below the bound, the earlier of equals.
@@ -97,6 +109,23 @@ fn candidate(
     }
 }
 
+// The word of least key from a bound on, by the tables.
+fn pick_long(
+    words: &[u32; 256],
+    sets: &[u32; 256],
+    count: usize,
+    sums: &[u32; 128],
+    runs: usize,
+    bound: u64,
+) -> Candidate
+    requires { ⌜ (count ≤ 256) × Fours runs × Small (now sums) runs ⌝ }
+    ensures { λ r. ⌜ ((e : ℕ → Entry) (vs : List ℤ) → Holds (now (words .entry)) (now (sets .entry)) count e → Costs (now (sums .entry)) runs vs
+        → r ≡ answer e vs (leastFrom (keyAt e vs) bound count)) ⌝ }
+{
+    let best = least(words, count, sums, runs, bound);
+    candidate(best, words, sets, sums, runs)
+}
+
 // The word of least key from a bound on, of a block of n positions.
 fn search_long(
     numbers: &[i32],
@@ -118,8 +147,39 @@ fn search_long(
 {
     let count = fill(kinds, terms, start, n, parities, words, sets);
     let runs = prepare(numbers, at, n, sums);
-    let best = least(words, count, sums, runs, bound);
-    candidate(best, words, sets, sums, runs)
+    pick_long(words, sets, count, sums, runs, bound)
+}
+
+// The word of least key of a block of n positions, and the one of least key after it.
+fn pair_long(
+    numbers: &[i32],
+    at: usize,
+    kinds: &[u8; 512],
+    terms: &[u32; 512],
+    start: usize,
+    n: usize,
+    parities: u32,
+    words: &mut [u32; 256],
+    sets: &mut [u32; 256],
+    sums: &mut [u32; 128],
+) -> Pair
+    requires { ⌜ Scratch (now words) (now sets) (now sums) × Walkable (now kinds) start n × (at + n ≤ length (now numbers))
+        × All (Within 1048064) (part at n (now numbers)) ⌝ }
+    ensures { λ r. ⌜ Scratch (now (words .exit)) (now (sets .exit)) (now (sums .exit))
+        × (r ≡ foundPair (now (kinds .entry)) (now (terms .entry)) start parities n (part at n (now (numbers .entry)))) ⌝ }
+{
+    let count = fill(kinds, terms, start, n, parities, words, sets);
+    let runs = prepare(numbers, at, n, sums);
+    let first = pick_long(words, sets, count, sums, runs, 0);
+    let second = pick_long(
+        words,
+        sets,
+        count,
+        sums,
+        runs,
+        after(first.cost, first.number),
+    );
+    Pair { first, second }
 }
 
 // The word of least key from a bound on.
@@ -206,6 +266,78 @@ pub fn nearest(
     )
 }
 
+// The word of least key, and the one of least key after it.
+fn search_pair(
+    numbers: &[i32],
+    at: usize,
+    kinds: &[u8; 512],
+    terms: &[u32; 512],
+    start: usize,
+    j: u32,
+    parities: u32,
+    words: &mut [u32; 256],
+    sets: &mut [u32; 256],
+    sums: &mut [u32; 128],
+) -> Pair
+    requires { ⌜ Searchable (now numbers) at (now kinds) start j ⌝ }
+    requires { ⌜ Scratch (now words) (now sets) (now sums) ⌝ }
+    ensures { λ _. ⌜ Scratch (now (words .exit)) (now (sets .exit)) (now (sums .exit)) ⌝ }
+    ensures { λ r. ⌜ r ≡ foundPair (now (kinds .entry)) (now (terms .entry)) start parities (2 ^ j) (part at (2 ^ j) (now (numbers .entry))) ⌝ }
+{
+    let n = power(j);
+    if n <= 8 {
+        return pair_short(numbers, at, kinds, terms, start, n, parities, words, sets);
+    }
+    pair_long(
+        numbers,
+        at,
+        kinds,
+        terms,
+        start,
+        n,
+        parities,
+        words,
+        sets,
+        sums,
+    )
+}
+
+// The nearest word of a block, and the next after it, from one filling of the tables.
+pub fn nearest_pair(
+    numbers: &[i32],
+    at: usize,
+    kinds: &[u8; 512],
+    terms: &[u32; 512],
+    start: usize,
+    j: u32,
+    parities: u32,
+    words: &mut [u32; 256],
+    sets: &mut [u32; 256],
+    sums: &mut [u32; 128],
+) -> Pair
+    requires { ⌜ Searchable (now numbers) at (now kinds) start j ⌝ }
+    requires { ⌜ Scratch (now words) (now sets) (now sums) ⌝ }
+    ensures { λ _. ⌜ Scratch (now (words .exit)) (now (sets .exit)) (now (sums .exit)) ⌝ }
+    ensures { λ r. ⌜ ((B : Book) (b : ℕ) (x : Parities) → BlockTabled B b (now (kinds .entry)) (now (terms .entry)) start j
+        → Bits x → parities ≡ paritySet B x
+        → (r .first ≡ candidateOf B (nearest B (part at (2 ^ j) (now (numbers .entry))) x b))
+        × ((w : Word) → nearest B (part at (2 ^ j) (now (numbers .entry))) x b ≡ some w
+        → r .second ≡ candidateOf B (nextAfter w B (part at (2 ^ j) (now (numbers .entry))) x b))) ⌝ }
+{
+    search_pair(
+        numbers,
+        at,
+        kinds,
+        terms,
+        start,
+        j,
+        parities,
+        words,
+        sets,
+        sums,
+    )
+}
+
 // The next word of a block after the one with this cost and number.
 pub fn next_after(
     numbers: &[i32],
@@ -237,7 +369,7 @@ pub fn next_after(
         start,
         j,
         parities,
-        key(cost, number) + 1,
+        after(cost, number),
         words,
         sets,
         sums,

@@ -19,3 +19,9 @@ pub struct Best {
     pub key: u64,
     pub setting: usize,
 }
+
+// The nearest word of a block and the next after it.
+pub struct Pair {
+    pub first: Candidate,
+    pub second: Candidate,
+}

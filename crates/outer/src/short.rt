@@ -7,11 +7,13 @@ ghost use lib.IntN.{ℤ};
 ghost use lib.ListN.{length, getD};
 ghost use Rattle.laws.specs.Lists.{All};
 ghost use Rattle.polar.specs.Layers.{part, Within};
-ghost use Rattle.outer.specs.Search.{Entry, settings, entry, spread, costOf, keyOf, keyAt, leastFrom, answer, found, Walkable};
+ghost use Rattle.outer.specs.Search.{Entry, settings, entry, spread, costOf, keyOf, keyAt, leastFrom, answer, found, foundPair, Walkable};
 ghost use Rattle.outer.specs.Short.{kept, leastKey, byteKey, Halves, backRows, Keyed};
 use crate::Candidate;
+use crate::Pair;
 use crate::costs::half_byte;
 use crate::costs::value;
+use crate::find::after;
 use crate::settings::double_all;
 use crate::settings::walk;
 use crate::settings::where_set;
@@ -310,4 +312,39 @@ pub fn search_short(
         &mut steps,
     );
     pick_short(words, halves, &steps, free, bound)
+}
+
+// The word of least key of a block of n positions, and the one of least key after it.
+pub fn pair_short(
+    numbers: &[i32],
+    at: usize,
+    kinds: &[u8; 512],
+    terms: &[u32; 512],
+    start: usize,
+    n: usize,
+    parities: u32,
+    words: &mut [u32; 256],
+    halves: &mut [u32; 256],
+) -> Pair
+    requires { ⌜ (length (now words) ≡ 256) × (length (now halves) ≡ 256) × Walkable (now kinds) start n × (n ≤ 8)
+        × (at + n ≤ length (now numbers)) × All (Within 1048064) (part at n (now numbers)) ⌝ }
+    ensures { λ r. ⌜ (length (now (words .exit)) ≡ 256) × (length (now (halves .exit)) ≡ 256)
+        × (r ≡ foundPair (now (kinds .entry)) (now (terms .entry)) start parities n (part at n (now (numbers .entry)))) ⌝ }
+{
+    let mut steps: [u32; 9] = [0; 9];
+    let free = fill_short(
+        numbers,
+        at,
+        kinds,
+        terms,
+        start,
+        n,
+        parities,
+        words,
+        halves,
+        &mut steps,
+    );
+    let first = pick_short(words, halves, &steps, free, 0);
+    let second = pick_short(words, halves, &steps, free, after(first.cost, first.number));
+    Pair { first, second }
 }

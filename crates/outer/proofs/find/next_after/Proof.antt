@@ -10,12 +10,8 @@ use Rattle.outer.proofs.Nearest.{found-next}
 use Rattle.outer.proofs.find.next_after.Statement.{statement}
 use Rattle.outer.proofs.find.next_after.Tie as tie
 
-key-requires : tie.Need-key-requires
-key-requires c κs = search needs
-
-add-search : tie.Need-add-search
-unfolding keyOf
-add-search c = omega (arith, c .key .ensures, c .before .fits .number)
+after-requires : tie.Need-after-requires
+after-requires c κs = search needs
 
 search-requires : tie.Need-search-requires
 search-requires c κs = search needs
@@ -28,9 +24,9 @@ returns c =
       c .search .ensures .0,
       λ B b x own o h e p q.
           c .search .ensures .1
-          ∙ ap₂ (λ m n. found (a .kinds .now) (a .terms .now) (a .start) m (2 ^ a .j) l (n + 1)) e (c .before .before .before .before .key .ensures ∙ ap₂ keyOf (sym p) (sym q))
+          ∙ ap₂ (λ m n. found (a .kinds .now) (a .terms .now) (a .start) m (2 ^ a .j) l n) e (c .before .before .before .before .after .ensures ∙ ap₂ (λ k n. keyOf k n + 1) (sym p) (sym q))
           ∙ found-next B b (a .kinds .now) (a .terms .now) (a .start) (a .j) o x h l (part-length (a .at) (2 ^ a .j) (a .numbers .now) (s .pre .0 .within)) own (omega (arith, s .fits .number)),
     )
 
 pub next-after-spec : {M : Type 1} → statement M
-next-after-spec = tie.close (tie.spec key-requires add-search search-requires returns)
+next-after-spec = tie.close (tie.spec after-requires search-requires returns)

@@ -1,0 +1,57 @@
+-- `outer::short::pair_short` meets its contract, by the tables and what is picked from them twice. Assumes nothing.
+use mathlib.Core.Path.{_≡_, ap, _∙_}
+use Prim.Native.Nat.{_≤_}
+use native.Mathlib.Omega.{arith}
+use lib.ListN.{length}
+use borrow.Author.Needs.{needs}
+use Rattle.polar.specs.Layers.{part}
+use Rattle.polar.proofs.Writes.{part-length}
+use Rattle.outer.specs.Search.{entry, leastFrom, answer, keyAt, found}
+use Rattle.outer.proofs.Found.{found-cost, pair-found}
+use Rattle.outer.proofs.short.pair_short.Statement.{statement}
+use Rattle.outer.proofs.short.pair_short.Tie as tie
+
+fill-short-requires : tie.Need-fill-short-requires
+fill-short-requires c κs = search needs
+
+pick-short-requires : tie.Need-pick-short-requires
+pick-short-requires c κs = search needs
+
+after-requires : tie.Need-after-requires
+unfolding found
+after-requires c κs =
+    let s = c .before .before .before .before .before .before .before .before .before .before .before in
+    let a = s .args in
+    let f = c .before .before .before .before .before .before .before .fill-short in
+    let l = part (a .at) (a .n) (a .numbers .now) in
+    let x = entry (a .kinds .now) (a .terms .now) (a .start) (a .parities) (a .n) in
+    let size : length l ≤ 32 = omega (arith, part-length (a .at) (a .n) (a .numbers .now) (s .pre .4), s .pre .3) in
+    let g = c .before .before .before .pick-short in
+    let e : g .result ≡ found (a .kinds .now) (a .terms .now) (a .start) (a .parities) (a .n) l 0 = g .ensures x l (s .pre .5) (f .ensures .3) ∙ ap (λ m. answer x l (leastFrom (keyAt x l) 0 m)) (f .ensures .2) in
+    omega (arith, ap (λ y. y .cost) e, found-cost (a .kinds .now) (a .terms .now) (a .start) (a .parities) (a .n) l 0 (s .pre .5) size)
+
+pick-short-requires-2 : tie.Need-pick-short-requires-2
+pick-short-requires-2 c κs = search needs
+
+returns : tie.Need-returns
+unfolding found
+returns c =
+    let s = c .before .before .before .before .before .before .before .before .before .before .before .before .before in
+    let a = s .args in
+    let f = c .before .before .before .before .before .before .before .before .before .fill-short in
+    let l = part (a .at) (a .n) (a .numbers .now) in
+    let x = entry (a .kinds .now) (a .terms .now) (a .start) (a .parities) (a .n) in
+    let g = c .before .before .before .before .before .pick-short in
+    let t = c .before .after in (
+      f .ensures .0,
+      f .ensures .1,
+      pair-found (a .kinds .now) (a .terms .now) (a .start) (a .parities) (a .n) l (g .result) (c .pick-short2 .result) (t .result)
+          (g .ensures x l (s .pre .5) (f .ensures .3) ∙ ap (λ m. answer x l (leastFrom (keyAt x l) 0 m)) (f .ensures .2))
+          (t .ensures)
+          (c .pick-short2 .ensures x l (s .pre .5) (f .ensures .3) ∙ ap (λ m. answer x l (leastFrom (keyAt x l) (t .result) m)) (f .ensures .2)),
+    )
+
+pub pair-short-spec : {M : Type 1} → statement M
+pair-short-spec =
+    tie.close
+    (tie.spec fill-short-requires pick-short-requires after-requires pick-short-requires-2 returns)
