@@ -92,38 +92,6 @@ cast-outrun c = search needs
 abbrev thirded : tie.After-blocks-of → tie.After-third
 thirded c = c .before .before .before .before .before .before .before .before .before
 
-outrun-requires : tie.Need-outrun-requires
-unfolding memory
-outrun-requires c κs =
-    let u = thirded c in
-    let t = seconded u in
-    let s = start t in
-    let a = s .args in
-    let o = own s in
-    let l = u .third .ensures .0 in (
-      (l .0 .sizes, l .1, t .second .ensures .0 .2, s .pre .0 .3, l .0 .deep),
-      (
-        (
-          l .0 .many,
-          t .second .ensures .1 .0 .2,
-          omega (arith, c .blocks-of .ensures, extract-blocks o),
-          s .pre .1 .1 .0 (c .blocks-of .result),
-          omega (arith, t .second .ensures .1 .0 .1, s .pre .1 .0 .5),
-        ),
-        (
-          u .third .last .1 .1 .1 .0,
-          u .third .last .1 .1 .1 .1 .0,
-          extract-queued o (a .t .next) (a .t .crowded) (copied t o) (moved u o),
-        ),
-      ),
-    )
-
-same-length : tie.Need-same-length
-same-length c = search needs
-
-same-length-2 : tie.Need-same-length-2
-same-length-2 c = search needs
-
 returns : tie.Need-returns
 unfolding memory
 returns c =
@@ -157,6 +125,38 @@ returns c =
             (k .0, f .0 .4 ∙ k .1, f .0 .3 ∙ k .2, f .0 .6 ∙ k .3, omega (arith, k .4, t .second .ensures .1 .0 .1), k .5),
       ),
     )
+
+outrun-requires : tie.Need-outrun-requires
+unfolding memory
+outrun-requires c κs =
+    let u = thirded c in
+    let t = seconded u in
+    let s = start t in
+    let a = s .args in
+    let o = own s in
+    let l = u .third .ensures .0 in (
+      (l .0 .sizes, l .1, t .second .ensures .0 .2, s .pre .0 .3, l .0 .deep),
+      (
+        (
+          l .0 .many,
+          t .second .ensures .1 .0 .2,
+          omega (arith, c .blocks-of .ensures, extract-blocks o),
+          s .pre .1 .1 .0 (c .blocks-of .result),
+          omega (arith, t .second .ensures .1 .0 .1, s .pre .1 .0 .5),
+        ),
+        (
+          u .third .last .1 .1 .1 .0,
+          u .third .last .1 .1 .1 .1 .0,
+          extract-queued o (a .t .next) (a .t .crowded) (copied t o) (moved u o),
+        ),
+      ),
+    )
+
+same-length : tie.Need-same-length
+same-length c = search needs
+
+same-length-2 : tie.Need-same-length-2
+same-length-2 c = search needs
 
 pub extract-spec : {M : Type 1} → statement M
 extract-spec =
