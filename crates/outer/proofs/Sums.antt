@@ -157,10 +157,6 @@ pub entry-small : (t : List ℕ) (n p w r : ℕ) → Small t n → p < n → r �
 unfolding Small
 entry-small t n p w r s h e = omega (arith, s (16 * p + w % 16) (omega arith))
 
-pub picked-one : (t : List ℕ) (w : ℕ) → picked t 0 1 w ≡ getD t (16 * 0 + w % 16) 0
-unfolding picked
-picked-one t w = omega arith
-
 pub picked-four : (t : List ℕ) (p w : ℕ) → picked t p 4 w
     ≡ getD t (16 * p + w % 16) 0 + getD t (16 * (p + 1) + w / 16 % 16) 0 + getD t (16 * (p + 2) + w / 16 / 16 % 16) 0 + getD t (16 * (p + 3) + w / 16 / 16 / 16 % 16) 0
 unfolding picked

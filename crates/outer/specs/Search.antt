@@ -105,11 +105,11 @@ unfoldable pub picked : List ℕ → ℕ → ℕ → ℕ → ℕ
 picked t p zero w = 0
 picked t p (suc k) w = getD t (16 * p + w % 16) 0 + picked t (suc p) k (w / 16)
 
--- a table has one run, 4 or 8
+-- a table has 4 runs or 8
 pub record Fours (runs : ℕ) : Type 0 where
   pub some : 0 < runs
   pub few : runs ≤ 8
-  pub fours : 1 < runs → runs % 4 ≡ 0
+  pub fours : runs % 4 ≡ 0
 
 -- a table has the costs of all half bytes at these values, in so many runs
 pub record Costs (t : List ℕ) (runs : ℕ) (vs : List ℤ) : Type 0 where

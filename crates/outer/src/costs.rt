@@ -45,14 +45,11 @@ fn run(sums: &mut [u32; 128], to: usize, s0: i32, s1: i32, s2: i32, s3: i32)
     }
 }
 
-// The number of runs for n values: one, 4 or 8.
+// The number of runs for n values: 4 or 8.
 fn run_count(n: usize) -> usize
     requires { ⌜ n ≤ 32 ⌝ }
     ensures { λ r. ⌜ Fours r × (n ≤ 4 * r) ⌝ }
 {
-    if n <= 4 {
-        return 1;
-    }
     if n <= 16 {
         return 4;
     }
@@ -102,9 +99,6 @@ pub fn cost_of(sums: &[u32; 128], runs: usize, word: u32) -> u32
     requires { ⌜ Fours runs × Small (now sums) runs ⌝ }
     ensures { λ r. ⌜ (r ≡ picked (now (sums .entry)) 0 runs word) × (r ≤ 33538048) ⌝ }
 {
-    if runs == 1 {
-        return pick(sums, 0, word);
-    }
     let low = four(sums, 0, word);
     if runs == 4 {
         return low;
