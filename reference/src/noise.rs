@@ -26,6 +26,17 @@ pub struct Setup {
     pub d: usize,
 }
 
+/// The codes and settings that are timed.
+pub fn setups() -> [Setup; 4] {
+    let setup = |n, k, ties, l, d| Setup { n, k, ties, l, d };
+    [
+        setup(16, 10, 3, 4, 8),
+        setup(64, 32, 12, 8, 32),
+        setup(256, 128, 32, 32, 128),
+        setup(512, 256, 32, 32, 256),
+    ]
+}
+
 /// The k most reliable indices.
 fn reliable(n: usize, k: usize) -> Vec<bool> {
     let beta = 2f64.powf(0.25);

@@ -10,7 +10,7 @@ use reference::answer::{Input, Lent, Reader};
 use reference::book;
 use reference::calls::{walk_size, workspace_size, Fast};
 use reference::fast::Workspace;
-use reference::noise::{make_book, receive, Channel, Setup, INPUTS};
+use reference::noise::{make_book, receive, setups, Channel, Setup, INPUTS};
 use reference::plan::Plan;
 use reference::settings::Raw;
 use std::time::Instant;
@@ -253,14 +253,7 @@ fn main() {
     let rounds = rounds.unwrap_or(15);
     println!("| code | V | L | D | dB | extractions | proved run, ns each | reference, wide | reference, narrow | to narrow | proved whole, ns | reference whole | to it |");
     println!("|---|---|---|---|---|---|---|---|---|---|---|---|---|");
-    let setup = |n, k, ties, l, d| Setup { n, k, ties, l, d };
-    let setups = [
-        setup(16, 10, 3, 4, 8),
-        setup(64, 32, 12, 8, 32),
-        setup(256, 128, 32, 32, 128),
-        setup(512, 256, 32, 32, 256),
-    ];
-    for setup in &setups {
+    for setup in &setups() {
         for decibel in [1.5, 2.5, 4.0] {
             beside(setup, decibel, rounds);
         }

@@ -5,7 +5,7 @@ use reference::answer::{Input, Lent, Reader};
 use reference::book::{self, Book};
 use reference::calls::{walk_size, workspace_size, Fast};
 use reference::fast::Workspace;
-use reference::noise::{make_book, receive, Channel, Setup, INPUTS};
+use reference::noise::{make_book, receive, setups, Channel, Setup, INPUTS};
 use reference::plan::Plan;
 use reference::settings::Raw;
 use std::time::Instant;
@@ -102,15 +102,8 @@ fn main() {
         "no"
     };
     println!("wide lanes: {lanes}");
-    let setup = |n, k, ties, l, d| Setup { n, k, ties, l, d };
-    let setups = [
-        setup(16, 10, 3, 4, 8),
-        setup(64, 32, 12, 8, 32),
-        setup(256, 128, 32, 32, 128),
-        setup(512, 256, 32, 32, 256),
-    ];
     let only: Option<usize> = std::env::args().nth(2).and_then(|n| n.parse().ok());
-    for setup in setups.iter().filter(|s| only.is_none_or(|n| s.n == n)) {
+    for setup in setups().iter().filter(|s| only.is_none_or(|n| s.n == n)) {
         for decibel in [1.5, 2.5, 4.0] {
             bench(setup, decibel, seconds);
         }
