@@ -58,12 +58,6 @@ module _ {A : Type 0} {m N : ℕ} (l : List A) (f : ℕ → ℕ → List A) (c :
         (⊎-elim (λ o. inl (omega arith)) (λ o. inr (omega arith)) (spots-apart g′ d′ g d n))
         ∙ c k j g′ d′)
 
-    -- a write inside the cells of an array
-    pub parts-frame : {l′ : List A} (at : ℕ) (x : List A) → l′ ≡ overAt at x l → spot m i h ≤ at → at + length x ≤ spot m i h + 2 ^ h →
-        Parts m N l′ (store f h i (part (spot m i h) (2 ^ h) l′))
-    parts-frame at x q a b =
-        subst (λ w. Parts m N w (store f h i (part (spot m i h) (2 ^ h) w))) (sym q) (within at x a b (part (spot m i h) (2 ^ h) (overAt at x l)) refl)
-
     -- the whole array written
     pub parts-over : (x : List A) → length x ≡ 2 ^ h → Parts m N (overAt (spot m i h) x l) (store f h i x)
     parts-over x e =

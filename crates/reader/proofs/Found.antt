@@ -1,4 +1,4 @@
--- The words that the reader finds: each is the word of its setting, and its number fits in 32 bits; the next block always has a nearest word; and
+-- The words that the reader finds: each is the word of its setting; the next block always has a nearest word; and
 -- with a word found the path's total stays within range. A word found matches the machine's, so that the total is the costs of the machine's
 -- bits. Assumes nothing.
 use mathlib.Core.Path.{_≡_, refl, sym, ap, _∙_, subst}
@@ -18,7 +18,6 @@ use Rattle.laws.proofs.Pairs.{MayPair}
 use Rattle.polar.specs.Bits.{Bit, number}
 use Rattle.polar.specs.Transform.{transform}
 use Rattle.polar.specs.Layers.{Within}
-use Rattle.polar.proofs.Transform.{transform-length, transform-bits}
 use Rattle.polar.proofs.Value.{costs, costs-add, costs-same, Same}
 use Rattle.polar.proofs.Ranges.{costs-le}
 use Rattle.codebook.specs.Book.{Book, freeCount, startOf, blockAt, kindsOf}
@@ -29,10 +28,8 @@ use Rattle.codec.proofs.Ties.{filled-take}
 use Rattle.machine.specs.Words as MW
 use Rattle.machine.specs.Words.{Ranked}
 use Rattle.runs.proofs.Steps.{Found, first-may, nearest-found}
-use Rattle.outer.specs.Blocks.{Bits}
 use Rattle.outer.specs.Words.{Word, wordOf, nearer, nearestWith, nearest, nextAfter}
 use Rattle.outer.proofs.Blocks.{placed}
-use Rattle.outer.proofs.Numbers.{number-lt}
 use Rattle.outer.proofs.Words.{Matches, filled-after}
 use Rattle.reader.specs.Arrays.{Arrays, valsOf}
 use Rattle.reader.specs.Paths.{Path, ownWord, idsOf, viewOf}
@@ -41,7 +38,6 @@ use Rattle.reader.proofs.Good.{Good, Inv, Holds, nextView, holds-frame,
 use Rattle.reader.proofs.Step.{next-matches, near-matches}
 use Rattle.reader.proofs.Fit.{copy-sees}
 use Rattle.reader.proofs.Reached.{Reached, Headed, reached-headed}
-use Rattle.reader.proofs.Next.{filled-length, filled-bits}
 
 -- ---- a word found is the word of its setting
 
@@ -57,19 +53,6 @@ module _ (test : Word → Bool) (B : Book) (vs : List ℤ) (x : Parities) (b : �
   unfolding wordOf
   made-number = ap (λ (z : Word). z .number) word-made
 
--- the number of a setting's word fits in 32 bits
-pub word-lt : (B : Book) → Valid B → (b : ℕ) → b < length (B .blocks) → (x : Parities) → Bits x → (w : ℕ) →
-    number (transform (blockAt B b .j) (fillBlock B x b w .bits)) < 4294967296
-word-lt B ok b l x h w =
-    let j : ℕ = blockAt B b .j in
-    let u : List ℕ = fillBlock B x b w .bits in
-    let c : List ℕ = transform j u in
-    let n : length c ≡ 2 ^ j = transform-length j u (filled-length B ok b l x w) in
-    let short : 2 ^ j ≤ 2 ^ 5 = pow-mono (ok .blocks b l .short) in
-    let s : length c ≤ 32 = omega arith in
-    let top : 2 ^ length c ≤ 2 ^ 32 = pow-mono s in
-    omega (arith, number-lt c (transform-bits j u (filled-bits B ok b l x w h)))
-
 -- of the two words that the reader asks for
 module _ (B : Book) (vs : List ℤ) (x : Parities) (b : ℕ) (y : Word) where
   pub nearest-number : nearest B vs x b ≡ some y → y .number ≡ number (transform (blockAt B b .j) (fillBlock B x b (y .setting) .bits))
@@ -80,13 +63,6 @@ module _ (B : Book) (vs : List ℤ) (x : Parities) (b : ℕ) (y : Word) where
       y .number ≡ number (transform (blockAt B b .j) (fillBlock B x b (y .setting) .bits))
   unfolding nextAfter
   next-number own e = made-number _ B vs x b y e
-
-  module _ (ok : Valid B) (l : b < length (B .blocks)) (h : Bits x) where
-    pub nearest-lt : nearest B vs x b ≡ some y → y .number < 4294967296
-    nearest-lt e = omega (arith, nearest-number e, word-lt B ok b l x h (y .setting))
-
-    pub next-lt : (own : Word) → nextAfter own B vs x b ≡ some y → y .number < 4294967296
-    next-lt own e = omega (arith, next-number own e, word-lt B ok b l x h (y .setting))
 
 -- the next block of p has a nearest word, at what p sees of it among others, and the total with that word is within range
 abbrev pub MoveFound : Book → List (ℕ → ℕ) → Arrays → Path → Type 0
@@ -165,12 +141,7 @@ module _ (B : Book) (ys : List ℤ) (ok : Valid B) (ly : length ys ≡ 2 ^ (B .m
       )
 
   module _ (D : ℕ) (A : Arrays) (p : Path) (ps : List Path) (r : Reached B ys D A (p ∷ ps)) (l : p .blocks < length (B .blocks)) where
-    pub move-found : MoveFound B (idsOf ps) A p
-    move-found =
-        let h : Headed B ys A p ps = reached-headed B ys D A p ps r in
-        holds-found (idsOf ps) A (h .path .bits) p (h .stands .holds) l
-
-    -- so it does after step 2
+    -- of a state that the run reaches, after its step 2
     pub move-found-copied : (n : ℕ) → let c = copy B D A p ps n (p .blocks) in MoveFound B (idsOf (c .queue)) (c .arrays) p
     move-found-copied n =
         let h : Headed B ys A p ps = reached-headed B ys D A p ps r in

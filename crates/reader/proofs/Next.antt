@@ -21,7 +21,7 @@ use Rattle.outer.proofs.Parities.{absorb-bits}
 use Rattle.reader.specs.Arrays.{Arrays, View, valsOf, sumsOf, writes, putSums, descend, joined}
 use Rattle.reader.specs.Paths.{Path, lastWord, place, viewOf}
 use Rattle.reader.specs.Reader.{commit}
-use Rattle.reader.specs.Fit.{Fit, FitFirst, FitFor}
+use Rattle.reader.specs.Fit.{Fit, FitFor}
 use Rattle.reader.proofs.Upd.{upd-other}
 use Rattle.reader.proofs.Arrays.{vals-lost, claim-own}
 use Rattle.reader.proofs.Good.{downTo, nextView}
@@ -116,11 +116,6 @@ module _ (B : Book) (ok : Valid B) (A : Arrays) (p : Path) where
             put-has others a _ v,
             subst (All (Within 1048064)) (sym (put-vals others a _ v)) (turn-within 524032 (2 ^ a) (sumsOf v a) (valsOf v (suc a)) (turn-ready .2)),
           )
-
-  -- ---- before the first block: the root
-
-  pub first-ready : FitFirst B A p → (1 ≤ p .ids (B .m)) × All (Within 1048064) (valsOf (viewOf A p) (B .m))
-  first-ready f = (f .has, f .root)
 
 -- ---- the views, as the code makes them
 

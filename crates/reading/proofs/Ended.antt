@@ -24,7 +24,7 @@ use Rattle.standing.specs.Standing.{cell, InHand}
 use Rattle.standing.proofs.Views.{stands-seen}
 use Rattle.views.specs.Steps.{Joinable}
 use Rattle.views.proofs.Seeing.{seen-some, seen-sums}
-use Rattle.steps.specs.declared.Block.{Block}
+use Rattle.words.specs.declared.Block.{Block}
 use Rattle.reading.specs.Ending.{Ending, lastView}
 
 module _ {m N : ℕ} {x : Memory} {e : ℕ} {es vs : List ℕ} {last : Block} (c : Ending m N x e es vs last) {s : ℕ} (is : s ≡ slotAt e) where

@@ -29,8 +29,9 @@ use Rattle.sharing.specs.Sharing.{idAt, heldAt, one, HasIds, Counted}
 use Rattle.heights.specs.Workspace.{spot, Parts}
 use Rattle.standing.specs.Seen.{memory}
 use Rattle.standing.specs.Standing.{cell, Row, Stands}
-use Rattle.reading.specs.Running.{arraysOf, firstHeld}
-use Rattle.reading.proofs.Begun.{Zeros, zeros, id-root, id-below}
+use Rattle.start.specs.Start.{firstHeld}
+use Rattle.reading.specs.Running.{arraysOf}
+use Rattle.start.proofs.Begun.{Zeros, zeros, id-root, id-below}
 
 -- ---- the vacant slots
 

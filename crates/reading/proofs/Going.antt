@@ -27,10 +27,10 @@ use Rattle.standing.specs.Seen.{Memory}
 use Rattle.standing.specs.Standing.{Stands}
 use Rattle.standing.proofs.Sizes.{stands-room}
 use Rattle.steps.specs.declared.Tally.{Tally}
-use Rattle.reading.proofs.Begun.{zeros}
+use Rattle.start.proofs.Begun.{zeros}
 use Rattle.reading.proofs.Visits.{run-wide}
 use Rattle.reading.proofs.Walks.{Walks, Long, Noted, walks-none, walks-next, sum-next}
-use Rattle.reading.proofs.Counts.{blocks-few}
+use Rattle.extraction.proofs.Counts.{blocks-few}
 use Rattle.reading.proofs.Bounded.{next-most, crowded-most, outrun-most, visits-most}
 
 -- the numbers of paths that an extraction crowded out, and that it outran

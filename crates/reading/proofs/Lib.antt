@@ -1,12 +1,6 @@
-pub mod Turning
-pub mod Begun
 pub mod First
 pub mod Received
 pub mod Visits
-pub mod Seconds
-pub mod Counts
-pub mod Moves
-pub mod Extracts
 pub mod Walks
 pub mod Bounded
 pub mod Ended

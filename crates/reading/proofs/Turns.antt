@@ -26,17 +26,18 @@ use Rattle.sharing.specs.Sharing.{heldAt}
 use Rattle.heights.specs.Workspace.{spot, Id}
 use Rattle.standing.specs.Seen.{Memory, memory}
 use Rattle.standing.specs.Standing.{Stands, InHand}
-use Rattle.steps.specs.declared.Block.{Block}
+use Rattle.words.specs.declared.Block.{Block}
 use Rattle.steps.specs.declared.Setting.{Setting}
 use Rattle.steps.specs.declared.Tally.{Tally}
 use Rattle.steps.specs.Steps.{BlockIs}
 use Rattle.reading.specs.declared.Ran.{Ran}
-use Rattle.reading.specs.Running.{arraysOf, firstHeld, Tables, Running, RanIs}
-use Rattle.reading.specs.Extraction.{Extracting}
+use Rattle.start.specs.Start.{firstHeld, Tables}
+use Rattle.reading.specs.Running.{arraysOf, Running, RanIs}
+use Rattle.extraction.specs.Extraction.{Extracting}
 use Rattle.reading.specs.Ending.{Ending, lastView}
 use Rattle.reading.proofs.First.{first-stands}
 use Rattle.reading.proofs.Walks.{Walks, Long, Noted}
-use Rattle.reading.proofs.Counts.{blocks-few}
+use Rattle.extraction.proofs.Counts.{blocks-few}
 use Rattle.reading.proofs.Bounded.{blocks-some}
 use Rattle.reading.proofs.Going.{Going, going-first, going-blocks, going-within, going-fuel, going-some, going-next, last-final, last-count, last-crowded, last-outrun, last-walks}
 

@@ -23,7 +23,7 @@ use Rattle.reader.specs.Arrays.{Arrays, View}
 use Rattle.reader.specs.Paths.{Path, scoreOf, keyOf, firstPath}
 use Rattle.reader.specs.Reader as R
 use Rattle.reader.specs.Reader.{staying, outrunBy}
-use Rattle.reading.proofs.Begun.{zeros}
+use Rattle.start.proofs.Begun.{zeros}
 
 -- ---- visits that agree below n
 

@@ -9,7 +9,7 @@ use Rattle.reader.specs.Paths.{idsOf, viewOf}
 use Rattle.reader.specs.Reader.{commit}
 use Rattle.standing.specs.Seen.{Memory}
 use Rattle.standing.specs.Standing.{InHand}
-use Rattle.steps.specs.declared.Block.{Block}
+use Rattle.words.specs.declared.Block.{Block}
 use Rattle.steps.specs.Steps.{Last}
 
 -- a path in hand whose last block, b, is `last` and the book's last

@@ -1,3 +1,2 @@
-pub mod Extraction
 pub mod Running
 pub mod Ending

@@ -1,22 +1,19 @@
 -- The reader's run on the lent workspace: what it needs, and what it leaves. Assumes nothing.
 use mathlib.Core.Path.{_≡_}
-use mathlib.Core.Bool.{cond}
 use mathlib.Core.List.{List, map}
 use mathlib.Core.Option.{some}
-use Prim.Native.Nat.{ℕ, _^_, _≤_, _<_}
-use lib.ListN.{length, getD}
-use lib.Dec.{eqb, ltb}
-use lib.IntN.{ℤ, pos}
+use Prim.Native.Nat.{ℕ, _^_}
+use lib.ListN.{length}
+use lib.IntN.{ℤ}
 use Rattle.laws.specs.Lists.{All, sum}
 use Rattle.polar.specs.Layers.{part, overAt, Within}
-use Rattle.codebook.specs.Book.{Book, startOf, blockAt}
+use Rattle.codebook.specs.Book.{Book}
 use Rattle.machine.specs.Queue.{Step, Final}
 use Rattle.reader.specs.Arrays.{Arrays}
 use Rattle.reader.specs.Reader.{Run}
-use Rattle.sharing.specs.Sharing.{one}
 use Rattle.heights.specs.Workspace.{spot, Id}
 use Rattle.steps.specs.declared.Setting.{Setting}
-use Rattle.steps.specs.Steps.{Booked}
+pub use Rattle.start.specs.Start.{Tables}
 use Rattle.reading.specs.declared.Ran.{Ran}
 
 -- the arrays that a workspace holds
@@ -27,17 +24,6 @@ arraysOf m numbers bytes =
 -- the numbers of a workspace once the received values are the root values of array 1
 unfoldable pub received : ℕ → List ℤ → List ℤ → List ℤ
 received m values numbers = overAt (spot m 1 m) values numbers
-
--- how many paths hold id i at height h at first: path 0 alone, which has array 1 at the root and none below
-unfoldable pub firstHeld : ℕ → ℕ → ℕ → ℕ
-firstHeld m h i = cond (eqb h m) (one 1 i) (cond (ltb h m) (one 0 i) 0)
-
--- the tables are the book's
-pub record Tables (B : Book) (kinds terms heights starts : List ℕ) (biases : List ℤ) : Type 0 where
-  pub booked : Booked B kinds terms
-  pub height : (b : ℕ) → b < length (B .blocks) → getD heights b 0 ≡ blockAt B b .j
-  pub start : (b : ℕ) → b < length (B .blocks) → getD starts b 0 ≡ startOf (B .blocks) b
-  pub bias : (b : ℕ) → b < length (B .blocks) → getD biases b (pos 0) ≡ blockAt B b .bias
 
 -- a run's input: a book in tables, its shape, and received values within range
 pub record Running (s : Setting) (values : List ℤ) (kinds terms heights starts : List ℕ) (biases : List ℤ) : Type 0 where

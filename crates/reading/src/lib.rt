@@ -1,7 +1,5 @@
 // The reader's run: one extraction after another, from any contents of the workspace.
-pub mod extraction;
 pub mod run;
-pub mod start;
 
 // What a run comes to: the counts, and the id of the root array whose sums are the final word.
 pub struct Ran {

@@ -14,21 +14,21 @@ ghost use Rattle.standing.specs.Seen.{memory, Lent};
 ghost use Rattle.reading.specs.Ending.{Ending, lastView};
 ghost use Rattle.reading.specs.Running.{arraysOf, received, Running, RanIs};
 use crate::Ran;
-use crate::extraction::extract;
-use crate::start::begin;
-use crate::start::block_at;
-use crate::start::fill_vacant;
-use crate::start::note;
-use crate::start::receive;
+use extraction::extract::extract;
 use heights::arrays::power;
 use order::entries::blocks_of;
 use order::entries::entry;
 use order::entries::slot_of;
-use steps::Block;
+use start::begin;
+use start::block_at;
+use start::fill_vacant;
+use start::note;
+use start::receive;
 use steps::Setting;
 use steps::Tally;
 use views::view::commit;
 use views::view::id_of;
+use words::Block;
 
 // The block before one; of the first, itself.
 fn before(b: usize) -> usize

@@ -5,7 +5,7 @@ use mathlib.Core.Bool.{Bool, true, false, cond}
 use mathlib.Core.List.{List, [], _∷_, _++_, map}
 use Prim.Native.Nat.{ℕ, _+_, _*_, _≤_, _<_}
 use native.Mathlib.Omega.{arith}
-use lib.ListN.{length, set, length-map}
+use lib.ListN.{length, set}
 use lib.Dec.{eqb}
 use lib.Seq.{getD-set-same, getD-set-other}
 use borrow.Author.Tests.{eqb-true, eqb-false}
@@ -13,7 +13,7 @@ use Rattle.codec.specs.Ties.{times}
 use Rattle.machine.specs.Queue.{Key, before, insert}
 use Rattle.reader.specs.Arrays.{upd}
 use Rattle.reader.proofs.Upd.{upd-same, upd-other}
-use Rattle.sharing.specs.Sharing.{idAt, heldAt, one, Shared, MoreBy, LessBy, Exchanged, HasIds, Counted}
+use Rattle.sharing.specs.Sharing.{idAt, heldAt, one, MoreBy, LessBy, Exchanged, HasIds, Counted}
 use Rattle.sharing.proofs.Choice.{times-here}
 
 -- ---- what a list of paths counts
@@ -64,15 +64,9 @@ module _ (m N : ℕ) (holders : List ℕ) where
   pub counted-forward : (xs : List (ℕ → ℕ)) (o : ℕ → ℕ) (ys : List (ℕ → ℕ)) → Counted m N holders (xs ++ o ∷ ys) → Counted m N holders (o ∷ xs ++ ys)
   counted-forward xs o ys c = counted-like (xs ++ o ∷ ys) (o ∷ xs ++ ys) (λ h i. times-move i h xs o ys) c
 
-  pub counted-back : (xs : List (ℕ → ℕ)) (o : ℕ → ℕ) (ys : List (ℕ → ℕ)) → Counted m N holders (o ∷ xs ++ ys) → Counted m N holders (xs ++ o ∷ ys)
-  counted-back xs o ys c = counted-like (o ∷ xs ++ ys) (xs ++ o ∷ ys) (λ h i. sym (times-move i h xs o ys)) c
-
   module _ {A : Type 0} (key : A → Key) (ids : A → ℕ → ℕ) (p : A) (qs : List A) where
     pub counted-insert : Counted m N holders (ids p ∷ map ids qs) → Counted m N holders (map ids (insert key p qs))
     counted-insert c = counted-like (ids p ∷ map ids qs) (map ids (insert key p qs)) (λ h i. sym (times-insert key ids i h p qs)) c
-
-    pub counted-insert-back : Counted m N holders (map ids (insert key p qs)) → Counted m N holders (ids p ∷ map ids qs)
-    counted-insert-back c = counted-like (map ids (insert key p qs)) (ids p ∷ map ids qs) (λ h i. times-insert key ids i h p qs) c
 
   -- no id is counted more often than there are paths
   pub counted-few : (paths : List (ℕ → ℕ)) (h i : ℕ) → Counted m N holders paths → h ≤ m → i ≤ N → heldAt holders h i ≤ length paths
@@ -90,16 +84,6 @@ module _ (m N : ℕ) (holders : List ℕ) where
     -- it holds its id
     pub counted-held : (h : ℕ) → Counted m N holders (ids ∷ others) → h ≤ m → ids h ≤ N → 1 ≤ heldAt holders h (ids h)
     counted-held h c l k = omega (arith, counted-first h (ids h) c l k, times-here (ids h) (idsAt h others))
-
-    -- what `take` requires; the others are those of the list
-    abbrev pub counted-shared : (h : ℕ) → Counted m N holders (ids ∷ others) → h ≤ m → ids h ≤ N → length others < N → Shared holders h N (ids h)
-    counted-shared h c l k few =
-        record {
-          others = idsAt h others;
-          low = k;
-          counted = λ i b. counted-first h i c l b;
-          few = rw (length-map others (λ (o : ℕ → ℕ). o h)) few;
-        }
 
 -- ---- the holders change, and the paths with them
 
@@ -145,8 +129,3 @@ module _ (m : ℕ) (rows : List ℕ) (s : ℕ) (ids : ℕ → ℕ) (h r : ℕ) w
       go g l false e =
           let n : g ≡ h → ⊥ = eqb-false g h e in
           rw (upd-other ids h r g n) (getD-set-other rows (s * 16 + h) (s * 16 + g) r 0 (λ q. n (omega arith)) ∙ has g l)
-
-  -- another slot's are as they were
-  pub has-take-other : (s′ : ℕ) → (s′ ≡ s → ⊥) → HasIds m rows s′ ids → h ≤ m → m ≤ 9 → HasIds m (set rows (s * 16 + h) r) s′ ids
-  unfolding HasIds idAt
-  has-take-other s′ n has high tall = λ g l. getD-set-other rows (s * 16 + h) (s′ * 16 + g) r 0 (λ q. n (omega arith)) ∙ has g l

@@ -1,7 +1,7 @@
--- How many paths and slots there are, and where: a path for each entry, at its place, and N entries and vacant slots together, each slot once. By
+-- How many paths and slots there are: a path for each entry, and N entries and vacant slots together, each slot once. By
 -- induction on the queue. Assumes nothing.
 use mathlib.Core.Path.{_≡_, refl, ap}
-use mathlib.Core.List.{List, [], _∷_, _++_, map}
+use mathlib.Core.List.{List, [], _∷_, map}
 use mathlib.Core.Logic.{_≢_}
 use Prim.Native.Nat.{ℕ, suc, _+_, _<_}
 use native.Mathlib.Omega.{arith}
@@ -25,23 +25,6 @@ paired-length R [] (y ∷ ys) h = absurd h
 paired-length R (x ∷ xs) [] h = absurd h
 paired-length R (x ∷ xs) (y ∷ ys) h = ap suc (paired-length R xs ys (h .1))
 
--- a list with one element, and as many before it as xs has
-pub record Split {A B : Type 0} (xs : List A) (ys : List B) : Type 0 where
-  pub before : List B
-  pub one : B
-  pub after : List B
-  pub whole : ys ≡ before ++ one ∷ after
-  pub place : length xs ≡ length before
-
-paired-split : {A B : Type 0} (R : A → B → Type 0) (xs : List A) (x : A) (zs : List A) (ys : List B) → Paired R (xs ++ x ∷ zs) ys → Split xs ys
-unfolding Paired
-paired-split R [] x zs [] h = absurd h
-paired-split R [] x zs (y ∷ ys) h = record { before = []; one = y; after = ys; whole = refl; place = refl }
-paired-split R (z ∷ xs) x zs [] h = absurd h
-paired-split {A} {B} R (z ∷ xs) x zs (y ∷ ys) h =
-    let s : Split xs ys = paired-split R xs x zs ys (h .1) in
-    record { before = y ∷ s .before; one = s .one; after = s .after; whole = ap (λ l. y ∷ l) (s .whole); place = ap suc (s .place) }
-
 -- ---- the queue
 
 pub stands-length : {B : Book} {N : ℕ} {x : Memory} {es vs : List ℕ} {A : Arrays} {ps : List Path} → Stands B N x es vs A ps → length es ≡ length ps
@@ -51,11 +34,6 @@ stands-length {B} {x} {es} {ps} st = paired-length (EntryOf B (x .rows)) es ps (
 pub stands-room : {B : Book} {N : ℕ} {x : Memory} {e : ℕ} {es vs : List ℕ} {A : Arrays} {p : Path} {ps : List Path} → Stands B N x (e ∷ es) vs A (p ∷ ps) →
     (length ps < N) × (suc (length es + length vs) ≡ N)
 stands-room st = (omega (arith, stands-length st), omega arith)
-
--- the path of an entry at any place of the queue
-pub stands-split : {B : Book} {N : ℕ} {x : Memory} {vs : List ℕ} {A : Arrays} {ps : List Path} (xs : List ℕ) (e : ℕ) (es : List ℕ) →
-    Stands B N x (xs ++ e ∷ es) vs A ps → Split xs ps
-stands-split {B} {x} {ps} xs e es st = paired-split (EntryOf B (x .rows)) xs e es ps (st .queue)
 
 -- a vacant slot is not that of the path in hand
 pub slots-apart : {B : Book} {N : ℕ} {x : Memory} {e t : ℕ} {es vs : List ℕ} {A : Arrays} {ps : List Path} → Stands B N x (e ∷ es) (t ∷ vs) A ps →

@@ -33,7 +33,7 @@ use Rattle.standing.proofs.Views.{stands-seen, stands-view}
 use Rattle.standing.proofs.Places.{stands-insert-second}
 use Rattle.standing.proofs.Written.{stands-share}
 use Rattle.views.specs.Steps.{Claimable}
-use Rattle.steps.specs.declared.Block.{Block}
+use Rattle.words.specs.declared.Block.{Block}
 use Rattle.steps.specs.Steps.{Forking}
 
 -- a block has an index at least, so that no book has more than 512

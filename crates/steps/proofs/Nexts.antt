@@ -32,7 +32,7 @@ use Rattle.heights.proofs.Spots.{spot-room}
 use Rattle.standing.specs.Seen.{Memory, Lent}
 use Rattle.standing.specs.Standing.{cell, Row, Stands}
 use Rattle.standing.proofs.Sizes.{stands-length}
-use Rattle.steps.specs.declared.Block.{Block}
+use Rattle.words.specs.declared.Block.{Block}
 use Rattle.steps.specs.Steps.{Forking, Copying}
 
 -- ---- a word as the search answers it

@@ -20,7 +20,7 @@ use Rattle.reader.specs.Reader.{commit}
 use Rattle.reader.specs.Fit.{Fit, FitFor}
 use Rattle.standing.specs.Seen.{Memory}
 use Rattle.standing.specs.Standing.{Stands, InHand}
-use Rattle.steps.specs.declared.Block.{Block}
+use Rattle.words.specs.declared.Block.{Block}
 
 -- x is block b of the book
 pub record BlockIs (B : Book) (b : ℕ) (x : Block) : Type 0 where

@@ -10,19 +10,19 @@ ghost use Rattle.order.specs.Entries.{queueOf};
 ghost use Rattle.standing.specs.Seen.{memory, Lent};
 ghost use Rattle.standing.specs.Standing.{Stands};
 ghost use Rattle.steps.specs.Steps.{Forking, Copying};
-use crate::Block;
 use crate::Setting;
 use crate::Tally;
 use crate::crowding::crowd;
-use crate::words::next_word;
-use crate::words::put;
-use crate::words::score;
 use order::entries::entry;
 use order::entries::slot_of;
 use order::moves::insert;
 use outer::Candidate;
 use sharing::holders::share;
 use views::view::claim;
+use words::Block;
+use words::next_word;
+use words::put;
+use words::score;
 
 // A copy of the path of entry e, with the word found, in the slot `to`; it is inserted.
 fn fork(

@@ -1,17 +1,6 @@
-// The steps of one extraction of the reader, on the memory that stands for its state. specs/ says what each needs and what it does to that state.
+// The copy of the path in hand, on the memory that stands for the reader's state. specs/ says what each step of an extraction needs.
 pub mod copies;
 pub mod crowding;
-pub mod outruns;
-pub mod values;
-pub mod words;
-
-// A block: its first index, its height, its bias, and the height where its word goes.
-pub struct Block {
-    pub start: usize,
-    pub height: usize,
-    pub bias: i32,
-    pub place: usize,
-}
 
 // What a run goes by: the book's m and number of blocks, L and D.
 pub struct Setting {

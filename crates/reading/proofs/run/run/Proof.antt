@@ -20,7 +20,7 @@ use Rattle.standing.specs.Seen.{Memory, memory, Lent}
 use Rattle.steps.specs.declared.Setting.{Setting}
 use Rattle.steps.specs.declared.Tally.{Tally}
 use Rattle.reading.specs.Running.{arraysOf, received, Running, RanIs}
-use Rattle.reading.specs.Extraction.{Extracting}
+use Rattle.extraction.specs.Extraction.{Extracting}
 use Rattle.reading.specs.Ending.{Ending}
 use Rattle.reading.proofs.Received.{root-spot, root-within, received-is, received-root, received-room}
 use Rattle.reading.proofs.Going.{Going, going-small, going-room, going-limits}

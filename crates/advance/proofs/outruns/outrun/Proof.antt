@@ -1,0 +1,104 @@
+-- `advance::outruns::outrun` meets its contract. Before the L-th visit, and after it, all paths stay; at the L-th those with more blocks stay, the
+-- others are gone, and both together are those queued. Assumes nothing.
+use mathlib.Core.Path.{_≡_, refl, sym, ap, _∙_}
+use Prim.Native.Nat.{_+_, _-_}
+use native.Mathlib.Numerals.{add-one}
+use native.Mathlib.Omega.{arith}
+use borrow.Author.Needs.{needs}
+use lib.ListN.{length, getD, set}
+use Rattle.machine.specs.Queue.{ahead, visit}
+use Rattle.reader.specs.Paths.{keyOf}
+use Rattle.order.proofs.Queues.{queue-length}
+use Rattle.standing.proofs.Sizes.{stands-length}
+use Rattle.advance.proofs.Sides.{sides-length, visit-seen, stay-all, stay-ahead}
+use Rattle.advance.proofs.outruns.outrun.Statement.{statement}
+use Rattle.advance.proofs.outruns.outrun.Tie as tie
+
+mul-seen : tie.Need-mul-seen
+mul-seen c = search needs
+
+element-copy-out-seen : tie.Need-element-copy-out-seen
+element-copy-out-seen c = search needs
+
+add-seen : tie.Need-add-seen
+add-seen c = search needs
+
+mul-visits : tie.Need-mul-visits
+mul-visits c = search needs
+
+element-write-visits : tie.Need-element-write-visits
+element-write-visits c = search needs
+
+-- one visit more is counted
+visited : (t : tie.Start) → set (t .args .visits .now) (t .args .b) (getD (t .args .visits .now) (t .args .b) 0 + 1) ≡ visit (t .args .visits .now) (t .args .b)
+unfolding visit
+visited t = rw add-one
+
+returns : tie.Need-returns
+returns c =
+    let t = c .before .before .before in
+    let a = t .args in
+    let s = t .pre .0 in
+    let seen = visit-seen (a .visits .now) (a .b) (omega arith) in (
+      (s .0 .holders-size, s .1, s .2, visited t, refl, refl, refl, omega arith),
+      λ numbers bytes x.
+          let stay = stay-all (x .book) (a .s .visits) (a .b) (visit (a .visits .now) (a .b)) (x .paths) (omega (arith, seen, c .if1 .taken)) in
+          let level : a .t .queued ≡ length (x .paths) = omega (arith, stands-length (x .stands), queue-length (a .t .queued) (a .order .now)) in
+          (rw (stay .0) level, rw (stay .1) (omega arith), rw (stay .0) (x .stands)),
+    )
+
+cast-dismiss : tie.Need-cast-dismiss
+cast-dismiss c = search needs
+
+dismiss-requires : tie.Need-dismiss-requires
+dismiss-requires c κs = search needs
+
+cast-sift : tie.Need-cast-sift
+cast-sift c = search needs
+
+sift-requires : tie.Need-sift-requires
+sift-requires c κs = search needs
+
+cast-t18 : tie.Need-cast-t18
+cast-t18 c = search needs
+
+add-t26 : tie.Need-add-t26
+add-t26 c = search needs
+
+returns-2 : tie.Need-returns-2
+returns-2 c =
+    let t = c .before .before .before .before .before .before .before .before .before .before in
+    let a = t .args in
+    let gone = c .before .before .before .dismiss in
+    let left = c .before .sift in
+    let seen = visit-seen (a .visits .now) (a .b) (omega arith) in (
+      (gone .ensures .0 .0, left .ensures .0, gone .ensures .0 .1, visited t, refl, refl, refl, omega (arith, left .ensures .1)),
+      λ numbers bytes x.
+          let w = gone .ensures .1 numbers bytes x in
+          let stay =
+          stay-ahead (x .book) (a .s .visits) (a .b) (visit (a .visits .now) (a .b)) (x .paths) (omega (arith, seen, c .before .before .before .before .before .before .before .if1 .left)) in
+          let level : length (x .paths) ≡ a .t .queued = omega (arith, stands-length (x .stands), queue-length (a .t .queued) (a .order .now)) in
+          let many : left .result ≡ length (ahead (keyOf (x .book)) (a .b) (x .paths)) =
+          sym (queue-length (left .result) (left .last .0)) ∙ ap length (left .ensures .2) ∙ stands-length (w .1) in
+          let slots : a .s .paths - left .result ≡ a .s .paths - a .t .queued + gone .result =
+          omega (arith, sides-length (keyOf (x .book)) (a .b) (x .paths), w .0) in
+          (rw (stay .0) many, rw (stay .1) (ap (λ n. a .t .outrun + n) (w .0)), rw (stay .0, slots, left .ensures .2) (w .1)),
+    )
+
+pub outrun-spec : {M : Type 1} → statement M
+outrun-spec =
+    tie.close
+    (tie.spec
+    mul-seen
+    element-copy-out-seen
+    add-seen
+    mul-visits
+    element-write-visits
+    returns
+    cast-dismiss
+    dismiss-requires
+    cast-sift
+    sift-requires
+    cast-t18
+    add-t26
+    returns-2)

@@ -1,0 +1,99 @@
+// Step 4: the visit is counted, and at the L-th the paths with as many blocks or fewer are removed.
+ghost use mathlib.Core.Path.{_≡_};
+ghost use mathlib.Core.List.{List};
+ghost use Prim.Native.Nat.{ℕ, _+_, _-_, _≤_, _<_};
+ghost use lib.IntN.{ℤ};
+ghost use lib.ListN.{length, getD};
+ghost use Rattle.machine.specs.Queue.{ahead, behind, visit};
+ghost use Rattle.reader.specs.Paths.{keyOf};
+ghost use Rattle.reader.specs.Reader.{staying, outrunBy};
+ghost use Rattle.order.specs.Entries.{keyAt, queueOf};
+ghost use Rattle.sharing.specs.Sharing.{Sizes};
+ghost use Rattle.standing.specs.Seen.{memory};
+ghost use Rattle.standing.specs.Standing.{Stands};
+ghost use Rattle.steps.specs.Steps.{Queued};
+use order::entries::blocks_of;
+use order::entries::slot_of;
+use order::moves::sift;
+use sharing::holders::release;
+use steps::Setting;
+use steps::Tally;
+
+// The queued paths with b blocks or fewer let go of their arrays and their slots; returns how many they are. Their entries stay in the order.
+fn dismiss(
+    rows: &[u32; 4096],
+    holders: &mut [u16; 2570],
+    order: &[u64; 256],
+    vacant: &mut [u8; 256],
+    m: usize,
+    paths: usize,
+    queued: usize,
+    b: u32,
+) -> usize
+    requires { ⌜ Sizes (now rows) (now holders) × (length (now order) ≡ 256) × (length (now vacant) ≡ 256) × (m ≤ 9) × (paths ≤ 256) × (queued ≤ paths) ⌝ }
+    requires { ⌜ ((numbers : List ℤ) × (bytes : List ℕ) × Queued m paths (memory (now rows) (now holders) numbers bytes) (queueOf (now order) queued) (queueOf (now vacant) (paths - queued))) ⌝ }
+    ensures { λ r. ⌜ (length (now (holders .exit)) ≡ 2570) × (length (now (vacant .exit)) ≡ 256) × (r ≤ queued) ⌝ }
+    ensures { λ r. ⌜ ((numbers : List ℤ) (bytes : List ℕ)
+        (c : Queued m paths (memory (now (rows .entry)) (now (holders .entry)) numbers bytes) (queueOf (now (order .entry)) queued) (queueOf (now (vacant .entry)) (paths - queued)))
+        → (r ≡ length (behind (keyOf (c .book)) b (c .paths)))
+        × Stands (c .book) paths (memory (now (rows .entry)) (now (holders .exit)) numbers bytes) (ahead keyAt b (queueOf (now (order .entry)) queued))
+        (queueOf (now (vacant .exit)) (paths - queued + r)) (c .arrays) (ahead (keyOf (c .book)) b (c .paths))) ⌝ }
+{
+    let mut gone: usize = 0;
+    let mut i: usize = 0;
+    while i < queued {
+        let e = order[i];
+        if blocks_of(e) <= b {
+            let slot = slot_of(e);
+            release(rows, holders, m, slot);
+            vacant[paths - queued + gone] = slot as u8;
+            gone += 1;
+        }
+        i += 1;
+    }
+    gone
+}
+
+// The visit to block b: the number of paths queued then, and the count.
+pub fn outrun(
+    rows: &[u32; 4096],
+    holders: &mut [u16; 2570],
+    order: &mut [u64; 256],
+    vacant: &mut [u8; 256],
+    visits: &mut [u32; 512],
+    s: Setting,
+    t: Tally,
+    b: usize,
+) -> Tally
+    requires { ⌜ Sizes (now rows) (now holders) × (length (now order) ≡ 256) × (length (now vacant) ≡ 256) × (length (now visits) ≡ 512) × (s .m ≤ 9) ⌝ }
+    requires { ⌜ (s .paths ≤ 256) × (t .queued ≤ s .paths) × (b < 512) × (getD (now visits) b 0 < 65536) × (t .outrun < 16777216) ⌝ }
+    requires { ⌜ ((numbers : List ℤ) × (bytes : List ℕ) × Queued (s .m) (s .paths) (memory (now rows) (now holders) numbers bytes) (queueOf (now order) (t .queued)) (queueOf (now vacant) (s .paths - t .queued))) ⌝ }
+    ensures { λ r. ⌜ (length (now (holders .exit)) ≡ 2570) × (length (now (order .exit)) ≡ 256) × (length (now (vacant .exit)) ≡ 256)
+        × (now (visits .exit) ≡ visit (now (visits .entry)) b) × (r .next ≡ t .next) × (r .extractions ≡ t .extractions) × (r .crowded ≡ t .crowded)
+        × (r .queued ≤ s .paths) ⌝ }
+    ensures { λ r. ⌜ ((numbers : List ℤ) (bytes : List ℕ)
+        (c : Queued (s .m) (s .paths) (memory (now (rows .entry)) (now (holders .entry)) numbers bytes) (queueOf (now (order .entry)) (t .queued)) (queueOf (now (vacant .entry)) (s .paths - t .queued)))
+        → (let left = staying (c .book) (s .visits) b (visit (now (visits .entry)) b) (c .paths) in
+        (r .queued ≡ length left)
+        × (r .outrun ≡ t .outrun + length (outrunBy (c .book) (s .visits) b (visit (now (visits .entry)) b) (c .paths)))
+        × Stands (c .book) (s .paths) (memory (now (rows .entry)) (now (holders .exit)) numbers bytes) (queueOf (now (order .exit)) (r .queued))
+        (queueOf (now (vacant .exit)) (s .paths - r .queued)) (c .arrays) left)) ⌝ }
+{
+    let seen = visits[b] + 1;
+    visits[b] = seen;
+    if seen != s.visits {
+        return t;
+    }
+    let m = s.m;
+    let paths = s.paths;
+    let queued = t.queued;
+    let gone = dismiss(rows, holders, order, vacant, m, paths, queued, b as u32);
+    let left = sift(order, queued, b as u32);
+    Tally {
+        queued: left,
+        next: t.next,
+        extractions: t.extractions,
+        crowded: t.crowded,
+        outrun: t.outrun + gone as u32,
+    }
+}

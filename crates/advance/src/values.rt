@@ -1,0 +1,50 @@
+// Step 3, first part: the path's last word goes into the sums, the values of its next block are computed, and an array for that block's word is
+// taken.
+ghost use mathlib.Core.List.{List, _∷_};
+ghost use Prim.Native.Nat.{ℕ, _+_};
+ghost use Rattle.order.specs.Entries.{slotAt};
+ghost use Rattle.standing.specs.Seen.{memory, Lent, IdsOnly};
+ghost use Rattle.standing.specs.Standing.{Stands, withIds};
+ghost use Rattle.steps.specs.Steps.{nextView, Moving};
+use order::entries::slot_of;
+use views::view::claim;
+use views::view::commit;
+use views::view::go_down;
+use views::view::turn_over;
+use words::Block;
+
+// What the path of entry e sees of its next block, `at`, after its last one.
+pub fn calculate(
+    rows: &mut [u32; 4096],
+    holders: &mut [u16; 2570],
+    numbers: &mut [i32],
+    bytes: &mut [u8],
+    m: usize,
+    paths: usize,
+    e: u64,
+    last: Block,
+    at: Block,
+)
+    requires { ⌜ Lent m paths (memory (now rows) (now holders) (now numbers) (now bytes)) ⌝ }
+    requires { ⌜ ((es : List ℕ) × (vs : List ℕ) × Moving m paths (memory (now rows) (now holders) (now numbers) (now bytes)) e es vs last at) ⌝ }
+    ensures { λ _. ⌜ Lent m paths (memory (now (rows .exit)) (now (holders .exit)) (now (numbers .exit)) (now (bytes .exit)))
+        × IdsOnly m (slotAt e) (now (rows .entry)) (now (rows .exit)) ⌝ }
+    ensures { λ _. ⌜ ((es vs : List ℕ) (c : Moving m paths (memory (now (rows .entry)) (now (holders .entry)) (now (numbers .entry)) (now (bytes .entry))) e es vs last at)
+        → (let v = nextView (c .hand .book) (c .hand .arrays) (c .hand .taken) (c .hand .rest) in
+        Stands (c .hand .book) paths (memory (now (rows .exit)) (now (holders .exit)) (now (numbers .exit)) (now (bytes .exit))) (e ∷ es) vs
+        (v .arrays) (withIds (c .hand .taken) (v .ids) ∷ c .hand .rest))) ⌝ }
+{
+    let slot = slot_of(e);
+    let j = at.height;
+    let h = last.place;
+    if at.start == 0 {
+        go_down(rows, holders, numbers, bytes, m, paths, slot, m, j);
+    } else {
+        let low = last.height;
+        let word = rows[slot * 16 + 12];
+        commit(rows, holders, numbers, bytes, m, paths, slot, low, h, word);
+        turn_over(rows, holders, numbers, bytes, m, paths, slot, h);
+        go_down(rows, holders, numbers, bytes, m, paths, slot, h, j);
+    }
+    claim(rows, holders, numbers, bytes, m, paths, slot, j, at.place);
+}

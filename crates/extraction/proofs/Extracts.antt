@@ -1,0 +1,138 @@
+-- One extraction in a state that the run reaches: the path in hand is fit for its copy, and after it for its next block, which has a nearest word;
+-- the totals are within range; and what the three steps leave is the reader's extraction. Assumes nothing.
+use mathlib.Core.Path.{_≡_, ap, _∙_, subst}
+use mathlib.Core.List.{List, _∷_}
+use Prim.Native.Nat.{ℕ, suc, _+_, _<_}
+use native.Mathlib.Omega.{arith}
+use lib.ListN.{length, getD, length-map, length-set}
+use Rattle.codebook.specs.Book.{Book}
+use Rattle.machine.specs.Queue.{insert, numbers, visit}
+use Rattle.reader.specs.Arrays.{Arrays}
+use Rattle.reader.specs.Paths.{Path, keyOf, idsOf}
+use Rattle.reader.specs.Reader.{Cut, copy, Moved, move, staying, outrunBy, Extracted, extract}
+use Rattle.reader.proofs.Reached.{reached-fit}
+use Rattle.reader.proofs.Fit.{fit-copied}
+use Rattle.reader.proofs.Found.{MoveFound, copy-total, move-found-copied}
+use Rattle.order.specs.Entries.{keyAt}
+use Rattle.standing.specs.Seen.{Memory}
+use Rattle.standing.specs.Standing.{Stands}
+use Rattle.words.specs.declared.Block.{Block}
+use Rattle.steps.specs.Steps.{nextView, Queued}
+use Rattle.extraction.specs.Extraction.{Seconding, Thirding, Extracting}
+use Rattle.extraction.proofs.Counts.{blocks-few}
+use Rattle.extraction.proofs.Seconds.{hand-blocks}
+
+-- a visit counted leaves as many counts
+pub visit-length : (visits : List ℕ) (b : ℕ) → length (visit visits b) ≡ length visits
+unfolding visit
+visit-length visits b = length-set visits b (suc (getD visits b 0))
+
+module _ {m N : ℕ} {x : Memory} {e : ℕ} {es vs kinds terms : List ℕ} {last at : Block} (c : Extracting m N x e es vs kinds terms last at) where
+  abbrev book : Book
+  book = c .hand .book
+
+  abbrev arrays : Arrays
+  arrays = c .hand .arrays
+
+  abbrev path : Path
+  path = c .hand .taken
+
+  abbrev rest : List Path
+  rest = c .hand .rest
+
+  pub extract-blocks : keyAt e .blocks < 512
+  extract-blocks = omega (arith, hand-blocks (c .hand), c .next .within, blocks-few book (c .booked .valid))
+
+  -- ---- step 2
+
+  pub extract-seconding : Seconding m N x e es vs kinds terms last
+  extract-seconding =
+      let ok = c .booked .valid in
+      record {
+        hand = c .hand;
+        booked = c .booked;
+        last-is = c .last-is;
+        fit = reached-fit book (c .values) ok (c .size) (c .range) N arrays path rest (c .reached);
+        total = λ b y q. copy-total book (c .values) ok (c .size) (c .range) N arrays path rest b (c .reached) q (c .last-is b q .within) y;
+      }
+
+  -- the copy, its number n; the crowded before and after; and the memory that stands for it
+  module _ (n before : ℕ) {queued n′ crowded : ℕ} {y : Memory} {qs ws : List ℕ}
+      (done : let o = extract-seconding in
+      let k = copy (o .hand .book) N (o .hand .arrays) (o .hand .taken) (o .hand .rest) n (o .hand .taken .blocks) in
+      (queued ≡ length (k .queue)) × (n′ ≡ k .next) × (crowded ≡ before + length (k .crowded))
+      × Stands (o .hand .book) N y (e ∷ qs) ws (k .arrays) (o .hand .taken ∷ k .queue)) where
+    abbrev second : Cut
+    second = copy book N arrays path rest n (path .blocks)
+
+    -- ---- step 3
+
+    pub extract-thirding : Thirding m N y e qs ws kinds terms last at
+    unfolding extract-seconding nextView
+    extract-thirding =
+        let ok = c .booked .valid in
+        let found : MoveFound book (idsOf (second .queue)) (second .arrays) path =
+        move-found-copied book (c .values) ok (c .size) (c .range) N arrays path rest (c .reached) (c .next .within) n in
+        record {
+          moving =
+              record {
+                hand = record { book = book; arrays = second .arrays; taken = path; rest = second .queue; deep = c .hand .deep; stands = done .3 };
+                valid = ok;
+                next = c .next;
+                last-is = c .last-is;
+                fit = fit-copied book N arrays path rest n (path .blocks) (extract-seconding .fit);
+              };
+          booked = c .booked;
+          word = found .0;
+          found = found .1;
+          total = found .2;
+        }
+
+    -- the memory then, with the entries qs′ queued
+    abbrev pub MovedTo : Memory → List ℕ → Type 0
+    MovedTo z qs′ =
+        let h = extract-thirding .moving .hand in
+        let k = move (h .book) (h .arrays) (h .taken) (h .rest) in
+        Stands (h .book) N z qs′ ws (k .arrays) (insert (keyOf (h .book)) (k .path) (h .rest))
+
+    module _ {z : Memory} {qs′ : List ℕ} (moved : MovedTo z qs′) where
+      abbrev third : Moved
+      third = move book (second .arrays) path (second .queue)
+
+      -- ---- step 4
+
+      pub extract-queued : Queued m N z qs′ ws
+      unfolding extract-thirding
+      extract-queued =
+          record { book = book; arrays = third .arrays; paths = insert (keyOf book) (third .path) (second .queue); deep = c .hand .deep; stands = moved }
+
+      -- what the extraction has to come to
+      abbrev Comes : List ℕ → ℕ → ℕ → ℕ → Memory → List ℕ → List ℕ → Extracted → Type 0
+      Comes visits left gone outrun w es′ vs′ k =
+          (left ≡ length (k .state .queue)) × (n′ ≡ k .state .next) × (visits ≡ k .state .visits)
+          × (crowded ≡ before + length (k .step .crowded)) × (outrun ≡ gone + length (k .step .outrun))
+          × Stands book N w es′ vs′ (k .state .arrays) (k .state .queue)
+
+      pub extract-done : (L : ℕ) (visits : List ℕ) (gone b : ℕ) {left outrun : ℕ} {w : Memory} {es′ vs′ : List ℕ} → b ≡ keyAt e .blocks →
+          (let o = extract-queued in
+          let stay = staying (o .book) L b (visit visits b) (o .paths) in
+          (left ≡ length stay) × (outrun ≡ gone + length (outrunBy (o .book) L b (visit visits b) (o .paths)))
+          × Stands (o .book) N w es′ vs′ (o .arrays) stay) →
+          Comes (visit visits b) left gone outrun w es′ vs′ (extract book L N arrays path rest n visits)
+      unfolding extract extract-seconding extract-thirding extract-queued numbers
+      extract-done L visits gone b {left} {outrun} {w} {es′} {vs′} q h =
+          let o = extract-queued in
+          let same : b ≡ path .blocks = q ∙ hand-blocks (c .hand) in
+          let Left : ℕ → Type 0 = λ i.
+          let stay = staying book L i (visit visits i) (o .paths) in
+          (left ≡ length stay) × (outrun ≡ gone + length (outrunBy book L i (visit visits i) (o .paths)))
+          × Stands book N w es′ vs′ (third .arrays) stay in
+          let k : Left (path .blocks) = subst Left same h in
+          let behind : List Path = outrunBy book L (path .blocks) (visit visits (path .blocks)) (o .paths) in (
+            k .0,
+            done .1,
+            ap (visit visits) same,
+            done .2,
+            omega (arith, k .1, length-map behind (λ (p : Path). keyOf book p .number)),
+            k .2,
+          )

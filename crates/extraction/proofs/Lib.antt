@@ -1,0 +1,4 @@
+pub mod Counts
+pub mod Seconds
+pub mod Moves
+pub mod Extracts

@@ -1,0 +1,173 @@
+-- `extraction::extract::extract` meets its contract: what each of the three steps needs follows from the state that the run reaches, and what they
+-- leave is the reader's extraction. Extracts.antt has each step, for any state that memory stands for; the contract's own state shows what the calls
+-- need. Assumes nothing.
+use mathlib.Core.Path.{_≡_, ap, _∙_, subst}
+use mathlib.Core.List.{List, _∷_}
+use Prim.Native.Nat.{ℕ, suc, _+_, _-_}
+use native.Mathlib.Omega.{arith}
+use borrow.Author.Needs.{needs}
+use lib.ListN.{length}
+use Rattle.reader.specs.Reader.{copy}
+use Rattle.order.specs.Entries.{queueOf}
+use Rattle.standing.specs.Seen.{Memory, memory}
+use Rattle.standing.specs.Standing.{Stands}
+use Rattle.extraction.specs.Extraction.{Extracting}
+use Rattle.extraction.proofs.Extracts.{visit-length, extract-blocks, extract-seconding, extract-thirding, MovedTo, extract-queued, extract-done}
+use Rattle.extraction.proofs.extract.extract.Statement.{statement}
+use Rattle.extraction.proofs.extract.extract.Tie as tie
+
+-- the memory where the call began, and a state that it stands for
+abbrev at-start : tie.Start → Memory
+at-start s = memory (s .args .rows .now) (s .args .holders .now) (s .args .numbers .now) (s .args .bytes .now)
+
+abbrev Extract : tie.Start → Type 0
+Extract s =
+    let a = s .args in
+    Extracting (a .s .m) (a .s .paths) (at-start s) (a .e) (queueOf (a .order .now) (a .t .queued)) (queueOf (a .vacant .now) (a .s .paths - (a .t .queued + 1)))
+    (a .kinds .now) (a .terms .now) (a .last) (a .at)
+
+own : (s : tie.Start) → Extract s
+own s = s .pre .1 .1 .1
+
+second-requires : tie.Need-second-requires
+second-requires c κs =
+    let s = c .before .before .before .before .before .before .before .before .before .before in
+    let p = s .pre .0 in
+    let q = s .pre .1 .0 in
+    ((p .0, p .1, p .2), ((q .0, q .1, q .2, q .3, q .4), extract-seconding (own s)))
+
+-- after the copy, for any state
+abbrev start : tie.After-second → tie.Start
+start c = c .before .before .before .before .before .before .before .before .before .before .before
+
+abbrev at-second : tie.After-second → Memory
+at-second c = let f = c .second .last in memory (f .0) (f .1 .0) (f .1 .1 .1 .1 .0) (start c .args .bytes .now)
+
+abbrev entries : tie.After-second → List ℕ
+entries c = queueOf (c .second .last .1 .1 .0) (c .second .result .queued)
+
+abbrev vacants : tie.After-second → List ℕ
+vacants c = queueOf (c .second .last .1 .1 .1 .0) (start c .args .s .paths - (c .second .result .queued + 1))
+
+copied : (c : tie.After-second) (o : Extract (start c)) → let a = start c .args in
+    let d = extract-seconding o in
+    let k = copy (d .hand .book) (a .s .paths) (d .hand .arrays) (d .hand .taken) (d .hand .rest) (a .t .next) (d .hand .taken .blocks) in
+    (c .second .result .queued ≡ length (k .queue)) × (c .second .result .next ≡ k .next) × (c .second .result .crowded ≡ a .t .crowded + length (k .crowded))
+    × Stands (d .hand .book) (a .s .paths) (at-second c) (a .e ∷ entries c) (vacants c) (k .arrays) (d .hand .taken ∷ k .queue)
+copied c o = c .second .ensures .1 .1 (extract-seconding o)
+
+third-requires : tie.Need-third-requires
+third-requires c κs =
+    let t = c .before .before .before .before .before .before .before .before .before in
+    let a = start t .args in
+    let f = t .second .ensures in
+    ((f .0 .0, f .0 .1, f .1 .0 .2, f .0 .3), (vacants t, extract-thirding (own (start t)) (a .t .next) (a .t .crowded) (copied t (own (start t)))))
+
+-- after the move, for any state
+abbrev seconded : tie.After-third → tie.After-second
+seconded c = c .before .before .before .before .before .before .before .before .before .before
+
+abbrev at-third : tie.After-third → Memory
+at-third c = let f = c .third .last in memory (f .0) (f .1 .0) (f .1 .1 .1 .0) (f .1 .1 .1 .1 .0)
+
+moved : (c : tie.After-third) (o : Extract (start (seconded c))) → let t = seconded c in
+    let a = start t .args in
+    MovedTo o (a .t .next) (a .t .crowded) (copied t o) (at-third c) (queueOf (c .third .last .1 .1 .0) (t .second .result .queued + 1))
+moved c o =
+    let t = seconded c in
+    let a = start t .args in
+    let one : suc (t .second .result .queued) ≡ t .second .result .queued + 1 = omega arith in
+    subst (λ (i : ℕ). MovedTo o (a .t .next) (a .t .crowded) (copied t o) (at-third c) (queueOf (c .third .last .1 .1 .0) i)) one
+    (c .third .ensures .1 (vacants t) (extract-thirding o (a .t .next) (a .t .crowded) (copied t o)))
+
+add-x : tie.Need-add-x
+add-x c = search needs
+
+blocks-of-requires : tie.Need-blocks-of-requires
+blocks-of-requires c κs = search needs
+
+cast-outrun : tie.Need-cast-outrun
+cast-outrun c = search needs
+
+abbrev thirded : tie.After-blocks-of → tie.After-third
+thirded c = c .before .before .before .before .before .before .before .before .before
+
+returns : tie.Need-returns
+unfolding memory
+returns c =
+    let u = thirded (c .before) in
+    let t = seconded u in
+    let s = start t in
+    let a = s .args in
+    let l = u .third .ensures .0 in
+    let f = c .outrun .ensures in
+    let b = c .before .blocks-of .result in (
+      (
+        record {
+          deep = l .0 .deep;
+          many = l .0 .many;
+          sizes = record { rows-size = l .0 .sizes .rows-size; holders-size = f .0 .0 };
+          numbers = l .0 .numbers;
+          bytes = l .0 .bytes;
+        },
+        f .0 .1,
+        f .0 .2,
+        ap length (f .0 .3) ∙ visit-length (a .visits .now) b ∙ s .pre .0 .3,
+        l .2,
+      ),
+      (
+        (f .0 .5 ∙ t .second .ensures .1 .0 .0, f .0 .7),
+        λ o.
+            let q = extract-queued o (a .t .next) (a .t .crowded) (copied t o) (moved u o) in
+            let k =
+            extract-done o (a .t .next) (a .t .crowded) (copied t o) (moved u o) (a .s .visits) (a .visits .now) (t .second .result .outrun) b (c .before .blocks-of .ensures)
+            (f .1 (u .third .last .1 .1 .1 .0) (u .third .last .1 .1 .1 .1 .0) q) in
+            (k .0, f .0 .4 ∙ k .1, f .0 .3 ∙ k .2, f .0 .6 ∙ k .3, omega (arith, k .4, t .second .ensures .1 .0 .1), k .5),
+      ),
+    )
+
+outrun-requires : tie.Need-outrun-requires
+unfolding memory
+outrun-requires c κs =
+    let u = thirded c in
+    let t = seconded u in
+    let s = start t in
+    let a = s .args in
+    let o = own s in
+    let l = u .third .ensures .0 in (
+      (l .0 .sizes, l .1, t .second .ensures .0 .2, s .pre .0 .3, l .0 .deep),
+      (
+        (
+          l .0 .many,
+          t .second .ensures .1 .0 .2,
+          omega (arith, c .blocks-of .ensures, extract-blocks o),
+          s .pre .1 .1 .0 (c .blocks-of .result),
+          omega (arith, t .second .ensures .1 .0 .1, s .pre .1 .0 .5),
+        ),
+        (
+          u .third .last .1 .1 .1 .0,
+          u .third .last .1 .1 .1 .1 .0,
+          extract-queued o (a .t .next) (a .t .crowded) (copied t o) (moved u o),
+        ),
+      ),
+    )
+
+same-length : tie.Need-same-length
+same-length c = search needs
+
+same-length-2 : tie.Need-same-length-2
+same-length-2 c = search needs
+
+pub extract-spec : {M : Type 1} → statement M
+extract-spec =
+    tie.close
+    (tie.spec
+    second-requires
+    third-requires
+    add-x
+    blocks-of-requires
+    cast-outrun
+    outrun-requires
+    same-length
+    same-length-2
+    returns)

@@ -1,0 +1,303 @@
+-- `extraction::extract::third` meets its contract: once the values of the path's next block are there, the search answers the reader's nearest word;
+-- the path's row and entry, written anew, hold the path with that word, and the insertion queues it. Moves.antt has each step, for any state that
+-- memory stands for; the contract's own state shows what the calls need. Assumes nothing.
+use mathlib.Core.Path.{_≡_, ap, ap₂, _∙_, subst}
+use mathlib.Core.List.{List, _∷_}
+use Prim.Native.Nat.{ℕ, _+_, _*_, _^_}
+use native.Mathlib.Omega.{arith}
+use borrow.Author.Needs.{needs}
+use lib.ListN.{getD}
+use lib.IntN.{ℤ, pos, negℤ, natAbs, _-ℤ_}
+use mir.Facts.{toZ-ofZ}
+use Rattle.laws.proofs.Signed.{back, abs-fits}
+use Rattle.polar.specs.Layers.{part}
+use Rattle.outer.specs.Words.{nearest}
+use Rattle.outer.specs.Blocks.{candidateOf}
+use Rattle.order.specs.Entries.{keyAt, slotAt, Packed, queueOf}
+use Rattle.sharing.specs.Sharing.{idAt}
+use Rattle.heights.specs.Workspace.{spot}
+use Rattle.standing.specs.Seen.{Memory, memory}
+use Rattle.standing.specs.Standing.{cell, Stands, withIds, PutRow}
+use Rattle.extraction.specs.Extraction.{Thirding}
+use Rattle.extraction.proofs.Moves.{view, third-tabled, third-parities, third-bias, third-blocks, third-low, third-spent, third-cost, third-set, third-id, third-searchable, third-total, third-queued}
+use Rattle.extraction.proofs.extract.third.Statement.{statement}
+use Rattle.extraction.proofs.extract.third.Tie as tie
+
+calculate-requires : tie.Need-calculate-requires
+calculate-requires c κs = search needs
+
+slot-of-requires : tie.Need-slot-of-requires
+slot-of-requires c κs = search needs
+
+mul-spent : tie.Need-mul-spent
+mul-spent c = search needs
+
+add-spent : tie.Need-add-spent
+add-spent c = search needs
+
+mul-spent-2 : tie.Need-mul-spent-2
+mul-spent-2 c = search needs
+
+element-copy-out-spent : tie.Need-element-copy-out-spent
+element-copy-out-spent c = search needs
+
+mul-spent-3 : tie.Need-mul-spent-3
+mul-spent-3 c = search needs
+
+add-spent-2 : tie.Need-add-spent-2
+add-spent-2 c = search needs
+
+mul-spent-4 : tie.Need-mul-spent-4
+mul-spent-4 c = search needs
+
+element-copy-out-spent-2 : tie.Need-element-copy-out-spent-2
+element-copy-out-spent-2 c = search needs
+
+-- the memory where the call began, and a state that it stands for
+abbrev start : tie.After-calculate → tie.Start
+start c = c .before .before .before .before .before .before
+
+abbrev at-start : tie.Start → Memory
+at-start s = memory (s .args .rows .now) (s .args .holders .now) (s .args .numbers .now) (s .args .bytes .now)
+
+abbrev Third : tie.Start → List ℕ → Type 0
+Third s vs =
+    let a = s .args in
+    Thirding (a .m) (a .paths) (at-start s) (a .e) (queueOf (a .order .now) (a .queued)) vs (a .kinds .now) (a .terms .now) (a .last) (a .at)
+
+own : (s : tie.Start) → Third s (s .pre .1 .0)
+own s = s .pre .1 .1
+
+-- the memory once the values are there, and the slot
+abbrev made : tie.After-slot-of → tie.After-calculate
+made c = c .before .before .before .before
+
+abbrev at-made : tie.After-calculate → Memory
+at-made c = let f = c .calculate .last in memory (f .0) (f .1 .0) (f .1 .1 .0) (f .1 .1 .1 .0)
+
+values-there : (c : tie.After-calculate) (vs : List ℕ) (o : Third (start c) vs) → let a = start c .args in
+    Stands (o .moving .hand .book) (a .paths) (at-made c) (a .e ∷ queueOf (a .order .now) (a .queued)) vs (view o .arrays) (withIds (o .moving .hand .taken) (view o .ids) ∷ o .moving .hand .rest)
+values-there c vs o = c .calculate .ensures .1 (queueOf (start c .args .order .now) (start c .args .queued)) vs (o .moving)
+
+abbrev slot : tie.After-slot-of → ℕ
+slot c = slotAt (start (made c) .args .e)
+
+slot-is : (c : tie.After-slot-of) → c .slot-of .result ≡ slot c
+slot-is c = c .slot-of .ensures .0
+
+-- the cells read
+abbrev cell-of : tie.After-slot-of → ℕ → ℕ
+cell-of c f = cell (at-made (made c) .rows) (slot c) f
+
+read : (c : tie.After-slot-of) (f : ℕ) → getD (made c .calculate .last .0) (c .slot-of .result * 16 + f) 0 ≡ cell-of c f
+unfolding memory cell
+read c f = ap (λ (i : ℕ). getD (made c .calculate .last .0) (i * 16 + f) 0) (slot-is c)
+
+add-spent-3 : tie.Need-add-spent-3
+unfolding memory
+add-spent-3 c =
+    let t = c .before .before in
+    let o = own (start (made t)) in
+    let st = values-there (made t) _ o in
+    record { fits = omega (arith, read t 10, read t 11, third-spent o st, third-cost o st, o .total) }
+
+mul-parities : tie.Need-mul-parities
+mul-parities c = search needs
+
+add-parities : tie.Need-add-parities
+add-parities c = search needs
+
+mul-parities-2 : tie.Need-mul-parities-2
+mul-parities-2 c = search needs
+
+element-copy-out-parities : tie.Need-element-copy-out-parities
+element-copy-out-parities c = search needs
+
+nearest-word-requires : tie.Need-nearest-word-requires
+unfolding memory
+nearest-word-requires c κs =
+    let t = c .before .before .before .before .before .before .before .before in
+    let s = start (made t) in
+    let o = own s in
+    let l = made t .calculate .ensures .0 .0 in
+    let st = values-there (made t) _ o in
+    rw (slot-is t) (
+      (l .sizes .rows-size, omega (arith, t .slot-of .ensures), l .deep, third-low o, third-id o st (l .many)),
+      (third-searchable o st l, s .pre .0 .3),
+    )
+
+-- the word found, for any state
+abbrev slotted : tie.After-nearest-word → tie.After-slot-of
+slotted c = c .before .before .before .before .before .before .before .before .before
+
+found-is : (c : tie.After-nearest-word) (vs : List ℕ) (o : Third (start (made (slotted c))) vs) →
+    let y = at-made (made (slotted c)) in
+    let a = start (made (slotted c)) .args in
+    let h = a .at .height in
+    let p = o .moving .hand .taken in
+    c .nearest-word .result
+    ≡ candidateOf (o .moving .hand .book)
+    (nearest (o .moving .hand .book) (part (spot (a .m) (idAt (y .rows) (slot (slotted c)) h) h) (2 ^ h) (y .numbers)) (p .parities) (p .blocks))
+unfolding memory
+found-is c vs o =
+    let t = slotted c in
+    let p = o .moving .hand .taken in
+    rw (slot-is t) at (c .nearest-word .ensures .1 (o .moving .hand .book) (p .blocks) p (third-tabled o) (third-parities o) (rw (slot-is t) (third-set o (values-there (made t) vs o))))
+
+put-requires : tie.Need-put-requires
+unfolding memory
+put-requires c κs =
+    let t = slotted (c .before) in
+    (made t .calculate .ensures .0 .0 .sizes .rows-size, t .slot-of .ensures .1)
+
+bias-back : (c : tie.After-calculate) → back (start c .args .at .bias) ≡ start c .args .at .bias
+unfolding memory
+bias-back c = toZ-ofZ (abs-fits _ (omega (arith, third-bias (own (start c)))))
+
+-- where the word was found, of a place after the row is written
+abbrev searched : tie.After-put → tie.After-nearest-word
+searched c = c .before .before
+
+score-requires : tie.Need-score-requires
+unfolding memory
+score-requires c κs =
+    let u = searched (c .before .before) in
+    let t = slotted u in
+    let o = own (start (made t)) in
+    (omega (arith, read t 10, read t 11, third-total o (values-there (made t) _ o) (found-is u _ o)), rw (bias-back (made t)) (third-bias o))
+
+blocks-of-requires : tie.Need-blocks-of-requires
+blocks-of-requires c κs = search needs
+
+-- the place where the row is written
+abbrev written : tie.After-score → tie.After-put
+written c = c .before .before .before
+
+add-entry : tie.Need-add-entry
+unfolding memory
+add-entry c =
+    let s = start (made (slotted (searched (written (c .before))))) in
+    record { fits = omega (arith, c .blocks-of .ensures, third-blocks (own s)) }
+
+number-of-requires : tie.Need-number-of-requires
+number-of-requires c κs = search needs
+
+score-back : (c : tie.After-score) → back (c .score .result) ≡ c .score .result
+score-back c = toZ-ofZ (abs-fits _ (omega (arith, c .score .ensures .1)))
+
+entry-requires : tie.Need-entry-requires
+unfolding memory keyAt
+entry-requires c κs =
+    let f = c .before .before in
+    let t = slotted (searched (written f)) in
+    let s = start (made t) in (
+      omega (arith, ap natAbs (score-back f), f .score .ensures .1),
+      omega (arith, c .before .blocks-of .ensures, third-blocks (own s)),
+      omega (arith, c .number-of .ensures),
+      t .slot-of .ensures .1,
+    )
+
+insert-requires : tie.Need-insert-requires
+insert-requires c κs =
+    let s = start (made (slotted (searched (written (c .before .before .before))))) in
+    (s .pre .0 .1, omega (arith, s .pre .0 .2, s .pre .0 .0 .many))
+
+-- the score and the entry
+abbrev total : tie.After-score → ℕ
+total c = let u = searched (written c) in cell-of (slotted u) 10 + cell-of (slotted u) 11 + u .nearest-word .result .cost
+
+score-is : (c : tie.After-score) → back (c .score .result) ≡ negℤ (pos (total c)) -ℤ start (made (slotted (searched (written c)))) .args .at .bias
+score-is c =
+    let u = searched (written c) in
+    let t = slotted u in
+    let sum = ap₂ (λ (a b : ℕ). a + b + u .nearest-word .result .cost) (read t 10) (read t 11) in
+    score-back c ∙ c .score .ensures .0 ∙ ap₂ (λ (n : ℕ) (z : ℤ). negℤ (pos n) -ℤ z) sum (bias-back (made t))
+
+packed : (c : tie.After-entry) → let f = c .before .before .before in
+    let t = slotted (searched (written f)) in
+    let e = start (made t) .args .e in
+    Packed (c .entry .result) (record { score = back (f .score .result); blocks = keyAt e .blocks + 1; number = keyAt e .number }) (slot t)
+packed c =
+    let f = c .before .before .before in
+    let t = slotted (searched (written f)) in
+    let Pack : ℕ → ℕ → ℕ → Type 0 = λ b n s. Packed (c .entry .result) (record { score = back (f .score .result); blocks = b + 1; number = n }) s in
+    let e = start (made t) .args .e in
+    subst (λ (s : ℕ). Pack (keyAt e .blocks) (keyAt e .number) s) (slot-is t)
+    (subst (λ (n : ℕ). Pack (keyAt e .blocks) n (t .slot-of .result)) (c .before .number-of .ensures)
+    (subst (λ (b : ℕ). Pack b (c .before .number-of .result) (t .slot-of .result)) (c .before .before .blocks-of .ensures) (c .entry .ensures)))
+
+-- the row
+put-is : (c : tie.After-put) → let u = searched c in
+    let t = slotted u in
+    let w = u .nearest-word .result in
+    PutRow (slot t) (at-made (made t) .rows) (c .put .last .0) (cell-of t 10 + cell-of t 11) (w .cost) (w .number) (cell-of t 14) (w .parities)
+unfolding memory cell
+put-is c =
+    let u = searched c in
+    let t = slotted u in
+    let w = u .nearest-word .result in
+    let rows = made t .calculate .last .0 in
+    subst (λ (s : ℕ). PutRow s rows (c .put .last .0) (getD rows (s * 16 + 10) 0 + getD rows (s * 16 + 11) 0) (w .cost) (w .number) (getD rows (s * 16 + 14) 0) (w .parities))
+    (slot-is t) (c .put .ensures)
+
+-- the values and the sums are as many as they were
+abbrev ended : tie.After-insert → tie.After-put
+ended c = written (c .before .before .before .before)
+
+same-length : tie.Need-same-length
+same-length c = made (slotted (searched (ended c))) .calculate .kept .1 .1 .0
+
+same-length-2 : tie.Need-same-length-2
+same-length-2 c = made (slotted (searched (ended c))) .calculate .kept .1 .1 .1 .0
+
+returns : tie.Need-returns
+unfolding memory
+returns c =
+    let p = ended c in
+    let u = searched p in
+    let t = slotted u in
+    let l = made t .calculate .ensures .0 .0 in (
+      (
+        record {
+          deep = l .deep;
+          many = l .many;
+          sizes = record { rows-size = p .put .ensures .size ∙ l .sizes .rows-size; holders-size = l .sizes .holders-size };
+          numbers = l .numbers;
+          bytes = l .bytes;
+        },
+        c .insert .ensures .0,
+        u .nearest-word .ensures .0,
+      ),
+      λ vs o. rw (c .insert .ensures .1) (third-queued o (values-there (made t) vs o) (found-is u vs o) (score-is (c .before .before .before .before)) (packed (c .before)) (put-is p)),
+    )
+
+pub third-spec : {M : Type 1} → statement M
+third-spec =
+    tie.close
+    (tie.spec
+    calculate-requires
+    slot-of-requires
+    mul-spent
+    add-spent
+    mul-spent-2
+    element-copy-out-spent
+    mul-spent-3
+    add-spent-2
+    mul-spent-4
+    element-copy-out-spent-2
+    add-spent-3
+    mul-parities
+    add-parities
+    mul-parities-2
+    element-copy-out-parities
+    nearest-word-requires
+    put-requires
+    score-requires
+    blocks-of-requires
+    add-entry
+    number-of-requires
+    entry-requires
+    insert-requires
+    same-length
+    same-length-2
+    returns)

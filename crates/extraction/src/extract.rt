@@ -1,0 +1,225 @@
+// One extraction of a path that has a next block: steps 2 to 4.
+ghost use mathlib.Core.Path.{_≡_};
+ghost use mathlib.Core.List.{List, _∷_};
+ghost use Prim.Native.Nat.{ℕ, suc, _+_, _-_, _≤_, _<_};
+ghost use lib.ListN.{length, getD};
+ghost use Rattle.machine.specs.Queue as Q;
+ghost use Rattle.outer.specs.Search.{Scratch};
+ghost use Rattle.reader.specs.Reader as R;
+ghost use Rattle.reader.specs.Paths.{keyOf};
+ghost use Rattle.order.specs.Entries.{queueOf};
+ghost use Rattle.standing.specs.Seen.{memory, Lent};
+ghost use Rattle.standing.specs.Standing.{Stands};
+ghost use Rattle.extraction.specs.Extraction.{Seconding, Thirding, Extracting};
+use advance::outruns::outrun;
+use advance::values::calculate;
+use order::entries::blocks_of;
+use order::entries::entry;
+use order::entries::number_of;
+use order::entries::slot_of;
+use order::moves::insert;
+use steps::Setting;
+use steps::Tally;
+use steps::copies::copy;
+use words::Block;
+use words::nearest_word;
+use words::put;
+use words::score;
+
+// Step 2 for a path with so many blocks; the empty path has no copy.
+fn second(
+    rows: &mut [u32; 4096],
+    holders: &mut [u16; 2570],
+    order: &mut [u64; 256],
+    vacant: &mut [u8; 256],
+    numbers: &mut [i32],
+    bytes: &[u8],
+    kinds: &[u8; 512],
+    terms: &[u32; 512],
+    s: Setting,
+    t: Tally,
+    e: u64,
+    last: Block,
+    words: &mut [u32; 256],
+    sets: &mut [u32; 256],
+    sums: &mut [u32; 128],
+) -> Tally
+    requires { ⌜ Lent (s .m) (s .paths) (memory (now rows) (now holders) (now numbers) (now bytes)) × (length (now order) ≡ 256) × (length (now vacant) ≡ 256) ⌝ }
+    requires { ⌜ Scratch (now words) (now sets) (now sums) × (2 ≤ s .paths) × (t .queued + 1 ≤ s .paths) × (t .next < 32768) × (t .crowded < 65536) ⌝ }
+    requires { ⌜ Seconding (s .m) (s .paths) (memory (now rows) (now holders) (now numbers) (now bytes)) e (queueOf (now order) (t .queued))
+        (queueOf (now vacant) (s .paths - (t .queued + 1))) (now kinds) (now terms) last ⌝ }
+    ensures { λ _. ⌜ Lent (s .m) (s .paths) (memory (now (rows .exit)) (now (holders .exit)) (now (numbers .exit)) (now (bytes .entry)))
+        × (length (now (order .exit)) ≡ 256) × (length (now (vacant .exit)) ≡ 256) × Scratch (now (words .exit)) (now (sets .exit)) (now (sums .exit)) ⌝ }
+    ensures { λ r. ⌜ (r .extractions ≡ t .extractions) × (r .outrun ≡ t .outrun) × (r .queued + 1 ≤ s .paths) ⌝ }
+    ensures { λ r. ⌜ ((c : Seconding (s .m) (s .paths) (memory (now (rows .entry)) (now (holders .entry)) (now (numbers .entry)) (now (bytes .entry))) e (queueOf (now (order .entry)) (t .queued))
+        (queueOf (now (vacant .entry)) (s .paths - (t .queued + 1))) (now (kinds .entry)) (now (terms .entry)) last)
+        → (let k = R.copy (c .hand .book) (s .paths) (c .hand .arrays) (c .hand .taken) (c .hand .rest) (t .next) (c .hand .taken .blocks) in
+        (r .queued ≡ length (k .queue)) × (r .next ≡ k .next) × (r .crowded ≡ t .crowded + length (k .crowded))
+        × Stands (c .hand .book) (s .paths) (memory (now (rows .exit)) (now (holders .exit)) (now (numbers .exit)) (now (bytes .entry))) (e ∷ queueOf (now (order .exit)) (r .queued))
+        (queueOf (now (vacant .exit)) (s .paths - (r .queued + 1))) (k .arrays) (c .hand .taken ∷ k .queue))) ⌝ }
+{
+    let blocks = blocks_of(e);
+    if blocks == 0 {
+        return t;
+    }
+    copy(
+        rows,
+        holders,
+        order,
+        vacant,
+        numbers,
+        bytes,
+        kinds,
+        terms,
+        s,
+        t,
+        e,
+        blocks,
+        last,
+        words,
+        sets,
+        sums,
+    )
+}
+
+// Step 3: the path's next block, with its nearest word; it is queued again.
+fn third(
+    rows: &mut [u32; 4096],
+    holders: &mut [u16; 2570],
+    order: &mut [u64; 256],
+    numbers: &mut [i32],
+    bytes: &mut [u8],
+    kinds: &[u8; 512],
+    terms: &[u32; 512],
+    m: usize,
+    paths: usize,
+    queued: usize,
+    e: u64,
+    last: Block,
+    at: Block,
+    words: &mut [u32; 256],
+    sets: &mut [u32; 256],
+    sums: &mut [u32; 128],
+)
+    requires { ⌜ Lent m paths (memory (now rows) (now holders) (now numbers) (now bytes)) × (length (now order) ≡ 256) × (queued + 1 ≤ paths) × Scratch (now words) (now sets) (now sums) ⌝ }
+    requires { ⌜ ((vs : List ℕ) × Thirding m paths (memory (now rows) (now holders) (now numbers) (now bytes)) e (queueOf (now order) queued) vs (now kinds) (now terms) last at) ⌝ }
+    ensures { λ _. ⌜ Lent m paths (memory (now (rows .exit)) (now (holders .exit)) (now (numbers .exit)) (now (bytes .exit)))
+        × (length (now (order .exit)) ≡ 256) × Scratch (now (words .exit)) (now (sets .exit)) (now (sums .exit)) ⌝ }
+    ensures { λ _. ⌜ ((vs : List ℕ) (c : Thirding m paths (memory (now (rows .entry)) (now (holders .entry)) (now (numbers .entry)) (now (bytes .entry))) e (queueOf (now (order .entry)) queued) vs (now (kinds .entry)) (now (terms .entry)) last at)
+        → (let h = c .moving .hand in let k = R.move (h .book) (h .arrays) (h .taken) (h .rest) in
+        Stands (h .book) paths (memory (now (rows .exit)) (now (holders .exit)) (now (numbers .exit)) (now (bytes .exit))) (queueOf (now (order .exit)) (suc queued)) vs
+        (k .arrays) (Q.insert (keyOf (h .book)) (k .path) (h .rest)))) ⌝ }
+{
+    calculate(rows, holders, numbers, bytes, m, paths, e, last, at);
+    let slot = slot_of(e);
+    let spent = rows[slot * 16 + 10] + rows[slot * 16 + 11];
+    let parities = rows[slot * 16 + 14];
+    let found = nearest_word(rows, numbers, kinds, terms, m, slot, at, words, sets, sums);
+    let cost = found.cost;
+    put(
+        rows,
+        slot,
+        spent,
+        cost,
+        found.number,
+        parities,
+        found.parities,
+    );
+    insert(
+        order,
+        queued,
+        entry(
+            score(spent, cost, at.bias),
+            blocks_of(e) + 1,
+            number_of(e),
+            slot,
+        ),
+    );
+}
+
+// Steps 2 to 4 for the path of entry e, which is no longer queued.
+pub fn extract(
+    rows: &mut [u32; 4096],
+    holders: &mut [u16; 2570],
+    order: &mut [u64; 256],
+    vacant: &mut [u8; 256],
+    visits: &mut [u32; 512],
+    numbers: &mut [i32],
+    bytes: &mut [u8],
+    kinds: &[u8; 512],
+    terms: &[u32; 512],
+    s: Setting,
+    t: Tally,
+    e: u64,
+    last: Block,
+    at: Block,
+    words: &mut [u32; 256],
+    sets: &mut [u32; 256],
+    sums: &mut [u32; 128],
+) -> Tally
+    requires { ⌜ Lent (s .m) (s .paths) (memory (now rows) (now holders) (now numbers) (now bytes)) × (length (now order) ≡ 256) × (length (now vacant) ≡ 256) × (length (now visits) ≡ 512) ⌝ }
+    requires { ⌜ Scratch (now words) (now sets) (now sums) × (2 ≤ s .paths) × (t .queued + 1 ≤ s .paths) × (t .next < 32768) × (t .crowded < 65536) × (t .outrun < 16777216) ⌝ }
+    requires { ⌜ ((b : ℕ) → getD (now visits) b 0 < 65536) ⌝ }
+    requires { ⌜ Extracting (s .m) (s .paths) (memory (now rows) (now holders) (now numbers) (now bytes)) e (queueOf (now order) (t .queued))
+        (queueOf (now vacant) (s .paths - (t .queued + 1))) (now kinds) (now terms) last at ⌝ }
+    ensures { λ _. ⌜ Lent (s .m) (s .paths) (memory (now (rows .exit)) (now (holders .exit)) (now (numbers .exit)) (now (bytes .exit)))
+        × (length (now (order .exit)) ≡ 256) × (length (now (vacant .exit)) ≡ 256) × (length (now (visits .exit)) ≡ 512) × Scratch (now (words .exit)) (now (sets .exit)) (now (sums .exit)) ⌝ }
+    ensures { λ r. ⌜ (r .extractions ≡ t .extractions) × (r .queued ≤ s .paths) ⌝ }
+    ensures { λ r. ⌜ ((c : Extracting (s .m) (s .paths) (memory (now (rows .entry)) (now (holders .entry)) (now (numbers .entry)) (now (bytes .entry))) e (queueOf (now (order .entry)) (t .queued))
+        (queueOf (now (vacant .entry)) (s .paths - (t .queued + 1))) (now (kinds .entry)) (now (terms .entry)) last at)
+        → (let k = R.extract (c .hand .book) (s .visits) (s .paths) (c .hand .arrays) (c .hand .taken) (c .hand .rest) (t .next) (now (visits .entry)) in
+        (r .queued ≡ length (k .state .queue)) × (r .next ≡ k .state .next) × (now (visits .exit) ≡ k .state .visits)
+        × (r .crowded ≡ t .crowded + length (k .step .crowded)) × (r .outrun ≡ t .outrun + length (k .step .outrun))
+        × Stands (c .hand .book) (s .paths) (memory (now (rows .exit)) (now (holders .exit)) (now (numbers .exit)) (now (bytes .exit))) (queueOf (now (order .exit)) (r .queued))
+        (queueOf (now (vacant .exit)) (s .paths - r .queued)) (k .state .arrays) (k .state .queue))) ⌝ }
+{
+    let m = s.m;
+    let paths = s.paths;
+    let mut x = second(
+        rows,
+        holders,
+        order,
+        vacant,
+        numbers,
+        bytes,
+        kinds,
+        terms,
+        s,
+        t,
+        e,
+        last,
+        words,
+        sets,
+        sums,
+    );
+    let queued = x.queued;
+    third(
+        rows,
+        holders,
+        order,
+        numbers,
+        bytes,
+        kinds,
+        terms,
+        m,
+        paths,
+        queued,
+        e,
+        last,
+        at,
+        words,
+        sets,
+        sums,
+    );
+    x.queued = queued + 1;
+    outrun(
+        rows,
+        holders,
+        order,
+        vacant,
+        visits,
+        s,
+        x,
+        blocks_of(e) as usize,
+    )
+}

@@ -1,0 +1,105 @@
+-- `start::begin` meets its contract. The loop's invariant: the heights below h count one path more, which holds none there. Assumes
+-- nothing.
+use mathlib.Core.Path.{_≡_, ap, _∙_}
+use Prim.Native.Nat.{ℕ, _-_, _≤_, _<_}
+use native.Mathlib.Omega.{arith}
+use lib.ListN.{length, getD, set, length-set, length-replicate}
+use Rattle.sharing.proofs.Tables.{More, more-none}
+use Rattle.start.proofs.Begun.{Zeros, zeros, begun-more, begun-last, begun-held}
+use Rattle.start.proofs.begin.Statement.{statement}
+use Rattle.start.proofs.begin.Tie as tie
+
+abbrev Inv-loop : tie.InvT-loop
+Inv-loop rows holders₀ m h₀ holders h = (h ≤ m) × (length holders ≡ 2570) × More h (set rows m 1) 0 holders₀ holders
+
+abbrev μ-loop : tie.MeasureT-loop
+μ-loop rows holders₀ m h₀ holders h = m - h
+
+-- the tables are given as zeros
+rows-none : (s : tie.Start Inv-loop μ-loop) → Zeros (s .args .rows .now)
+rows-none s k = ap (λ l. getD l k 0) (s .pre .0) ∙ zeros 4096 k
+
+rows-size : (s : tie.Start Inv-loop μ-loop) → length (s .args .rows .now) ≡ 4096
+rows-size s = ap length (s .pre .0) ∙ length-replicate {A = ℕ} 4096 0
+
+holders-none : (s : tie.Start Inv-loop μ-loop) → Zeros (s .args .holders .now)
+holders-none s k = ap (λ l. getD l k 0) (s .pre .1) ∙ zeros 2570 k
+
+loop-holds : tie.Need-loop-holds Inv-loop μ-loop
+loop-holds c = (omega arith, ap length (c .pre .1) ∙ length-replicate {A = ℕ} 2570 0, more-none _ _ _)
+
+mul-holders : tie.Need-mul-holders Inv-loop μ-loop
+mul-holders c = omega arith
+
+mul-holders-2 : tie.Need-mul-holders-2 Inv-loop μ-loop
+mul-holders-2 c = omega arith
+
+element-write-holders : tie.Need-element-write-holders Inv-loop μ-loop
+element-write-holders c = omega arith
+
+add-h : tie.Need-add-h Inv-loop μ-loop
+add-h c = omega arith
+
+loop-less : tie.Need-loop-less Inv-loop μ-loop
+loop-less c = omega arith
+
+loop-again : tie.Need-loop-again Inv-loop μ-loop
+loop-again c =
+    let s = c .before .before in
+    let x = c .before .loop in (
+      omega arith,
+      simp length-set (x .inv .1),
+      begun-more (s .args .rows .now) (s .args .m) (rows-none s) (holders-none s) (x .inv .1) (s .pre .2) (omega arith) (x .inv .2),
+    )
+
+mul-holders-3 : tie.Need-mul-holders-3 Inv-loop μ-loop
+mul-holders-3 c = omega arith
+
+add-holders : tie.Need-add-holders Inv-loop μ-loop
+add-holders c = omega arith
+
+mul-holders-4 : tie.Need-mul-holders-4 Inv-loop μ-loop
+mul-holders-4 c = omega arith
+
+element-write-holders-2 : tie.Need-element-write-holders-2 Inv-loop μ-loop
+element-write-holders-2 c = omega arith
+
+mul-rows : tie.Need-mul-rows Inv-loop μ-loop
+mul-rows c = omega arith
+
+element-write-rows : tie.Need-element-write-rows Inv-loop μ-loop
+element-write-rows c = omega arith
+
+returns : tie.Need-returns Inv-loop μ-loop
+returns c =
+    let s = c .before .before in
+    let x = c .before .loop in
+    let rows = s .args .rows .now in
+    let m = s .args .m in
+    let room : m < length rows = omega (arith, rows-size s) in
+    let e : x .h ≡ m = omega arith in (
+      ap (λ l. set l m 1) (s .pre .0),
+      simp length-set (x .inv .1),
+      begun-held rows m (rows-none s) (holders-none s) room (begun-last rows m (rows-none s) (holders-none s) (x .inv .1) (s .pre .2) room e (x .inv .2)),
+    )
+
+pub begin-spec : {M : Type 1} → statement M
+begin-spec =
+    tie.close
+    (tie.spec
+    Inv-loop
+    μ-loop
+    loop-holds
+    mul-holders
+    mul-holders-2
+    element-write-holders
+    add-h
+    loop-less
+    loop-again
+    mul-holders-3
+    add-holders
+    mul-holders-4
+    element-write-holders-2
+    mul-rows
+    element-write-rows
+    returns)

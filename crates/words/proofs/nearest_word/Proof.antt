@@ -1,0 +1,88 @@
+-- `words::nearest_word` meets its contract: the id and the parities are those of the row, and the values lie where `place` says. Assumes
+-- nothing.
+use mathlib.Core.Path.{ap, _∙_}
+use Prim.Native.Nat.{_+_, _*_, _^_}
+use native.Mathlib.Omega.{arith}
+use lib.ListN.{getD}
+use borrow.Author.Needs.{needs}
+use Rattle.polar.specs.Layers.{part}
+use Rattle.outer.specs.Blocks.{candidateOf}
+use Rattle.outer.specs.Words.{nearest}
+use Rattle.sharing.specs.Sharing.{idAt}
+use Rattle.heights.specs.Workspace.{Id}
+use Rattle.standing.specs.Standing.{cell}
+use Rattle.words.proofs.nearest_word.Statement.{statement}
+use Rattle.words.proofs.nearest_word.Tie as tie
+
+mul-id : tie.Need-mul-id
+mul-id c = search needs
+
+add-id : tie.Need-add-id
+add-id c = search needs
+
+mul-id-2 : tie.Need-mul-id-2
+mul-id-2 c = search needs
+
+element-copy-out-id : tie.Need-element-copy-out-id
+element-copy-out-id c = search needs
+
+-- the row's id
+has-id : (c : tie.Start) → Id 256 (getD (c .args .rows .now) (c .args .slot * 16 + c .args .at .height) 0)
+unfolding idAt
+has-id c = c .pre .0 .4
+
+cast-id : tie.Need-cast-id
+cast-id c = record { fits = omega (arith, has-id (c .before) .most) }
+
+place-requires : tie.Need-place-requires
+place-requires c κs = let s = c .before in (s .pre .0 .2, s .pre .0 .3, has-id s)
+
+mul-parities : tie.Need-mul-parities
+mul-parities c = search needs
+
+add-parities : tie.Need-add-parities
+add-parities c = search needs
+
+mul-parities-2 : tie.Need-mul-parities-2
+mul-parities-2 c = search needs
+
+element-copy-out-parities : tie.Need-element-copy-out-parities
+element-copy-out-parities c = search needs
+
+cast-nearest : tie.Need-cast-nearest
+cast-nearest c = search needs
+
+nearest-requires : tie.Need-nearest-requires
+unfolding idAt
+nearest-requires c κs =
+    let s = c .before .before .before .before .before .before in
+    (rw (c .before .before .before .before .place .ensures) (s .pre .1 .0), s .pre .1 .1)
+
+returns : tie.Need-returns
+unfolding idAt cell
+returns c =
+    let a = c .before .before .before .before .before .before .before .args in
+    let j = a .at .height in (
+      c .nearest .ensures .0,
+      λ B b p o h e.
+          c .nearest .ensures .1 B b (p .parities) o h e
+          ∙ ap (λ n. candidateOf B (nearest B (part n (2 ^ j) (a .numbers .now)) (p .parities) b)) (c .before .before .before .before .before .place .ensures),
+    )
+
+pub nearest-word-spec : {M : Type 1} → statement M
+nearest-word-spec =
+    tie.close
+    (tie.spec
+    mul-id
+    add-id
+    mul-id-2
+    element-copy-out-id
+    cast-id
+    place-requires
+    mul-parities
+    add-parities
+    mul-parities-2
+    element-copy-out-parities
+    cast-nearest
+    nearest-requires
+    returns)

@@ -1,0 +1,114 @@
+-- `words::put` meets its contract: the five stores are those of a list of five numbers, one after the other. Assumes nothing.
+use mathlib.Core.Path.{_≡_, refl}
+use mathlib.Core.List.{List, [], _∷_}
+use Prim.Native.Nat.{ℕ, _+_, _*_, _<_}
+use native.Mathlib.Omega.{arith}
+use lib.ListN.{length, getD, set}
+use borrow.Author.Needs.{needs}
+use Rattle.laws.proofs.Stores.{Stored, stored-none, stored-more}
+use Rattle.standing.specs.Standing.{cell}
+use Rattle.words.proofs.put.Statement.{statement}
+use Rattle.words.proofs.put.Tie as tie
+
+mul-at : tie.Need-mul-at
+mul-at c = search needs
+
+add-rows : tie.Need-add-rows
+add-rows c = search needs
+
+mul-rows : tie.Need-mul-rows
+mul-rows c = search needs
+
+element-write-rows : tie.Need-element-write-rows
+element-write-rows c = search needs
+
+add-rows-2 : tie.Need-add-rows-2
+add-rows-2 c = search needs
+
+mul-rows-2 : tie.Need-mul-rows-2
+mul-rows-2 c = search needs
+
+element-write-rows-2 : tie.Need-element-write-rows-2
+element-write-rows-2 c = search needs
+
+add-rows-3 : tie.Need-add-rows-3
+add-rows-3 c = search needs
+
+mul-rows-3 : tie.Need-mul-rows-3
+mul-rows-3 c = search needs
+
+element-write-rows-3 : tie.Need-element-write-rows-3
+element-write-rows-3 c = search needs
+
+add-rows-4 : tie.Need-add-rows-4
+add-rows-4 c = search needs
+
+mul-rows-4 : tie.Need-mul-rows-4
+mul-rows-4 c = search needs
+
+element-write-rows-4 : tie.Need-element-write-rows-4
+element-write-rows-4 c = search needs
+
+add-rows-5 : tie.Need-add-rows-5
+add-rows-5 c = search needs
+
+mul-rows-5 : tie.Need-mul-rows-5
+mul-rows-5 c = search needs
+
+element-write-rows-5 : tie.Need-element-write-rows-5
+element-write-rows-5 c = search needs
+
+-- a store of the run, and a cell of it, at an index that an equation tells
+next : {old new : List ℕ} {from i : ℕ} {f : ℕ → ℕ} (at v : ℕ) → Stored old new from f i → at ≡ from + i → at < length old → v ≡ f i → Stored old (set new at v) from f (i + 1)
+next at v s q h e = rw q (stored-more v s (omega arith) e)
+
+read : {old new : List ℕ} {from i : ℕ} {f : ℕ → ℕ} (at k : ℕ) → Stored old new from f i → at ≡ from + k → k < i → getD new at 0 ≡ f k
+read at k s q h = rw q (s .done k h)
+
+-- the five numbers
+abbrev value : tie.Start → ℕ → ℕ
+value c k = getD (c .args .spent ∷ c .args .cost ∷ c .args .word ∷ c .args .earlier ∷ c .args .parities ∷ []) k 0
+
+returns : tie.Need-returns
+unfolding cell
+returns c =
+    let a = c .args in
+    let at = a .slot * 16 in
+    let none = stored-none (a .rows .now) (at + 10) (value c) in
+    let one = next (at + 10) (a .spent) none (omega arith) (omega arith) refl in
+    let two = next (at + 11) (a .cost) one (omega arith) (omega arith) refl in
+    let three = next (at + 12) (a .word) two (omega arith) (omega arith) refl in
+    let four = next (at + 13) (a .earlier) three (omega arith) (omega arith) refl in
+    let all = next (at + 14) (a .parities) four (omega arith) (omega arith) refl in
+    record {
+      size = all .size;
+      spent = read (at + 10) 0 all (omega arith) (omega arith);
+      cost = read (at + 11) 1 all (omega arith) (omega arith);
+      word = read (at + 12) 2 all (omega arith) (omega arith);
+      earlier = read (at + 13) 3 all (omega arith) (omega arith);
+      parities = read (at + 14) 4 all (omega arith) (omega arith);
+      before = all .before;
+      after = λ k h. all .after k (omega arith);
+    }
+
+pub put-spec : {M : Type 1} → statement M
+put-spec =
+    tie.close
+    (tie.spec
+    mul-at
+    add-rows
+    mul-rows
+    element-write-rows
+    add-rows-2
+    mul-rows-2
+    element-write-rows-2
+    add-rows-3
+    mul-rows-3
+    element-write-rows-3
+    add-rows-4
+    mul-rows-4
+    element-write-rows-4
+    add-rows-5
+    mul-rows-5
+    element-write-rows-5
+    returns)

@@ -1,0 +1,139 @@
+// The words of a path's block, found from what its row and the workspace hold; its score; and its row written.
+ghost use mathlib.Core.Path.{_≡_};
+ghost use Prim.Native.Nat.{ℕ, suc, _+_, _^_, _≤_, _<_};
+ghost use lib.ListN.{length};
+ghost use lib.IntN.{pos, negℤ, _-ℤ_};
+ghost use Rattle.polar.specs.Layers.{part, Within};
+ghost use Rattle.codebook.specs.Book.{Book};
+ghost use Rattle.outer.specs.Search.{Scratch, Searchable};
+ghost use Rattle.outer.specs.Blocks.{paritySet, Bits, BlockTabled, candidateOf};
+ghost use Rattle.outer.specs.Words as W;
+ghost use Rattle.reader.specs.Paths.{Path, ownWord};
+ghost use Rattle.sharing.specs.Sharing.{idAt};
+ghost use Rattle.heights.specs.Workspace.{spot, Id};
+ghost use Rattle.standing.specs.Standing.{cell, Row, PutRow};
+use heights::arrays::place;
+use outer::Candidate;
+use outer::find::nearest;
+use outer::find::next_after;
+
+// A block: its first index, its height, its bias, and the height where its word goes.
+pub struct Block {
+    pub start: usize,
+    pub height: usize,
+    pub bias: i32,
+    pub place: usize,
+}
+
+// R less the bias of the last block.
+pub fn score(spent: u32, cost: u32, bias: i32) -> i32
+    requires { ⌜ (spent + cost ≤ 1048064) × Within 1048576 bias ⌝ }
+    ensures { λ r. ⌜ (r ≡ negℤ (pos (spent + cost)) -ℤ bias) × Within 2096640 r ⌝ }
+{
+    0 - (spent + cost) as i32 - bias
+}
+
+// Writes what a path spent, the cost and the word of its last block, and the parities before and after that block.
+pub fn put(
+    rows: &mut [u32; 4096],
+    slot: usize,
+    spent: u32,
+    cost: u32,
+    word: u32,
+    earlier: u32,
+    parities: u32,
+)
+    requires { ⌜ (length (now rows) ≡ 4096) × (slot < 256) ⌝ }
+    ensures { λ _. ⌜ PutRow slot (now (rows .entry)) (now (rows .exit)) spent cost word earlier parities ⌝ }
+{
+    let at = slot * 16;
+    rows[at + 10] = spent;
+    rows[at + 11] = cost;
+    rows[at + 12] = word;
+    rows[at + 13] = earlier;
+    rows[at + 14] = parities;
+}
+
+// The nearest word of the block `at`, after the parities of the path in a slot.
+pub fn nearest_word(
+    rows: &[u32; 4096],
+    numbers: &[i32],
+    kinds: &[u8; 512],
+    terms: &[u32; 512],
+    m: usize,
+    slot: usize,
+    at: Block,
+    words: &mut [u32; 256],
+    sets: &mut [u32; 256],
+    sums: &mut [u32; 128],
+) -> Candidate
+    requires { ⌜ (length (now rows) ≡ 4096) × (slot < 256) × (m ≤ 9) × (at .height ≤ m) × Id 256 (idAt (now rows) slot (at .height)) ⌝ }
+    requires { ⌜ Searchable (now numbers) (spot m (idAt (now rows) slot (at .height)) (at .height)) (now kinds) (at .start) (at .height) ⌝ }
+    requires { ⌜ Scratch (now words) (now sets) (now sums) ⌝ }
+    ensures { λ _. ⌜ Scratch (now (words .exit)) (now (sets .exit)) (now (sums .exit)) ⌝ }
+    ensures { λ r. ⌜ ((B : Book) (b : ℕ) (p : Path) → BlockTabled B b (now (kinds .entry)) (now (terms .entry)) (at .start) (at .height)
+        → Bits (p .parities) → cell (now (rows .entry)) slot 14 ≡ paritySet B (p .parities)
+        → r ≡ candidateOf B (W.nearest B (part (spot m (idAt (now (rows .entry)) slot (at .height)) (at .height)) (2 ^ (at .height)) (now (numbers .entry))) (p .parities) b)) ⌝ }
+{
+    let j = at.height;
+    let start = at.start;
+    let id = rows[slot * 16 + j] as usize;
+    let from = place(m, id, j);
+    let parities = rows[slot * 16 + 14];
+    nearest(
+        numbers,
+        from,
+        kinds,
+        terms,
+        start,
+        j as u32,
+        parities,
+        words,
+        sets,
+        sums,
+    )
+}
+
+// The next word of the last block of the path in a slot.
+pub fn next_word(
+    rows: &[u32; 4096],
+    numbers: &[i32],
+    kinds: &[u8; 512],
+    terms: &[u32; 512],
+    m: usize,
+    slot: usize,
+    last: Block,
+    words: &mut [u32; 256],
+    sets: &mut [u32; 256],
+    sums: &mut [u32; 128],
+) -> Candidate
+    requires { ⌜ (length (now rows) ≡ 4096) × (slot < 256) × (m ≤ 9) × (last .height ≤ m) × Id 256 (idAt (now rows) slot (last .height)) ⌝ }
+    requires { ⌜ Searchable (now numbers) (spot m (idAt (now rows) slot (last .height)) (last .height)) (now kinds) (last .start) (last .height) ⌝ }
+    requires { ⌜ Scratch (now words) (now sets) (now sums) × (cell (now rows) slot 11 < 4294967295) ⌝ }
+    ensures { λ _. ⌜ Scratch (now (words .exit)) (now (sets .exit)) (now (sums .exit)) ⌝ }
+    ensures { λ r. ⌜ ((B : Book) (b : ℕ) (p : Path) → BlockTabled B b (now (kinds .entry)) (now (terms .entry)) (last .start) (last .height)
+        → Bits (p .earlier) → Row B (now (rows .entry)) slot p → p .blocks ≡ suc b
+        → r ≡ candidateOf B (W.nextAfter (ownWord B p b) B (part (spot m (idAt (now (rows .entry)) slot (last .height)) (last .height)) (2 ^ (last .height)) (now (numbers .entry))) (p .earlier) b)) ⌝ }
+{
+    let j = last.height;
+    let start = last.start;
+    let id = rows[slot * 16 + j] as usize;
+    let from = place(m, id, j);
+    let earlier = rows[slot * 16 + 13];
+    let cost = rows[slot * 16 + 11];
+    let number = rows[slot * 16 + 12];
+    next_after(
+        numbers,
+        from,
+        kinds,
+        terms,
+        start,
+        j as u32,
+        earlier,
+        cost,
+        number,
+        words,
+        sets,
+        sums,
+    )
+}
