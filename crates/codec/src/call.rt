@@ -137,7 +137,7 @@ pub fn test(book: &[u8], word: &[u8]) -> Tested
 }
 
 // The data bits of a word: u is scratch.
-fn data_of(kinds: &[u8; 512], m: u32, word: &[u8], u: &mut [u8], bits: &mut [u8])
+pub fn data_of(kinds: &[u8; 512], m: u32, word: &[u8], u: &mut [u8], bits: &mut [u8])
     requires { ⌜ Some (λ ks. Coded ks (now kinds) × (length ks ≡ length (now word)) × (freeCount ks ≡ length (now bits))) ⌝ }
     requires { ⌜ (length (now word) ≡ length (now u)) × (length (now word) ≡ 2 ^ m) × All Bit (now word) ⌝ }
     ensures { λ _. ⌜ ((ks : List Kind) → Coded ks (now (kinds .entry)) → length ks ≡ length (now (word .entry)) →
