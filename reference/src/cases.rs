@@ -70,9 +70,19 @@ fn usual_work(m: u8) -> usize {
 #[derive(Default)]
 pub struct Maker {
     workspace: Workspace,
+    /// Whether the cases may be more than the plain machine can follow.
+    heavy: bool,
 }
 
 impl Maker {
+    /// One whose cases have the widest blocks and as many visits at any m.
+    pub fn heavy() -> Maker {
+        Maker {
+            heavy: true,
+            ..Maker::default()
+        }
+    }
+
     /// Case `index` under `seed`.
     pub fn case(&mut self, seed: u64, index: u64) -> Case {
         let mut rng = Rng::of_case(seed, index);
@@ -82,8 +92,12 @@ impl Maker {
 
     /// A case with this m, unless a damage changes it.
     pub fn case_of(&mut self, rng: &mut Rng, m: u8) -> Case {
-        let rare = rng.one_in(if m < 7 { 20 } else { 400 });
-        let budget = if rare { RARE_WORK } else { usual_work(m) };
+        let rare = rng.one_in(if m < 7 { 20 } else { 400 }) || self.heavy;
+        let budget = match rare {
+            _ if self.heavy => usize::MAX,
+            true => RARE_WORK,
+            false => usual_work(m),
+        };
         let bounds = bounds(rng, m, rare);
         let records = m >= 5 && rng.one_in(3);
         let draft = match records {

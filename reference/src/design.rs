@@ -68,10 +68,18 @@ impl Draft {
         draft
     }
 
-    /// The commands of the book, runs cut at random.
+    /// The commands of the book, runs whole or cut at random.
     pub fn commands(&self, rng: &mut Rng) -> Vec<Vec<u8>> {
+        match rng.one_in(2) {
+            true => self.cut(|same| same),
+            false => self.cut(|same| 1 + rng.below(same)),
+        }
+    }
+
+    /// The commands of the book; `take` says how many of the equal indices
+    /// that come next one command takes.
+    pub fn cut(&self, mut take: impl FnMut(usize) -> usize) -> Vec<Vec<u8>> {
         let mut out = vec![vec![0x10, self.m]];
-        let whole = rng.one_in(2);
         let mut at = 0;
         while at < self.n() {
             let role = &self.roles[at];
@@ -83,7 +91,7 @@ impl Draft {
                 continue;
             }
             let same = self.roles[at..].iter().take_while(|r| *r == role).count();
-            let count = if whole { same } else { 1 + rng.below(same) };
+            let count = take(same);
             let byte = if *role == Role::Free { 0x01 } else { 0x02 };
             out.push(index_command(byte, count as u16));
             at += count;

@@ -155,30 +155,45 @@ fn biases(rng: &mut Rng, n: usize, heights: &[u8], channel: &Channel) -> Vec<i32
     mean.collect()
 }
 
-/// A book for the setup and the channel.
-pub fn make_book(setup: &Setup, channel: &Channel) -> Vec<u8> {
-    let mut rng = Rng::new(setup.n as u64);
-    let roles = roles(&mut rng, setup);
+fn draft(rng: &mut Rng, setup: &Setup, channel: &Channel) -> Draft {
+    let roles = roles(rng, setup);
     let heights = largest(&roles);
-    let biases = biases(&mut rng, setup.n, &heights, channel);
-    let draft = Draft {
+    let biases = biases(rng, setup.n, &heights, channel);
+    Draft {
         m: setup.n.trailing_zeros() as u8,
         roles,
         blocks: heights.into_iter().zip(biases).collect(),
-    };
-    draft.bytes(&mut rng)
+    }
 }
 
-/// Received values of random words, and the words.
-pub fn receive(book: &Book, channel: &Channel) -> Vec<(Vec<i16>, code::Bits)> {
+/// What the book for the setup and the channel says.
+pub fn make_draft(setup: &Setup, channel: &Channel) -> Draft {
+    draft(&mut Rng::new(setup.n as u64), setup, channel)
+}
+
+/// A book for the setup and the channel.
+pub fn make_book(setup: &Setup, channel: &Channel) -> Vec<u8> {
+    let mut rng = Rng::new(setup.n as u64);
+    draft(&mut rng, setup, channel).bytes(&mut rng)
+}
+
+/// Received values of random words, and the words, without end.
+pub fn stream<'a>(
+    book: &'a Book,
+    channel: &'a Channel,
+) -> impl Iterator<Item = (Vec<i16>, code::Bits)> + 'a {
     let mut rng = Rng::new(99);
-    let one = |rng: &mut Rng| {
+    std::iter::repeat_with(move || {
         let data: Vec<u8> = (0..book.k()).map(|_| rng.bit()).collect();
         let sent = code::encode(book, &data);
         let mut word = vec![0; book.n()];
         code::unpack(&sent, &mut word);
-        let values = word.iter().map(|&bit| channel.value(rng, bit));
+        let values = word.iter().map(|&bit| channel.value(&mut rng, bit));
         (values.collect(), sent)
-    };
-    (0..INPUTS).map(|_| one(&mut rng)).collect()
+    })
+}
+
+/// The first of these.
+pub fn receive(book: &Book, channel: &Channel) -> Vec<(Vec<i16>, code::Bits)> {
+    stream(book, channel).take(INPUTS).collect()
 }
