@@ -5,6 +5,7 @@ use mathlib.Core.List.{List, _∷_}
 use Prim.Native.Nat.{ℕ, suc, _+_, _<_}
 use native.Mathlib.Omega.{arith}
 use lib.ListN.{length, getD, length-map, length-set}
+use lib.IntN.{ℤ}
 use Rattle.codebook.specs.Book.{Book}
 use Rattle.machine.specs.Queue.{insert, numbers, visit}
 use Rattle.reader.specs.Arrays.{Arrays}
@@ -17,6 +18,8 @@ use Rattle.order.specs.Entries.{keyAt}
 use Rattle.standing.specs.Seen.{Memory}
 use Rattle.standing.specs.Standing.{Stands}
 use Rattle.words.specs.declared.Block.{Block}
+use Rattle.words.specs.declared.Kept.{Kept}
+use Rattle.words.specs.Kept.{KeptIs}
 use Rattle.steps.specs.Steps.{nextView, Queued}
 use Rattle.extraction.specs.Extraction.{Seconding, Thirding, Extracting}
 use Rattle.extraction.proofs.Counts.{blocks-few}
@@ -27,7 +30,7 @@ pub visit-length : (visits : List ℕ) (b : ℕ) → length (visit visits b) ≡
 unfolding visit
 visit-length visits b = length-set visits b (suc (getD visits b 0))
 
-module _ {m N : ℕ} {x : Memory} {e : ℕ} {es vs kinds terms : List ℕ} {last at : Block} (c : Extracting m N x e es vs kinds terms last at) where
+module _ {m N : ℕ} {x : Memory} {e : ℕ} {es vs kinds terms : List ℕ} {last at : Block} {kept : Kept} (c : Extracting m N x e es vs kinds terms last at kept) where
   abbrev book : Book
   book = c .hand .book
 
@@ -45,13 +48,14 @@ module _ {m N : ℕ} {x : Memory} {e : ℕ} {es vs kinds terms : List ℕ} {last
 
   -- ---- step 2
 
-  pub extract-seconding : Seconding m N x e es vs kinds terms last
+  pub extract-seconding : Seconding m N x e es vs kinds terms last kept
   extract-seconding =
       let ok = c .booked .valid in
       record {
         hand = c .hand;
         booked = c .booked;
         last-is = c .last-is;
+        known = c .known;
         fit = reached-fit book (c .values) ok (c .size) (c .range) N arrays path rest (c .reached);
         total = λ b y q. copy-total book (c .values) ok (c .size) (c .range) N arrays path rest b (c .reached) q (c .last-is b q .within) y;
       }
@@ -87,6 +91,11 @@ module _ {m N : ℕ} {x : Memory} {e : ℕ} {es vs kinds terms : List ℕ} {last
           found = found .1;
           total = found .2;
         }
+
+    -- the word kept then
+    pub extract-kept : {rows : List ℕ} {numbers′ : List ℤ} {k : Kept} → KeptIs (extract-thirding .moving .hand .book) m rows numbers′ k → KeptIs book m rows numbers′ k
+    unfolding extract-thirding
+    extract-kept h = h
 
     -- the memory then, with the entries qs′ queued
     abbrev pub MovedTo : Memory → List ℕ → Type 0

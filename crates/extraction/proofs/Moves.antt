@@ -146,14 +146,14 @@ module _ {m N : ℕ} {x : Memory} {e : ℕ} {es vs kinds terms : List ℕ} {last
 
     module _ {found : Candidate}
         (is : found ≡ candidateOf book (nearest book (part (spot m (idAt (y .rows) (slotAt e) (at .height)) (at .height)) (2 ^ at .height) (y .numbers)) (path .parities) (path .blocks))) where
-      found-is : found ≡ candidateOf book (some (c .word))
-      found-is =
+      pub third-found : found ≡ candidateOf book (some (c .word))
+      third-found =
           is ∙ ap (λ vs. candidateOf book (nearest book vs (path .parities) (path .blocks))) values-are
           ∙ ap (candidateOf book) (c .found)
 
       cost-is : found .cost ≡ c .word .cost
       unfolding candidateOf
-      cost-is = ap (λ (w : Candidate). w .cost) found-is
+      cost-is = ap (λ (w : Candidate). w .cost) third-found
 
       pub third-total : cell (y .rows) (slotAt e) 10 + cell (y .rows) (slotAt e) 11 + found .cost ≤ 1048064
       third-total = omega (arith, third-spent, third-cost, cost-is, c .total)
@@ -176,7 +176,7 @@ module _ {m N : ℕ} {x : Memory} {e : ℕ} {es vs kinds terms : List ℕ} {last
       unfolding candidateOf lastWord
       word-is k q =
           let same : path .blocks ≡ k = omega arith in
-          ap (λ (w : Candidate). w .number) found-is
+          ap (λ (w : Candidate). w .number) third-found
           ∙ nearest-number book (valsOf view height) (path .parities) (path .blocks) (c .word) (c .found)
           ∙ ap (λ (i : ℕ). number (lastWord book moved i)) same
 
@@ -203,7 +203,7 @@ module _ {m N : ℕ} {x : Memory} {e : ℕ} {es vs kinds terms : List ℕ} {last
             cost = cost-is;
             word = word-is;
             earlier = third-set;
-            parities = ap (λ (w : Candidate). w .parities) found-is;
+            parities = ap (λ (w : Candidate). w .parities) third-found;
           }
 
       -- ---- the row written, and the entry queued

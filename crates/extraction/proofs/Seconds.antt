@@ -15,6 +15,7 @@ use Rattle.standing.specs.Seen.{Memory}
 use Rattle.standing.specs.Standing.{Stands, InHand}
 use Rattle.standing.proofs.Sizes.{stands-length}
 use Rattle.words.specs.declared.Block.{Block}
+use Rattle.words.specs.declared.Kept.{Kept}
 use Rattle.steps.specs.Steps.{Copying}
 use Rattle.extraction.specs.Extraction.{Seconding}
 
@@ -27,7 +28,7 @@ pub hand-blocks : {m N : ℕ} {x : Memory} {e : ℕ} {es vs : List ℕ} (c : InH
 unfolding keyOf
 hand-blocks c = ap (λ (k : Key). k .blocks) (hand-key c)
 
-module _ {m N : ℕ} {x : Memory} {e : ℕ} {es vs kinds terms : List ℕ} {last : Block} (c : Seconding m N x e es vs kinds terms last) where
+module _ {m N : ℕ} {x : Memory} {e : ℕ} {es vs kinds terms : List ℕ} {last : Block} {kept : Kept} (c : Seconding m N x e es vs kinds terms last kept) where
   -- what the step has to come to: so many queued, the next number, the count, and memory
   abbrev Comes : ℕ → ℕ → ℕ → ℕ → Memory → List ℕ → List ℕ → Cut → Type 0
   Comes queued n before after y qs ws k =
@@ -55,12 +56,13 @@ module _ {m N : ℕ} {x : Memory} {e : ℕ} {es vs kinds terms : List ℕ} {last
     unfolding FitFor
     last-fit = subst (FitFor (c .hand .book) (c .hand .arrays) (c .hand .taken)) blocks-are (c .fit)
 
-    pub second-copying : Copying m N x e es vs kinds terms last b
+    pub second-copying : Copying m N x e es vs kinds terms last kept b
     second-copying =
         record {
           hand = c .hand;
           booked = c .booked;
           own = record { blocks = blocks-are; block = c .last-is b blocks-are; fit = last-fit };
+          known = c .known;
           total = λ y. c .total b y blocks-are;
         }
 

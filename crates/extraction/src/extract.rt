@@ -10,7 +10,9 @@ ghost use Rattle.reader.specs.Paths.{keyOf};
 ghost use Rattle.order.specs.Entries.{queueOf};
 ghost use Rattle.standing.specs.Seen.{memory, Lent};
 ghost use Rattle.standing.specs.Standing.{Stands};
+ghost use Rattle.words.specs.Kept.{KeptIs};
 ghost use Rattle.extraction.specs.Extraction.{Seconding, Thirding, Extracting};
+use crate::Extracted;
 use advance::outruns::outrun;
 use advance::values::calculate;
 use order::entries::blocks_of;
@@ -22,7 +24,8 @@ use steps::Setting;
 use steps::Tally;
 use steps::copies::copy;
 use words::Block;
-use words::nearest_word;
+use words::Kept;
+use words::nearest_words;
 use words::put;
 use words::score;
 
@@ -40,6 +43,7 @@ fn second(
     t: Tally,
     e: u64,
     last: Block,
+    kept: Kept,
     words: &mut [u32; 256],
     sets: &mut [u32; 256],
     sums: &mut [u32; 128],
@@ -47,12 +51,12 @@ fn second(
     requires { ⌜ Lent (s .m) (s .paths) (memory (now rows) (now holders) (now numbers) (now bytes)) × (length (now order) ≡ 256) × (length (now vacant) ≡ 256) ⌝ }
     requires { ⌜ Scratch (now words) (now sets) (now sums) × (2 ≤ s .paths) × (t .queued + 1 ≤ s .paths) × (t .next < 32768) × (t .crowded < 65536) ⌝ }
     requires { ⌜ Seconding (s .m) (s .paths) (memory (now rows) (now holders) (now numbers) (now bytes)) e (queueOf (now order) (t .queued))
-        (queueOf (now vacant) (s .paths - (t .queued + 1))) (now kinds) (now terms) last ⌝ }
+        (queueOf (now vacant) (s .paths - (t .queued + 1))) (now kinds) (now terms) last kept ⌝ }
     ensures { λ _. ⌜ Lent (s .m) (s .paths) (memory (now (rows .exit)) (now (holders .exit)) (now (numbers .exit)) (now (bytes .entry)))
         × (length (now (order .exit)) ≡ 256) × (length (now (vacant .exit)) ≡ 256) × Scratch (now (words .exit)) (now (sets .exit)) (now (sums .exit)) ⌝ }
     ensures { λ r. ⌜ (r .extractions ≡ t .extractions) × (r .outrun ≡ t .outrun) × (r .queued + 1 ≤ s .paths) ⌝ }
     ensures { λ r. ⌜ ((c : Seconding (s .m) (s .paths) (memory (now (rows .entry)) (now (holders .entry)) (now (numbers .entry)) (now (bytes .entry))) e (queueOf (now (order .entry)) (t .queued))
-        (queueOf (now (vacant .entry)) (s .paths - (t .queued + 1))) (now (kinds .entry)) (now (terms .entry)) last)
+        (queueOf (now (vacant .entry)) (s .paths - (t .queued + 1))) (now (kinds .entry)) (now (terms .entry)) last kept)
         → (let k = R.copy (c .hand .book) (s .paths) (c .hand .arrays) (c .hand .taken) (c .hand .rest) (t .next) (c .hand .taken .blocks) in
         (r .queued ≡ length (k .queue)) × (r .next ≡ k .next) × (r .crowded ≡ t .crowded + length (k .crowded))
         × Stands (c .hand .book) (s .paths) (memory (now (rows .exit)) (now (holders .exit)) (now (numbers .exit)) (now (bytes .entry))) (e ∷ queueOf (now (order .exit)) (r .queued))
@@ -76,13 +80,14 @@ fn second(
         e,
         blocks,
         last,
+        kept,
         words,
         sets,
         sums,
     )
 }
 
-// Step 3: the path's next block, with its nearest word; it is queued again.
+// Step 3: the path's next block, with its nearest word; it is queued again. The next word after that one is kept for it.
 fn third(
     rows: &mut [u32; 4096],
     holders: &mut [u16; 2570],
@@ -100,41 +105,42 @@ fn third(
     words: &mut [u32; 256],
     sets: &mut [u32; 256],
     sums: &mut [u32; 128],
-)
+) -> Kept
     requires { ⌜ Lent m paths (memory (now rows) (now holders) (now numbers) (now bytes)) × (length (now order) ≡ 256) × (queued + 1 ≤ paths) × Scratch (now words) (now sets) (now sums) ⌝ }
     requires { ⌜ ((vs : List ℕ) × Thirding m paths (memory (now rows) (now holders) (now numbers) (now bytes)) e (queueOf (now order) queued) vs (now kinds) (now terms) last at) ⌝ }
     ensures { λ _. ⌜ Lent m paths (memory (now (rows .exit)) (now (holders .exit)) (now (numbers .exit)) (now (bytes .exit)))
         × (length (now (order .exit)) ≡ 256) × Scratch (now (words .exit)) (now (sets .exit)) (now (sums .exit)) ⌝ }
-    ensures { λ _. ⌜ ((vs : List ℕ) (c : Thirding m paths (memory (now (rows .entry)) (now (holders .entry)) (now (numbers .entry)) (now (bytes .entry))) e (queueOf (now (order .entry)) queued) vs (now (kinds .entry)) (now (terms .entry)) last at)
+    ensures { λ r. ⌜ ((vs : List ℕ) (c : Thirding m paths (memory (now (rows .entry)) (now (holders .entry)) (now (numbers .entry)) (now (bytes .entry))) e (queueOf (now (order .entry)) queued) vs (now (kinds .entry)) (now (terms .entry)) last at)
         → (let h = c .moving .hand in let k = R.move (h .book) (h .arrays) (h .taken) (h .rest) in
         Stands (h .book) paths (memory (now (rows .exit)) (now (holders .exit)) (now (numbers .exit)) (now (bytes .exit))) (queueOf (now (order .exit)) (suc queued)) vs
-        (k .arrays) (Q.insert (keyOf (h .book)) (k .path) (h .rest)))) ⌝ }
+        (k .arrays) (Q.insert (keyOf (h .book)) (k .path) (h .rest))
+        × KeptIs (h .book) m (now (rows .exit)) (now (numbers .exit)) r)) ⌝ }
 {
     calculate(rows, holders, numbers, bytes, m, paths, e, last, at);
     let slot = slot_of(e);
     let spent = rows[slot * 16 + 10] + rows[slot * 16 + 11];
     let parities = rows[slot * 16 + 14];
-    let found = nearest_word(rows, numbers, kinds, terms, m, slot, at, words, sets, sums);
-    let cost = found.cost;
+    let found = nearest_words(rows, numbers, kinds, terms, m, slot, at, words, sets, sums);
+    let near = found.first;
+    let cost = near.cost;
     put(
         rows,
         slot,
         spent,
         cost,
-        found.number,
+        near.number,
         parities,
-        found.parities,
+        near.parities,
     );
-    insert(
-        order,
-        queued,
-        entry(
-            score(spent, cost, at.bias),
-            blocks_of(e) + 1,
-            number_of(e),
-            slot,
-        ),
+    let d = entry(
+        score(spent, cost, at.bias),
+        blocks_of(e) + 1,
+        number_of(e),
+        slot,
     );
+    insert(order, queued, d);
+    let word = found.second;
+    Kept { entry: d, word }
 }
 
 // Steps 2 to 4 for the path of entry e, which is no longer queued.
@@ -153,25 +159,27 @@ pub fn extract(
     e: u64,
     last: Block,
     at: Block,
+    kept: Kept,
     words: &mut [u32; 256],
     sets: &mut [u32; 256],
     sums: &mut [u32; 128],
-) -> Tally
+) -> Extracted
     requires { ⌜ Lent (s .m) (s .paths) (memory (now rows) (now holders) (now numbers) (now bytes)) × (length (now order) ≡ 256) × (length (now vacant) ≡ 256) × (length (now visits) ≡ 512) ⌝ }
     requires { ⌜ Scratch (now words) (now sets) (now sums) × (2 ≤ s .paths) × (t .queued + 1 ≤ s .paths) × (t .next < 32768) × (t .crowded < 65536) × (t .outrun < 16777216) ⌝ }
     requires { ⌜ ((b : ℕ) → getD (now visits) b 0 < 65536) ⌝ }
     requires { ⌜ Extracting (s .m) (s .paths) (memory (now rows) (now holders) (now numbers) (now bytes)) e (queueOf (now order) (t .queued))
-        (queueOf (now vacant) (s .paths - (t .queued + 1))) (now kinds) (now terms) last at ⌝ }
+        (queueOf (now vacant) (s .paths - (t .queued + 1))) (now kinds) (now terms) last at kept ⌝ }
     ensures { λ _. ⌜ Lent (s .m) (s .paths) (memory (now (rows .exit)) (now (holders .exit)) (now (numbers .exit)) (now (bytes .exit)))
         × (length (now (order .exit)) ≡ 256) × (length (now (vacant .exit)) ≡ 256) × (length (now (visits .exit)) ≡ 512) × Scratch (now (words .exit)) (now (sets .exit)) (now (sums .exit)) ⌝ }
-    ensures { λ r. ⌜ (r .extractions ≡ t .extractions) × (r .queued ≤ s .paths) ⌝ }
+    ensures { λ r. ⌜ (r .tally .extractions ≡ t .extractions) × (r .tally .queued ≤ s .paths) ⌝ }
     ensures { λ r. ⌜ ((c : Extracting (s .m) (s .paths) (memory (now (rows .entry)) (now (holders .entry)) (now (numbers .entry)) (now (bytes .entry))) e (queueOf (now (order .entry)) (t .queued))
-        (queueOf (now (vacant .entry)) (s .paths - (t .queued + 1))) (now (kinds .entry)) (now (terms .entry)) last at)
+        (queueOf (now (vacant .entry)) (s .paths - (t .queued + 1))) (now (kinds .entry)) (now (terms .entry)) last at kept)
         → (let k = R.extract (c .hand .book) (s .visits) (s .paths) (c .hand .arrays) (c .hand .taken) (c .hand .rest) (t .next) (now (visits .entry)) in
-        (r .queued ≡ length (k .state .queue)) × (r .next ≡ k .state .next) × (now (visits .exit) ≡ k .state .visits)
-        × (r .crowded ≡ t .crowded + length (k .step .crowded)) × (r .outrun ≡ t .outrun + length (k .step .outrun))
-        × Stands (c .hand .book) (s .paths) (memory (now (rows .exit)) (now (holders .exit)) (now (numbers .exit)) (now (bytes .exit))) (queueOf (now (order .exit)) (r .queued))
-        (queueOf (now (vacant .exit)) (s .paths - r .queued)) (k .state .arrays) (k .state .queue))) ⌝ }
+        (r .tally .queued ≡ length (k .state .queue)) × (r .tally .next ≡ k .state .next) × (now (visits .exit) ≡ k .state .visits)
+        × (r .tally .crowded ≡ t .crowded + length (k .step .crowded)) × (r .tally .outrun ≡ t .outrun + length (k .step .outrun))
+        × Stands (c .hand .book) (s .paths) (memory (now (rows .exit)) (now (holders .exit)) (now (numbers .exit)) (now (bytes .exit))) (queueOf (now (order .exit)) (r .tally .queued))
+        (queueOf (now (vacant .exit)) (s .paths - r .tally .queued)) (k .state .arrays) (k .state .queue)
+        × KeptIs (c .hand .book) (s .m) (now (rows .exit)) (now (numbers .exit)) (r .kept))) ⌝ }
 {
     let m = s.m;
     let paths = s.paths;
@@ -188,12 +196,13 @@ pub fn extract(
         t,
         e,
         last,
+        kept,
         words,
         sets,
         sums,
     );
     let queued = x.queued;
-    third(
+    let next = third(
         rows,
         holders,
         order,
@@ -212,7 +221,7 @@ pub fn extract(
         sums,
     );
     x.queued = queued + 1;
-    outrun(
+    let tally = outrun(
         rows,
         holders,
         order,
@@ -221,5 +230,6 @@ pub fn extract(
         s,
         x,
         blocks_of(e) as usize,
-    )
+    );
+    Extracted { tally, kept: next }
 }

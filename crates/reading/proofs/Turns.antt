@@ -27,6 +27,8 @@ use Rattle.heights.specs.Workspace.{spot, Id}
 use Rattle.standing.specs.Seen.{Memory, memory}
 use Rattle.standing.specs.Standing.{Stands, InHand}
 use Rattle.words.specs.declared.Block.{Block}
+use Rattle.words.specs.declared.Kept.{Kept}
+use Rattle.words.specs.Kept.{KeptIs}
 use Rattle.steps.specs.declared.Setting.{Setting}
 use Rattle.steps.specs.declared.Tally.{Tally}
 use Rattle.steps.specs.Steps.{BlockIs}
@@ -97,6 +99,10 @@ module _ {s : Setting} {values : List ℤ} {kinds terms heights starts : List �
         (ap (λ n. A .vals n 1) (c .deep) ∙ root)
         (first-stands (c .book) (s .m) (s .paths) ok (c .deep) some′ most rows holders vacant is held free e k numbers bytes)
 
+  -- nothing is kept for an entry that has no blocks
+  pub run-nothing : (rows : List ℕ) (numbers : List ℤ) (kept : Kept) → keyAt (kept .entry) .blocks ≡ 0 → KeptIs (c .book) (s .m) rows numbers kept
+  run-nothing rows numbers kept q = record { next = λ b h p high key. absurd (omega (arith, q, key)) }
+
   -- ---- under way
 
   module _ {whole : R.Run} {x : Memory} {order vacant visits : List ℕ} {t : Tally} {e : ℕ} {path₀ blocks₀ score₀ path blocks score : List ℤ}
@@ -119,10 +125,10 @@ module _ {s : Setting} {values : List ℤ} {kinds terms heights starts : List �
     run-within d = omega (arith, run-next d, going-blocks g, c .blocks)
 
     -- what an extraction needs
-    abbrev pub run-extracting : (last at : Block) (i b : ℕ) → b ≡ keyAt e .blocks → i ≡ b - 1 → (keyAt e .blocks ≡ s .blocks → ⊥) →
+    abbrev pub run-extracting : (last at : Block) (kept : Kept) (i b : ℕ) → KeptIs (c .book) (s .m) (x .rows) (x .numbers) kept → b ≡ keyAt e .blocks → i ≡ b - 1 → (keyAt e .blocks ≡ s .blocks → ⊥) →
         ReadAt heights starts biases i last → ReadAt heights starts biases b at →
-        Extracting (s .m) (s .paths) x e (queueOf order (t .queued)) (queueOf vacant (s .paths - (t .queued + 1))) kinds terms last at
-    run-extracting last at i b p q d l a =
+        Extracting (s .m) (s .paths) x e (queueOf order (t .queued)) (queueOf vacant (s .paths - (t .queued + 1))) kinds terms last at kept
+    run-extracting last at kept i b w p q d l a =
         record {
           hand = run-hand;
           booked = c .tables .booked;
@@ -130,6 +136,7 @@ module _ {s : Setting} {values : List ℤ} {kinds terms heights starts : List �
           size = c .size ∙ ap (λ n. 2 ^ n) (sym (c .deep));
           range = c .range;
           reached = g .reached;
+          known = w;
           next =
               subst (λ n. BlockIs (c .book) n at) (p ∙ going-blocks g) (a (c .book) kinds terms ok (c .tables) (omega (arith, run-within d, c .blocks)));
           last-is = λ k h.

@@ -13,7 +13,7 @@ use Rattle.laws.specs.Lists.{All}
 use Rattle.laws.proofs.Pairs.{Paired}
 use Rattle.polar.specs.Layers.{part, Within}
 use Rattle.codebook.specs.Book.{Book, blockAt}
-use Rattle.machine.specs.Queue.{numbers, roomFor, crowdedOut}
+use Rattle.machine.specs.Queue.{Key, numbers, roomFor, crowdedOut}
 use Rattle.runs.proofs.Order.{insert-length}
 use Rattle.outer.specs.declared.Candidate.{Candidate}
 use Rattle.outer.specs.Search.{Searchable}
@@ -25,7 +25,7 @@ use Rattle.reader.specs.Paths.{Path, keyOf, ownWord, viewOf}
 use Rattle.reader.specs.Reader.{Cut, copyWith, copy}
 use Rattle.reader.proofs.Descent.{place-own, place-most}
 use Rattle.reader.proofs.Found.{next-number}
-use Rattle.order.specs.Entries.{slotAt}
+use Rattle.order.specs.Entries.{keyAt, slotAt}
 use Rattle.sharing.specs.Sharing.{idAt, HasIds}
 use Rattle.heights.specs.Workspace.{spot, Id, Parts}
 use Rattle.heights.proofs.Spots.{spot-room}
@@ -33,11 +33,12 @@ use Rattle.standing.specs.Seen.{Memory, Lent}
 use Rattle.standing.specs.Standing.{cell, Row, Stands}
 use Rattle.standing.proofs.Sizes.{stands-length}
 use Rattle.words.specs.declared.Block.{Block}
+use Rattle.words.specs.declared.Kept.{Kept}
 use Rattle.steps.specs.Steps.{Forking, Copying}
 
 -- ---- a word as the search answers it
 
-some-word : (B : Book) (o : Option Word) (r : Candidate) → r ≡ candidateOf B o → r .some ≡ true → (y : Word) × (o ≡ some y)
+pub some-word : (B : Book) (o : Option Word) (r : Candidate) → r ≡ candidateOf B o → r .some ≡ true → (y : Word) × (o ≡ some y)
 unfolding candidateOf
 some-word B none r e t = let z : _≡_ {A = ℕ} 0 1 = cc in absurd (omega arith)
 some-word B (some y) r e t = (y, refl)
@@ -47,8 +48,8 @@ unfolding candidateOf
 none-word B none r e t = refl
 none-word B (some y) r e t = let z : _≡_ {A = ℕ} 0 1 = cc in absurd (omega arith)
 
-module _ {m N : ℕ} {x : Memory} {e : ℕ} {es vs kinds terms : List ℕ} {last : Block} {b : ℕ}
-    (c : Copying m N x e es vs kinds terms last b) where
+module _ {m N : ℕ} {x : Memory} {e : ℕ} {es vs kinds terms : List ℕ} {last : Block} {kept : Kept} {b : ℕ}
+    (c : Copying m N x e es vs kinds terms last kept b) where
   -- the book, the path in hand, and the paths queued
   abbrev book : Book
   book = c .hand .book
@@ -73,6 +74,11 @@ module _ {m N : ℕ} {x : Memory} {e : ℕ} {es vs kinds terms : List ℕ} {last
   pub copy-row : Row book (x .rows) (slotAt e) path
   unfolding Paired
   copy-row = c .hand .stands .queue .0 .row
+
+  -- the entry has the path's blocks
+  pub copy-blocks : keyAt e .blocks ≡ suc b
+  unfolding Paired keyOf
+  copy-blocks = ap (λ (k : Key). k .blocks) (c .hand .stands .queue .0 .key) ∙ c .own .blocks
 
   low : last .height ≤ book .m
   low =

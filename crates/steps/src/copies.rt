@@ -20,7 +20,8 @@ use outer::Candidate;
 use sharing::holders::share;
 use views::view::claim;
 use words::Block;
-use words::next_word;
+use words::Kept;
+use words::other_word;
 use words::put;
 use words::score;
 
@@ -101,6 +102,7 @@ pub fn copy(
     e: u64,
     blocks: u32,
     last: Block,
+    kept: Kept,
     words: &mut [u32; 256],
     sets: &mut [u32; 256],
     sums: &mut [u32; 128],
@@ -108,12 +110,12 @@ pub fn copy(
     requires { ⌜ Lent (s .m) (s .paths) (memory (now rows) (now holders) (now numbers) (now bytes)) × (length (now order) ≡ 256) × (length (now vacant) ≡ 256) ⌝ }
     requires { ⌜ Scratch (now words) (now sets) (now sums) × (2 ≤ s .paths) × (t .queued + 1 ≤ s .paths) × (t .next < 32768) × (t .crowded < 65536) ⌝ }
     requires { ⌜ ((b : ℕ) × (blocks ≡ suc b) × Copying (s .m) (s .paths) (memory (now rows) (now holders) (now numbers) (now bytes)) e (queueOf (now order) (t .queued))
-        (queueOf (now vacant) (s .paths - (t .queued + 1))) (now kinds) (now terms) last b) ⌝ }
+        (queueOf (now vacant) (s .paths - (t .queued + 1))) (now kinds) (now terms) last kept b) ⌝ }
     ensures { λ _. ⌜ Lent (s .m) (s .paths) (memory (now (rows .exit)) (now (holders .exit)) (now (numbers .exit)) (now (bytes .entry)))
         × (length (now (order .exit)) ≡ 256) × (length (now (vacant .exit)) ≡ 256) × Scratch (now (words .exit)) (now (sets .exit)) (now (sums .exit)) ⌝ }
     ensures { λ r. ⌜ (r .extractions ≡ t .extractions) × (r .outrun ≡ t .outrun) × (r .queued + 1 ≤ s .paths) ⌝ }
     ensures { λ r. ⌜ ((b : ℕ) (c : Copying (s .m) (s .paths) (memory (now (rows .entry)) (now (holders .entry)) (now (numbers .entry)) (now (bytes .entry))) e (queueOf (now (order .entry)) (t .queued))
-        (queueOf (now (vacant .entry)) (s .paths - (t .queued + 1))) (now (kinds .entry)) (now (terms .entry)) last b)
+        (queueOf (now (vacant .entry)) (s .paths - (t .queued + 1))) (now (kinds .entry)) (now (terms .entry)) last kept b)
         → blocks ≡ suc b → (let k = R.copy (c .hand .book) (s .paths) (c .hand .arrays) (c .hand .taken) (c .hand .rest) (t .next) (suc b) in
         (r .queued ≡ length (k .queue)) × (r .next ≡ k .next) × (r .crowded ≡ t .crowded + length (k .crowded))
         × Stands (c .hand .book) (s .paths) (memory (now (rows .exit)) (now (holders .exit)) (now (numbers .exit)) (now (bytes .entry))) (e ∷ queueOf (now (order .exit)) (r .queued))
@@ -122,15 +124,15 @@ pub fn copy(
     let m = s.m;
     let paths = s.paths;
     let queued = t.queued;
-    let slot = slot_of(e);
-    let found = next_word(
+    let found = other_word(
         rows,
         numbers,
         kinds,
         terms,
         m,
-        slot,
+        e,
         last,
+        kept,
         words,
         sets,
         sums,

@@ -1,20 +1,27 @@
 // The words of a path's block, found from what its row and the workspace hold; its score; and its row written.
 ghost use mathlib.Core.Path.{_≡_};
+ghost use mathlib.Core.Option.{some};
 ghost use Prim.Native.Nat.{ℕ, suc, _+_, _^_, _≤_, _<_};
 ghost use lib.ListN.{length};
 ghost use lib.IntN.{pos, negℤ, _-ℤ_};
 ghost use Rattle.polar.specs.Layers.{part, Within};
 ghost use Rattle.codebook.specs.Book.{Book};
+ghost use Rattle.codec.specs.Ties.{Parities};
 ghost use Rattle.outer.specs.Search.{Scratch, Searchable};
 ghost use Rattle.outer.specs.Blocks.{paritySet, Bits, BlockTabled, candidateOf};
 ghost use Rattle.outer.specs.Words as W;
+ghost use Rattle.outer.specs.Words.{Word};
 ghost use Rattle.reader.specs.Paths.{Path, ownWord};
+ghost use Rattle.order.specs.Entries.{keyAt, slotAt};
 ghost use Rattle.sharing.specs.Sharing.{idAt};
 ghost use Rattle.heights.specs.Workspace.{spot, Id};
 ghost use Rattle.standing.specs.Standing.{cell, Row, PutRow};
+ghost use Rattle.words.specs.Kept.{KeptIs};
 use heights::arrays::place;
+use order::entries::slot_of;
 use outer::Candidate;
-use outer::find::nearest;
+use outer::Pair;
+use outer::find::nearest_pair;
 use outer::find::next_after;
 
 // A block: its first index, its height, its bias, and the height where its word goes.
@@ -23,6 +30,12 @@ pub struct Block {
     pub height: usize,
     pub bias: i32,
     pub place: usize,
+}
+
+// A word kept for the path of an entry: the next of its last block after its own.
+pub struct Kept {
+    pub entry: u64,
+    pub word: Candidate,
 }
 
 // R less the bias of the last block.
@@ -54,8 +67,8 @@ pub fn put(
     rows[at + 14] = parities;
 }
 
-// The nearest word of the block `at`, after the parities of the path in a slot.
-pub fn nearest_word(
+// The nearest word of the block `at`, after the parities of the path in a slot, and the next after it.
+pub fn nearest_words(
     rows: &[u32; 4096],
     numbers: &[i32],
     kinds: &[u8; 512],
@@ -66,21 +79,23 @@ pub fn nearest_word(
     words: &mut [u32; 256],
     sets: &mut [u32; 256],
     sums: &mut [u32; 128],
-) -> Candidate
+) -> Pair
     requires { ⌜ (length (now rows) ≡ 4096) × (slot < 256) × (m ≤ 9) × (at .height ≤ m) × Id 256 (idAt (now rows) slot (at .height)) ⌝ }
     requires { ⌜ Searchable (now numbers) (spot m (idAt (now rows) slot (at .height)) (at .height)) (now kinds) (at .start) (at .height) ⌝ }
     requires { ⌜ Scratch (now words) (now sets) (now sums) ⌝ }
     ensures { λ _. ⌜ Scratch (now (words .exit)) (now (sets .exit)) (now (sums .exit)) ⌝ }
-    ensures { λ r. ⌜ ((B : Book) (b : ℕ) (p : Path) → BlockTabled B b (now (kinds .entry)) (now (terms .entry)) (at .start) (at .height)
-        → Bits (p .parities) → cell (now (rows .entry)) slot 14 ≡ paritySet B (p .parities)
-        → r ≡ candidateOf B (W.nearest B (part (spot m (idAt (now (rows .entry)) slot (at .height)) (at .height)) (2 ^ (at .height)) (now (numbers .entry))) (p .parities) b)) ⌝ }
+    ensures { λ r. ⌜ ((B : Book) (b : ℕ) (x : Parities) → BlockTabled B b (now (kinds .entry)) (now (terms .entry)) (at .start) (at .height)
+        → Bits x → cell (now (rows .entry)) slot 14 ≡ paritySet B x
+        → (let vs = part (spot m (idAt (now (rows .entry)) slot (at .height)) (at .height)) (2 ^ (at .height)) (now (numbers .entry)) in
+        (r .first ≡ candidateOf B (W.nearest B vs x b))
+        × ((w : Word) → W.nearest B vs x b ≡ some w → r .second ≡ candidateOf B (W.nextAfter w B vs x b)))) ⌝ }
 {
     let j = at.height;
     let start = at.start;
     let id = rows[slot * 16 + j] as usize;
     let from = place(m, id, j);
     let parities = rows[slot * 16 + 14];
-    nearest(
+    nearest_pair(
         numbers,
         from,
         kinds,
@@ -132,6 +147,47 @@ pub fn next_word(
         earlier,
         cost,
         number,
+        words,
+        sets,
+        sums,
+    )
+}
+
+// The next word of the last block of the path of entry e: the word kept, if it was kept for this entry, else by a search.
+pub fn other_word(
+    rows: &[u32; 4096],
+    numbers: &[i32],
+    kinds: &[u8; 512],
+    terms: &[u32; 512],
+    m: usize,
+    e: u64,
+    last: Block,
+    kept: Kept,
+    words: &mut [u32; 256],
+    sets: &mut [u32; 256],
+    sums: &mut [u32; 128],
+) -> Candidate
+    requires { ⌜ (length (now rows) ≡ 4096) × (m ≤ 9) × (last .height ≤ m) × Id 256 (idAt (now rows) (slotAt e) (last .height)) ⌝ }
+    requires { ⌜ Searchable (now numbers) (spot m (idAt (now rows) (slotAt e) (last .height)) (last .height)) (now kinds) (last .start) (last .height) ⌝ }
+    requires { ⌜ Scratch (now words) (now sets) (now sums) × (cell (now rows) (slotAt e) 11 < 4294967295) ⌝ }
+    ensures { λ _. ⌜ Scratch (now (words .exit)) (now (sets .exit)) (now (sums .exit)) ⌝ }
+    ensures { λ r. ⌜ ((B : Book) (b : ℕ) (p : Path) → KeptIs B m (now (rows .entry)) (now (numbers .entry)) kept
+        → BlockTabled B b (now (kinds .entry)) (now (terms .entry)) (last .start) (last .height)
+        → Bits (p .earlier) → Row B (now (rows .entry)) (slotAt e) p → keyAt e .blocks ≡ suc b → p .blocks ≡ suc b
+        → r ≡ candidateOf B (W.nextAfter (ownWord B p b) B (part (spot m (idAt (now (rows .entry)) (slotAt e) (last .height)) (last .height)) (2 ^ (last .height)) (now (numbers .entry))) (p .earlier) b)) ⌝ }
+{
+    let known = kept.entry;
+    if known == e {
+        return kept.word;
+    }
+    next_word(
+        rows,
+        numbers,
+        kinds,
+        terms,
+        m,
+        slot_of(e),
+        last,
         words,
         sets,
         sums,

@@ -11,8 +11,9 @@ use Rattle.reader.specs.Reader.{copy}
 use Rattle.order.specs.Entries.{queueOf}
 use Rattle.standing.specs.Seen.{Memory, memory}
 use Rattle.standing.specs.Standing.{Stands}
+use Rattle.words.specs.Kept.{KeptIs}
 use Rattle.extraction.specs.Extraction.{Extracting}
-use Rattle.extraction.proofs.Extracts.{visit-length, extract-blocks, extract-seconding, extract-thirding, MovedTo, extract-queued, extract-done}
+use Rattle.extraction.proofs.Extracts.{visit-length, extract-blocks, extract-seconding, extract-thirding, extract-kept, MovedTo, extract-queued, extract-done}
 use Rattle.extraction.proofs.extract.extract.Statement.{statement}
 use Rattle.extraction.proofs.extract.extract.Tie as tie
 
@@ -24,7 +25,7 @@ abbrev Extract : tie.Start → Type 0
 Extract s =
     let a = s .args in
     Extracting (a .s .m) (a .s .paths) (at-start s) (a .e) (queueOf (a .order .now) (a .t .queued)) (queueOf (a .vacant .now) (a .s .paths - (a .t .queued + 1)))
-    (a .kinds .now) (a .terms .now) (a .last) (a .at)
+    (a .kinds .now) (a .terms .now) (a .last) (a .at) (a .kept)
 
 own : (s : tie.Start) → Extract s
 own s = s .pre .1 .1 .1
@@ -78,7 +79,15 @@ moved c o =
     let a = start t .args in
     let one : suc (t .second .result .queued) ≡ t .second .result .queued + 1 = omega arith in
     subst (λ (i : ℕ). MovedTo o (a .t .next) (a .t .crowded) (copied t o) (at-third c) (queueOf (c .third .last .1 .1 .0) i)) one
-    (c .third .ensures .1 (vacants t) (extract-thirding o (a .t .next) (a .t .crowded) (copied t o)))
+    (c .third .ensures .1 (vacants t) (extract-thirding o (a .t .next) (a .t .crowded) (copied t o)) .0)
+
+-- the word kept, for any state
+kept : (c : tie.After-third) (o : Extract (start (seconded c))) → let a = start (seconded c) .args in
+    KeptIs (o .hand .book) (a .s .m) (c .third .last .0) (c .third .last .1 .1 .1 .0) (c .third .result)
+kept c o =
+    let t = seconded c in
+    let a = start t .args in
+    extract-kept o (a .t .next) (a .t .crowded) (copied t o) (c .third .ensures .1 (vacants t) (extract-thirding o (a .t .next) (a .t .crowded) (copied t o)) .1)
 
 add-x : tie.Need-add-x
 add-x c = search needs
@@ -122,7 +131,7 @@ returns c =
             let k =
             extract-done o (a .t .next) (a .t .crowded) (copied t o) (moved u o) (a .s .visits) (a .visits .now) (t .second .result .outrun) b (c .before .blocks-of .ensures)
             (f .1 (u .third .last .1 .1 .1 .0) (u .third .last .1 .1 .1 .1 .0) q) in
-            (k .0, f .0 .4 ∙ k .1, f .0 .3 ∙ k .2, f .0 .6 ∙ k .3, omega (arith, k .4, t .second .ensures .1 .0 .1), k .5),
+            (k .0, f .0 .4 ∙ k .1, f .0 .3 ∙ k .2, f .0 .6 ∙ k .3, omega (arith, k .4, t .second .ensures .1 .0 .1), k .5, kept u o),
       ),
     )
 
@@ -153,10 +162,12 @@ outrun-requires c κs =
     )
 
 same-length : tie.Need-same-length
-same-length c = search needs
+same-length c =
+    let u = thirded (c .before) in
+    omega (arith, u .third .kept .1 .1 .1 .0, seconded u .second .kept .1 .1 .1 .1 .0)
 
 same-length-2 : tie.Need-same-length-2
-same-length-2 c = search needs
+same-length-2 c = thirded (c .before) .third .kept .1 .1 .1 .1 .0
 
 pub extract-spec : {M : Type 1} → statement M
 extract-spec =

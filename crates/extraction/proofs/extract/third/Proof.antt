@@ -1,8 +1,9 @@
 -- `extraction::extract::third` meets its contract: once the values of the path's next block are there, the search answers the reader's nearest word;
 -- the path's row and entry, written anew, hold the path with that word, and the insertion queues it. Moves.antt has each step, for any state that
 -- memory stands for; the contract's own state shows what the calls need. Assumes nothing.
-use mathlib.Core.Path.{_≡_, ap, ap₂, _∙_, subst}
+use mathlib.Core.Path.{_≡_, refl, ap, ap₂, _∙_, subst}
 use mathlib.Core.List.{List, _∷_}
+use mathlib.Core.Option.{some}
 use Prim.Native.Nat.{ℕ, _+_, _*_, _^_}
 use native.Mathlib.Omega.{arith}
 use borrow.Author.Needs.{needs}
@@ -11,15 +12,17 @@ use lib.IntN.{ℤ, pos, negℤ, natAbs, _-ℤ_}
 use mir.Facts.{toZ-ofZ}
 use Rattle.laws.proofs.Signed.{back, abs-fits}
 use Rattle.polar.specs.Layers.{part}
-use Rattle.outer.specs.Words.{nearest}
-use Rattle.outer.specs.Blocks.{candidateOf}
+use Rattle.codec.specs.Ties.{Parities}
+use Rattle.outer.specs.Words.{Word, nearest, nextAfter}
+use Rattle.outer.specs.Blocks.{paritySet, Bits, candidateOf}
 use Rattle.order.specs.Entries.{keyAt, slotAt, Packed, queueOf}
 use Rattle.sharing.specs.Sharing.{idAt}
 use Rattle.heights.specs.Workspace.{spot}
 use Rattle.standing.specs.Seen.{Memory, memory}
 use Rattle.standing.specs.Standing.{cell, Stands, withIds, PutRow}
 use Rattle.extraction.specs.Extraction.{Thirding}
-use Rattle.extraction.proofs.Moves.{view, third-tabled, third-parities, third-bias, third-blocks, third-low, third-spent, third-cost, third-set, third-id, third-searchable, third-total, third-queued}
+use Rattle.extraction.proofs.Moves.{view, third-tabled, third-parities, third-bias, third-blocks, third-low, third-spent, third-cost, third-set, third-id, third-searchable, third-found, third-total, third-queued}
+use Rattle.extraction.proofs.Keeping.{third-kept}
 use Rattle.extraction.proofs.extract.third.Statement.{statement}
 use Rattle.extraction.proofs.extract.third.Tie as tie
 
@@ -113,9 +116,9 @@ mul-parities-2 c = search needs
 element-copy-out-parities : tie.Need-element-copy-out-parities
 element-copy-out-parities c = search needs
 
-nearest-word-requires : tie.Need-nearest-word-requires
+nearest-words-requires : tie.Need-nearest-words-requires
 unfolding memory
-nearest-word-requires c κs =
+nearest-words-requires c κs =
     let t = c .before .before .before .before .before .before .before .before in
     let s = start (made t) in
     let o = own s in
@@ -126,28 +129,40 @@ nearest-word-requires c κs =
       (third-searchable o st l, s .pre .0 .3),
     )
 
--- the word found, for any state
-abbrev slotted : tie.After-nearest-word → tie.After-slot-of
+-- the words found, for any state
+abbrev slotted : tie.After-nearest-words → tie.After-slot-of
 slotted c = c .before .before .before .before .before .before .before .before .before
 
-found-is : (c : tie.After-nearest-word) (vs : List ℕ) (o : Third (start (made (slotted c))) vs) →
+two-found : (c : tie.After-nearest-words) (vs : List ℕ) (o : Third (start (made (slotted c))) vs) →
+    let y = at-made (made (slotted c)) in
+    let a = start (made (slotted c)) .args in
+    let h = a .at .height in
+    let B = o .moving .hand .book in
+    let b = o .moving .hand .taken .blocks in
+    let ws = part (spot (a .m) (idAt (y .rows) (slot (slotted c)) h) h) (2 ^ h) (y .numbers) in
+    (x : Parities) → Bits x → cell (y .rows) (slot (slotted c)) 14 ≡ paritySet B x →
+    (c .nearest-words .result .first ≡ candidateOf B (nearest B ws x b))
+    × ((w : Word) → nearest B ws x b ≡ some w → c .nearest-words .result .second ≡ candidateOf B (nextAfter w B ws x b))
+unfolding memory
+two-found c vs o x bits set =
+    let t = slotted c in
+    rw (slot-is t) at (c .nearest-words .ensures .1 (o .moving .hand .book) (o .moving .hand .taken .blocks) x (third-tabled o) bits (rw (slot-is t) set))
+
+-- the nearest
+found-is : (c : tie.After-nearest-words) (vs : List ℕ) (o : Third (start (made (slotted c))) vs) →
     let y = at-made (made (slotted c)) in
     let a = start (made (slotted c)) .args in
     let h = a .at .height in
     let p = o .moving .hand .taken in
-    c .nearest-word .result
+    c .nearest-words .result .first
     ≡ candidateOf (o .moving .hand .book)
     (nearest (o .moving .hand .book) (part (spot (a .m) (idAt (y .rows) (slot (slotted c)) h) h) (2 ^ h) (y .numbers)) (p .parities) (p .blocks))
-unfolding memory
-found-is c vs o =
-    let t = slotted c in
-    let p = o .moving .hand .taken in
-    rw (slot-is t) at (c .nearest-word .ensures .1 (o .moving .hand .book) (p .blocks) p (third-tabled o) (third-parities o) (rw (slot-is t) (third-set o (values-there (made t) vs o))))
+found-is c vs o = two-found c vs o (o .moving .hand .taken .parities) (third-parities o) (third-set o (values-there (made (slotted c)) vs o)) .0
 
 put-requires : tie.Need-put-requires
 unfolding memory
 put-requires c κs =
-    let t = slotted (c .before) in
+    let t = slotted (c .before .before) in
     (made t .calculate .ensures .0 .0 .sizes .rows-size, t .slot-of .ensures .1)
 
 bias-back : (c : tie.After-calculate) → back (start c .args .at .bias) ≡ start c .args .at .bias
@@ -155,13 +170,13 @@ unfolding memory
 bias-back c = toZ-ofZ (abs-fits _ (omega (arith, third-bias (own (start c)))))
 
 -- where the word was found, of a place after the row is written
-abbrev searched : tie.After-put → tie.After-nearest-word
-searched c = c .before .before
+abbrev searched : tie.After-put → tie.After-nearest-words
+searched c = c .before .before .before
 
 score-requires : tie.Need-score-requires
 unfolding memory
 score-requires c κs =
-    let u = searched (c .before .before) in
+    let u = searched (c .before) in
     let t = slotted u in
     let o = own (start (made t)) in
     (omega (arith, read t 10, read t 11, third-total o (values-there (made t) _ o) (found-is u _ o)), rw (bias-back (made t)) (third-bias o))
@@ -171,7 +186,7 @@ blocks-of-requires c κs = search needs
 
 -- the place where the row is written
 abbrev written : tie.After-score → tie.After-put
-written c = c .before .before .before
+written c = c .before .before
 
 add-entry : tie.Need-add-entry
 unfolding memory
@@ -199,18 +214,18 @@ entry-requires c κs =
 
 insert-requires : tie.Need-insert-requires
 insert-requires c κs =
-    let s = start (made (slotted (searched (written (c .before .before .before))))) in
+    let s = start (made (slotted (searched (written (c .before .before .before .before))))) in
     (s .pre .0 .1, omega (arith, s .pre .0 .2, s .pre .0 .0 .many))
 
 -- the score and the entry
 abbrev total : tie.After-score → ℕ
-total c = let u = searched (written c) in cell-of (slotted u) 10 + cell-of (slotted u) 11 + u .nearest-word .result .cost
+total c = let u = searched (written c) in cell-of (slotted u) 10 + cell-of (slotted u) 11 + u .nearest-words .result .first .cost
 
 score-is : (c : tie.After-score) → back (c .score .result) ≡ negℤ (pos (total c)) -ℤ start (made (slotted (searched (written c)))) .args .at .bias
 score-is c =
     let u = searched (written c) in
     let t = slotted u in
-    let sum = ap₂ (λ (a b : ℕ). a + b + u .nearest-word .result .cost) (read t 10) (read t 11) in
+    let sum = ap₂ (λ (a b : ℕ). a + b + u .nearest-words .result .first .cost) (read t 10) (read t 11) in
     score-back c ∙ c .score .ensures .0 ∙ ap₂ (λ (n : ℕ) (z : ℤ). negℤ (pos n) -ℤ z) sum (bias-back (made t))
 
 packed : (c : tie.After-entry) → let f = c .before .before .before in
@@ -229,31 +244,32 @@ packed c =
 -- the row
 put-is : (c : tie.After-put) → let u = searched c in
     let t = slotted u in
-    let w = u .nearest-word .result in
+    let w = u .nearest-words .result .first in
     PutRow (slot t) (at-made (made t) .rows) (c .put .last .0) (cell-of t 10 + cell-of t 11) (w .cost) (w .number) (cell-of t 14) (w .parities)
 unfolding memory cell
 put-is c =
     let u = searched c in
     let t = slotted u in
-    let w = u .nearest-word .result in
+    let w = u .nearest-words .result .first in
     let rows = made t .calculate .last .0 in
     subst (λ (s : ℕ). PutRow s rows (c .put .last .0) (getD rows (s * 16 + 10) 0 + getD rows (s * 16 + 11) 0) (w .cost) (w .number) (getD rows (s * 16 + 14) 0) (w .parities))
     (slot-is t) (c .put .ensures)
 
 -- the values and the sums are as many as they were
 abbrev ended : tie.After-insert → tie.After-put
-ended c = written (c .before .before .before .before)
+ended c = written (c .before .before .before .before .before)
 
 same-length : tie.Need-same-length
-same-length c = made (slotted (searched (ended c))) .calculate .kept .1 .1 .0
+same-length c = made (slotted (searched (ended (c .before)))) .calculate .kept .1 .1 .0
 
 same-length-2 : tie.Need-same-length-2
-same-length-2 c = made (slotted (searched (ended c))) .calculate .kept .1 .1 .1 .0
+same-length-2 c = made (slotted (searched (ended (c .before)))) .calculate .kept .1 .1 .1 .0
 
 returns : tie.Need-returns
 unfolding memory
 returns c =
-    let p = ended c in
+    let i = c .before in
+    let p = ended i in
     let u = searched p in
     let t = slotted u in
     let l = made t .calculate .ensures .0 .0 in (
@@ -265,10 +281,15 @@ returns c =
           numbers = l .numbers;
           bytes = l .bytes;
         },
-        c .insert .ensures .0,
-        u .nearest-word .ensures .0,
+        i .insert .ensures .0,
+        u .nearest-words .ensures .0,
       ),
-      λ vs o. rw (c .insert .ensures .1) (third-queued o (values-there (made t) vs o) (found-is u vs o) (score-is (c .before .before .before .before)) (packed (c .before)) (put-is p)),
+      λ vs o.
+          let st = values-there (made t) vs o in
+          let d = packed (i .before .before) in (
+            rw (i .insert .ensures .1) (third-queued o st (found-is u vs o) (score-is (i .before .before .before .before .before)) d (put-is p)),
+            third-kept o (l .deep) (at-made (made t) .rows) (at-made (made t) .numbers) (u .nearest-words .result) (third-found o st (found-is u vs o)) (two-found u vs o) (put-is p) d refl,
+          ),
     )
 
 pub third-spec : {M : Type 1} → statement M
@@ -290,7 +311,7 @@ third-spec =
     add-parities
     mul-parities-2
     element-copy-out-parities
-    nearest-word-requires
+    nearest-words-requires
     put-requires
     score-requires
     blocks-of-requires

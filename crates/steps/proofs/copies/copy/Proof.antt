@@ -1,4 +1,4 @@
--- `steps::copies::copy` meets its contract: the search answers the reader's next word; where there is none nothing changes, else the queue is cut, the
+-- `steps::copies::copy` meets its contract: the word kept or the search's answer is the reader's next word; where there is none nothing changes, else the queue is cut, the
 -- top vacant slot is the copy's, and fork makes the copy. Nexts.antt has each step, for any state that memory stands for; the contract's own state
 -- shows what the calls need. Assumes nothing.
 use mathlib.Core.Path.{_≡_, refl, sym, ap, _∙_, subst}
@@ -18,7 +18,7 @@ use Rattle.standing.specs.Seen.{Memory, memory}
 use Rattle.standing.specs.Standing.{Stands}
 use Rattle.steps.specs.Steps.{Forking, Copying}
 use Rattle.steps.proofs.Forks.{fork-apart}
-use Rattle.steps.proofs.Nexts.{next, copy-tabled, copy-row, copy-low, copy-id, copy-searchable, copy-cost, copy-found, copy-none, copy-fork, copy-done}
+use Rattle.steps.proofs.Nexts.{next, copy-tabled, copy-row, copy-blocks, copy-low, copy-id, copy-searchable, copy-cost, copy-found, copy-none, copy-fork, copy-done}
 use Rattle.steps.proofs.copies.copy.Statement.{statement}
 use Rattle.steps.proofs.copies.copy.Tie as tie
 
@@ -30,42 +30,34 @@ abbrev Copy : tie.Start → ℕ → Type 0
 Copy s b =
     let a = s .args in
     Copying (a .s .m) (a .s .paths) (at-start s) (a .e) (queueOf (a .order .now) (a .t .queued)) (queueOf (a .vacant .now) (a .s .paths - (a .t .queued + 1)))
-    (a .kinds .now) (a .terms .now) (a .last) b
+    (a .kinds .now) (a .terms .now) (a .last) (a .kept) b
 
 own : (s : tie.Start) → Copy s (s .pre .1 .1 .0)
 own s = s .pre .1 .1 .2
 
-slot-of-requires : tie.Need-slot-of-requires
-slot-of-requires c κs = search needs
-
-next-word-requires : tie.Need-next-word-requires
+other-word-requires : tie.Need-other-word-requires
 unfolding memory
-next-word-requires c κs =
-    let f = c .before .before .before .before .before .slot-of .ensures in
-    let s = c .before .before .before .before .before .before .before in
+other-word-requires c κs =
+    let s = c .before .before .before .before .before .before in
     let l = s .pre .0 .0 in
     let o = own s in
-    rw (f .0) (
-      (l .sizes .rows-size, omega (arith, f .0, f .1), l .deep, copy-low o, copy-id o (l .many)),
-      (copy-searchable o l, (s .pre .1 .0 .0, copy-cost o)),
-    )
+    ((l .sizes .rows-size, l .deep, copy-low o, copy-id o (l .many)), (copy-searchable o l, (s .pre .1 .0 .0, copy-cost o)))
 
 same-length : tie.Need-same-length
 same-length c = search needs
 
 -- the word found, for any state
-abbrev start : tie.After-next-word → tie.Start
-start c = c .before .before .before .before .before .before .before .before
+abbrev start : tie.After-other-word → tie.Start
+start c = c .before .before .before .before .before .before .before
 
-found-is : (c : tie.After-next-word) (b : ℕ) (o : Copy (start c) b) → c .next-word .result ≡ candidateOf (o .hand .book) (next o)
+found-is : (c : tie.After-other-word) (b : ℕ) (o : Copy (start c) b) → c .other-word .result ≡ candidateOf (o .hand .book) (next o)
 unfolding memory
 found-is c b o =
-    let slot = c .before .before .before .before .before .before .slot-of .ensures .0 in
     copy-found o
-    (rw slot at (c .next-word .ensures .1 (o .hand .book) b (o .hand .taken) (copy-tabled o) (o .own .fit .earlier) (rw slot (copy-row o)) (o .own .blocks)))
+    (c .other-word .ensures .1 (o .hand .book) b (o .hand .taken) (o .known) (copy-tabled o) (o .own .fit .earlier) (copy-row o) (copy-blocks o) (o .own .blocks))
 
 -- what the test tells
-none-there : (c : tie.Then1) → c .before .before .next-word .result .some ≡ false
+none-there : (c : tie.Then1) → c .before .before .other-word .result .some ≡ false
 none-there c = not-true _ (c .if1 .taken)
 
 returns : tie.Need-returns
@@ -73,7 +65,7 @@ unfolding memory
 returns c =
     let t = c .before .before in
     let s = start t in (
-      (s .pre .0 .0, s .pre .0 .1, s .pre .0 .2, t .next-word .ensures .0),
+      (s .pre .0 .0, s .pre .0 .1, s .pre .0 .2, t .other-word .ensures .0),
       (
         (refl, refl, s .pre .1 .0 .2),
         λ b o q.
@@ -92,7 +84,7 @@ crowd-requires c κs =
     )
 
 -- the search before the queue was cut
-abbrev searched : tie.After-crowd → tie.After-next-word
+abbrev searched : tie.After-crowd → tie.After-other-word
 searched c = c .before .before .before .before .before .before .before
 
 add-to : tie.Need-add-to
@@ -106,7 +98,7 @@ element-copy-out-to : tie.Need-element-copy-out-to
 unfolding memory
 element-copy-out-to c = let s = start (searched c) in omega (arith, c .crowd .ensures .0 .4, s .pre .0 .0 .many)
 
-some-there : (c : tie.After-crowd) → searched c .next-word .result .some ≡ true
+some-there : (c : tie.After-crowd) → searched c .other-word .result .some ≡ true
 some-there c = not-false _ (c .before .before .before .before .before .if1 .left)
 
 -- the copy's slot is the top vacant one
@@ -143,7 +135,7 @@ left c b o =
 -- what fork needs
 forking : (c : tie.After-crowd) (b : ℕ) (o : Copy (start (searched c)) b) → let a = start (searched c) .args in
     Forking (a .s .m) (a .s .paths) (at-crowd c) (a .e) (slot c) (queueOf (c .crowd .last .1 .1 .0) (c .crowd .result)) (queueOf (c .crowd .last .1 .1 .1 .0) (top c)) (a .last)
-    (searched c .next-word .result) b
+    (searched c .other-word .result) b
 forking c b o = copy-fork o (found-is (searched c) b o) (some-there c) (count c b o) (c .crowd .ensures .0 .4) (left c b o)
 
 cast-to : tie.Need-cast-to
@@ -194,7 +186,7 @@ returns-2 c =
     let f = u .fork .ensures in
     let g = t .crowd .ensures .0 in
     let r = c .tallied .ensures in (
-      (f .0 .0, f .0 .1, g .2, searched t .next-word .ensures .0),
+      (f .0 .0, f .0 .1, g .2, searched t .other-word .ensures .0),
       (
         (r .2, r .4, omega (arith, r .0, g .4)),
         λ b o q.
@@ -214,8 +206,7 @@ pub copy-spec : {M : Type 1} → statement M
 copy-spec =
     tie.close
     (tie.spec
-    slot-of-requires
-    next-word-requires
+    other-word-requires
     same-length
     returns
     crowd-requires

@@ -1,18 +1,19 @@
--- `words::nearest_word` meets its contract: the id and the parities are those of the row, and the values lie where `place` says. Assumes
+-- `words::nearest_words` meets its contract: the id and the parities are those of the row, and the values lie where `place` says. Assumes
 -- nothing.
-use mathlib.Core.Path.{ap, _∙_}
+use mathlib.Core.Path.{_≡_, subst}
+use mathlib.Core.Option.{some}
 use Prim.Native.Nat.{_+_, _*_, _^_}
 use native.Mathlib.Omega.{arith}
 use lib.ListN.{getD}
 use borrow.Author.Needs.{needs}
 use Rattle.polar.specs.Layers.{part}
 use Rattle.outer.specs.Blocks.{candidateOf}
-use Rattle.outer.specs.Words.{nearest}
+use Rattle.outer.specs.Words.{Word, nearest, nextAfter}
 use Rattle.sharing.specs.Sharing.{idAt}
 use Rattle.heights.specs.Workspace.{Id}
 use Rattle.standing.specs.Standing.{cell}
-use Rattle.words.proofs.nearest_word.Statement.{statement}
-use Rattle.words.proofs.nearest_word.Tie as tie
+use Rattle.words.proofs.nearest_words.Statement.{statement}
+use Rattle.words.proofs.nearest_words.Tie as tie
 
 mul-id : tie.Need-mul-id
 mul-id c = search needs
@@ -49,12 +50,12 @@ mul-parities-2 c = search needs
 element-copy-out-parities : tie.Need-element-copy-out-parities
 element-copy-out-parities c = search needs
 
-cast-nearest : tie.Need-cast-nearest
-cast-nearest c = search needs
+cast-nearest-pair : tie.Need-cast-nearest-pair
+cast-nearest-pair c = search needs
 
-nearest-requires : tie.Need-nearest-requires
+nearest-pair-requires : tie.Need-nearest-pair-requires
 unfolding idAt
-nearest-requires c κs =
+nearest-pair-requires c κs =
     let s = c .before .before .before .before .before .before in
     (rw (c .before .before .before .before .place .ensures) (s .pre .1 .0), s .pre .1 .1)
 
@@ -63,14 +64,16 @@ unfolding idAt cell
 returns c =
     let a = c .before .before .before .before .before .before .before .args in
     let j = a .at .height in (
-      c .nearest .ensures .0,
-      λ B b p o h e.
-          c .nearest .ensures .1 B b (p .parities) o h e
-          ∙ ap (λ n. candidateOf B (nearest B (part n (2 ^ j) (a .numbers .now)) (p .parities) b)) (c .before .before .before .before .before .place .ensures),
+      c .nearest-pair .ensures .0,
+      λ B b x o h e.
+          subst (λ n. let vs = part n (2 ^ j) (a .numbers .now) in
+          (c .nearest-pair .result .first ≡ candidateOf B (nearest B vs x b))
+          × ((w : Word) → nearest B vs x b ≡ some w → c .nearest-pair .result .second ≡ candidateOf B (nextAfter w B vs x b)))
+          (c .before .before .before .before .before .place .ensures) (c .nearest-pair .ensures .1 B b x o h e),
     )
 
-pub nearest-word-spec : {M : Type 1} → statement M
-nearest-word-spec =
+pub nearest-words-spec : {M : Type 1} → statement M
+nearest-words-spec =
     tie.close
     (tie.spec
     mul-id
@@ -83,6 +86,6 @@ nearest-word-spec =
     add-parities
     mul-parities-2
     element-copy-out-parities
-    cast-nearest
-    nearest-requires
+    cast-nearest-pair
+    nearest-pair-requires
     returns)
