@@ -12,7 +12,7 @@ use lib.ListN.{length, getD, set}
 use lib.Pow.{pow-mono}
 use lib.Seq.{getD-set-same}
 use Rattle.laws.proofs.Tests.{lt-or}
-use Rattle.outer.specs.Search.{rowOf, Entry, put, later, grown, settings, entry, spread, Spans, Holds}
+use Rattle.outer.specs.Search.{rowOf, Entry, put, later, grown, settings, entry, spread, Spans}
 use Rattle.outer.proofs.Spread.{spread-more, spread-tie}
 
 -- ---- how many
@@ -93,9 +93,3 @@ pub entry-more : (words sets : List ℕ) (n : ℕ) (kinds terms : List ℕ) (sta
 unfolding Spans entry
 entry-more words sets n kinds terms start p i row q h =
     rw (add-one i) (subst (λ (x : ℕ). Spans words sets n (later (getD kinds (start + i) 0) x (getD terms (start + i) 0) (entry kinds terms start p i))) q h)
-
--- tables that hold what the short ones spread to hold the entries that these span
-pub spans-hold : (words sets ws ss : List ℕ) (n : ℕ) (e : ℕ → Entry) → Spans ws ss n e → ((k : ℕ) → k < 2 ^ n → getD words k 0 ≡ spread ws 0 n k)
-    → ((k : ℕ) → k < 2 ^ n → getD sets k 0 ≡ spread ss 0 n k) → Holds words sets (2 ^ n) e
-unfolding Spans Holds
-spans-hold words sets ws ss n e h f g w l = (f w l ∙ h w .0, g w l ∙ h w .1)

@@ -62,30 +62,40 @@ halves-made first t vs {s0} {s1} {s2} {s3} {s4} {s5} {s6} {s7} size h made same 
             let e : 16 + v ≡ k = omega arith in
             omega (arith, ap (λ i. getD t i 0) e, high v (omega arith), part-small v 4 vs h)
 
--- ---- the entries' words are bytes
+-- ---- the entries' words are bytes, and those of longer blocks have 32 bits
 
 row-byte : (i : ℕ) → i < 8 → rowOf i < 256
 unfolding rowOf unit transform number addBits zipWith
 row-byte i h = ltb→lt (rowOf i) 256 (every-at (λ (k : ℕ). ltb (rowOf k) 256) 8 tt i h)
 
-put-byte : (row ties b : ℕ) (e : Entry) → row < 256 → b < 2 → e .word < 256 → put row ties b e .word < 256
-unfolding put
-put-byte row ties zero e h k l = xor-lt 8 (e .word) (row * 0) l (omega (arith, mul-zero row))
-put-byte row ties (suc zero) e h k l = xor-lt 8 (e .word) (row * 1) l (omega (arith, mul-one row))
-put-byte row ties (suc (suc b)) e h k l = absurd (omega arith)
+row-word : (i : ℕ) → i < 32 → rowOf i < 4294967296
+unfolding rowOf unit transform number addBits zipWith
+row-word i h = ltb→lt (rowOf i) 4294967296 (every-at (λ (k : ℕ). ltb (rowOf k) 4294967296) 32 tt i h)
 
-later-byte : (c row ties : ℕ) (e : ℕ → Entry) → row < 256 → ((w : ℕ) → e w .word < 256) → (w : ℕ) → later c row ties e w .word < 256
+put-lt : (b row ties v : ℕ) (e : Entry) → row < 2 ^ b → v < 2 → e .word < 2 ^ b → put row ties v e .word < 2 ^ b
+unfolding put
+put-lt b row ties zero e h k l = xor-lt b (e .word) (row * 0) l (omega (arith, mul-zero row))
+put-lt b row ties (suc zero) e h k l = xor-lt b (e .word) (row * 1) l (omega (arith, mul-one row))
+put-lt b row ties (suc (suc v)) e h k l = absurd (omega arith)
+
+later-lt : (b c row ties : ℕ) (e : ℕ → Entry) → row < 2 ^ b → ((w : ℕ) → e w .word < 2 ^ b) → (w : ℕ) → later c row ties e w .word < 2 ^ b
 unfolding later
-later-byte zero row ties e h k w = put-byte row ties (w % 2) (e (w / 2)) h (omega arith) (k (w / 2))
-later-byte (suc zero) row ties e h k w = k w
-later-byte (suc (suc t)) row ties e h k w = put-byte row ties (e w .set / 2 ^ t % 2) (e w) h (omega arith) (k w)
+later-lt b zero row ties e h k w = put-lt b row ties (w % 2) (e (w / 2)) h (omega arith) (k (w / 2))
+later-lt b (suc zero) row ties e h k w = k w
+later-lt b (suc (suc t)) row ties e h k w = put-lt b row ties (e w .set / 2 ^ t % 2) (e w) h (omega arith) (k w)
 
 module _ (kinds terms : List ℕ) (start : ℕ) where
-  pub entry-byte : (p i : ℕ) → i ≤ 8 → (w : ℕ) → entry kinds terms start p i w .word < 256
+  entry-lt : (b n p i : ℕ) → ((k : ℕ) → k < n → rowOf k < 2 ^ b) → i ≤ n → (w : ℕ) → entry kinds terms start p i w .word < 2 ^ b
   unfolding entry
-  entry-byte p zero h w = omega arith
-  entry-byte p (suc i) h w =
-      later-byte (getD kinds (start + i) 0) (rowOf i) (getD terms (start + i) 0) (entry kinds terms start p i) (row-byte i h) (entry-byte p i (omega arith)) w
+  entry-lt b n p zero r h w = pow-pos b
+  entry-lt b n p (suc i) r h w =
+      later-lt b (getD kinds (start + i) 0) (rowOf i) (getD terms (start + i) 0) (entry kinds terms start p i) (r i (omega arith)) (entry-lt b n p i r (omega arith)) w
+
+  pub entry-byte : (p i : ℕ) → i ≤ 8 → (w : ℕ) → entry kinds terms start p i w .word < 256
+  entry-byte p i h w = entry-lt 8 8 p i row-byte h w
+
+  pub entry-word : (p i : ℕ) → i ≤ 32 → (w : ℕ) → entry kinds terms start p i w .word < 4294967296
+  entry-word p i h w = entry-lt 32 32 p i row-word h w
 
   -- ---- 8 free indices
 

@@ -1,11 +1,10 @@
--- The scan for the least key: one setting more is what the scan makes of the best so far, and equal keys give equal answers. By cases on what
--- was found before. Assumes nothing.
+-- The scan for the least key: what is found is the least, equal keys give equal answers, and one key more is what the scan makes of the best so
+-- far. By cases on what was found before. Assumes nothing.
 use mathlib.Core.Path.{_≡_, refl, sym, ap, ap₂, _∙_, subst}
-use mathlib.Core.Bool.{Bool, true, false, cond, true≢false}
+use mathlib.Core.Bool.{Bool, true, false, cond, _&&_, true≢false}
 use mathlib.Core.Logic.{_⊎_, inl, inr}
 use mathlib.Core.Option.{Option, none, some}
 use Prim.Native.Nat.{ℕ, zero, suc, _+_, _≤_, _<_}
-use native.Mathlib.Numerals.{add-one}
 use native.Mathlib.Omega.{arith}
 use lib.Dec.{ltb, leb}
 use borrow.Author.Tests.{lt-ltb, le-ltb, le-leb, lt-leb}
@@ -19,10 +18,6 @@ use Rattle.outer.specs.Search.{tried, lesser, leastFrom, bestOf}
 abbrev pub mapped : (ℕ → ℕ) → Option ℕ → Option ℕ
 mapped f none = none
 mapped f (some w) = some (f w)
-
-pub least-more : (k : ℕ → ℕ) (bound w : ℕ) → choose (lesser k) (leb bound (k w)) w (leastFrom k bound w) ≡ leastFrom k bound (w + 1)
-unfolding leastFrom firstOf tried
-least-more k bound w = rw add-one
 
 -- what is found is among the settings
 pub least-below : (k : ℕ → ℕ) (bound n : ℕ) → May (λ (w : ℕ). w < n) (leastFrom k bound n)
@@ -112,27 +107,36 @@ best-within k n (some w) h l = omega arith
 
 -- ---- one key more
 
-module _ (k : ℕ → ℕ) (bound w : ℕ) (best : Best) where
-  pub below : (o : Option ℕ) → best ≡ bestOf k o → k w < bound → best ≡ bestOf k (choose (lesser k) (leb bound (k w)) w o)
+module _ (k : ℕ → ℕ) (bound top w : ℕ) (best : Best) where
+  -- the test that it passes
+  abbrev pub passes : Bool
+  passes = leb bound (k w) && ltb (k w) top
+
+  pub under : (o : Option ℕ) → best ≡ bestOf k o → k w < bound → best ≡ bestOf k (choose (lesser k) passes w o)
   unfolding choose
-  below o e h = rw (lt-leb bound (k w) h) e
+  under o e h = rw (lt-leb bound (k w) h) e
 
   module _ (h : bound ≤ k w) where
-    pub kept : (o : Option ℕ) → best ≡ bestOf k o → best .some ≡ true → best .key ≤ k w → best ≡ bestOf k (choose (lesser k) (leb bound (k w)) w o)
-    unfolding choose bestOf lesser
-    kept none e t l = absurd (true≢false (sym t ∙ ap (λ (b : Best). b .some) e))
-    kept (some y) e t l =
-        let q : best .key ≡ k y = ap (λ (b : Best). b .key) e in
-        rw (le-leb bound (k w) h, le-ltb (k w) (k y) (omega arith)) e
+    pub over : (o : Option ℕ) → best ≡ bestOf k o → top ≤ k w → best ≡ bestOf k (choose (lesser k) passes w o)
+    unfolding choose
+    over o e l = rw (le-leb bound (k w) h, le-ltb (k w) top l) e
 
-    pub taken : (o : Option ℕ) → best ≡ bestOf k o → k w < best .key → record { some = true; key = k w; setting = w } ≡ bestOf k (choose (lesser k) (leb bound (k w)) w o)
-    unfolding choose bestOf lesser
-    taken none e l = rw (le-leb bound (k w) h)
-    taken (some y) e l =
-        let q : best .key ≡ k y = ap (λ (b : Best). b .key) e in
-        rw (le-leb bound (k w) h, lt-ltb (k w) (k y) (omega arith))
+    module _ (g : k w < top) where
+      pub kept : (o : Option ℕ) → best ≡ bestOf k o → best .some ≡ true → best .key ≤ k w → best ≡ bestOf k (choose (lesser k) passes w o)
+      unfolding choose bestOf lesser
+      kept none e t l = absurd (true≢false (sym t ∙ ap (λ (b : Best). b .some) e))
+      kept (some y) e t l =
+          let q : best .key ≡ k y = ap (λ (b : Best). b .key) e in
+          rw (le-leb bound (k w) h, lt-ltb (k w) top g, le-ltb (k w) (k y) (omega arith)) e
 
-    pub started : (o : Option ℕ) → best ≡ bestOf k o → best .some ≡ false → record { some = true; key = k w; setting = w } ≡ bestOf k (choose (lesser k) (leb bound (k w)) w o)
-    unfolding choose bestOf
-    started none e t = rw (le-leb bound (k w) h)
-    started (some y) e t = absurd (true≢false (sym (ap (λ (b : Best). b .some) e) ∙ t))
+      pub taken : (o : Option ℕ) → best ≡ bestOf k o → k w < best .key → record { some = true; key = k w; setting = w } ≡ bestOf k (choose (lesser k) passes w o)
+      unfolding choose bestOf lesser
+      taken none e l = rw (le-leb bound (k w) h, lt-ltb (k w) top g)
+      taken (some y) e l =
+          let q : best .key ≡ k y = ap (λ (b : Best). b .key) e in
+          rw (le-leb bound (k w) h, lt-ltb (k w) top g, lt-ltb (k w) (k y) (omega arith))
+
+      pub started : (o : Option ℕ) → best ≡ bestOf k o → best .some ≡ false → record { some = true; key = k w; setting = w } ≡ bestOf k (choose (lesser k) passes w o)
+      unfolding choose bestOf
+      started none e t = rw (le-leb bound (k w) h, lt-ltb (k w) top g)
+      started (some y) e t = absurd (true≢false (sym (ap (λ (b : Best). b .some) e) ∙ t))

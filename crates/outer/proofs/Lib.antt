@@ -6,6 +6,7 @@ pub mod Rows
 pub mod Sums
 pub mod Advance
 pub mod Least
+pub mod Below
 pub mod Found
 pub mod Numbers
 pub mod Parities

@@ -1,4 +1,5 @@
 pub mod Words
 pub mod Search
 pub mod Short
+pub mod Long
 pub mod Blocks

@@ -60,10 +60,6 @@ unfoldable pub entry : List ℕ → List ℕ → ℕ → ℕ → ℕ → ℕ →
 entry kinds terms start p zero w = record { word = 0; set = p }
 entry kinds terms start p (suc i) w = later (getD kinds (start + i) 0) (rowOf i) (getD terms (start + i) 0) (entry kinds terms start p i) w
 
--- two tables hold the first n of these entries
-unfoldable pub Holds : List ℕ → List ℕ → ℕ → (ℕ → Entry) → Type 0
-Holds words sets n e = (w : ℕ) → w < n → (getD words w 0 ≡ e w .word) × (getD sets w 0 ≡ e w .set)
-
 -- the first entry of a short table, with n of its directions added, those after `from`, where the bits of w are 1: the last one's bit is lowest
 unfoldable pub spread : List ℕ → ℕ → ℕ → ℕ → ℕ
 spread ds from zero w = getD ds 0 0
@@ -127,10 +123,6 @@ Small t runs = (k : ℕ) → k < 16 * runs → getD t k 0 ≤ 4192256
 unfoldable pub keyOf : ℕ → ℕ → ℕ
 keyOf cost number = cost * 4294967296 + number
 
--- the key of word w of a table of words, its cost by a table of costs
-unfoldable pub tableKey : List ℕ → ℕ → List ℕ → ℕ → ℕ
-tableKey sums runs words w = let x = getD words w 0 in keyOf (picked sums 0 runs x) x
-
 -- the order in which settings are tried: 0, 1, ..
 unfoldable pub tried : ℕ → ℕ
 tried w = w
@@ -153,14 +145,6 @@ bestOf key (some w) = record { some = true; key = key w; setting = w }
 unfoldable pub answer : (ℕ → Entry) → List ℤ → Option ℕ → Candidate
 answer e vs none = record { some = false; setting = 0; parities = 0; cost = 0; number = 0 }
 answer e vs (some w) = record { some = true; setting = w; parities = e w .set; cost = costOf (e w .word) vs; number = e w .word }
-
--- what the scan found in the tables, as an answer
-unfoldable pub chosen : List ℕ → List ℕ → List ℕ → ℕ → Best → Candidate
-chosen words sets sums runs b =
-    let x = getD words (b .setting) 0 in
-    cond (b .some)
-    (record { some = true; setting = b .setting; parities = getD sets (b .setting) 0; cost = picked sums 0 runs x; number = x })
-    (record { some = false; setting = 0; parities = 0; cost = 0; number = 0 })
 
 -- the key of a setting
 unfoldable pub keyAt : (ℕ → Entry) → List ℤ → ℕ → ℕ

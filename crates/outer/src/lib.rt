@@ -1,6 +1,7 @@
 // Words of a block: the definitions by the values of its node, that these are the machine's words, and the search for the nearest and the next.
 pub mod costs;
 pub mod find;
+pub mod long;
 pub mod settings;
 pub mod short;
 

@@ -1,10 +1,10 @@
-// The words and the parities of all settings of a block's free bits, in two tables. The entry of setting 0 and one direction for each free
-// index are walked through the indices, and doubled to all settings at the end.
+// The words and the parities of all settings of a block's free bits. The entry of setting 0 and one direction for each free index are walked
+// through the indices; they are doubled to a table of all settings at the end.
 ghost use mathlib.Core.Path.{_≡_};
 ghost use Prim.Native.Nat.{ℕ, _+_, _*_, _/_, _%_, _^_, _≤_, _<_};
 ghost use lib.Bits.{bitXor};
 ghost use lib.ListN.{length, getD};
-ghost use Rattle.outer.specs.Search.{rowOf, Entry, later, grown, settings, entry, spread, Spans, Holds, Walkable};
+ghost use Rattle.outer.specs.Search.{rowOf, Entry, later, grown, settings, entry, spread, Spans, Walkable};
 
 // The rows of the matrix A as numbers: the words that one bit alone makes.
 fn rows() -> [u32; 32]
@@ -169,33 +169,4 @@ pub fn double_all(table: &mut [u32; 256], steps: &[u32; 9], free: usize) -> usiz
         left -= 1;
     }
     count
-}
-
-// The entries of all settings of the n indices from `start` on, after the given parities, and their number.
-pub fn fill(
-    kinds: &[u8; 512],
-    terms: &[u32; 512],
-    start: usize,
-    n: usize,
-    parities: u32,
-    words: &mut [u32; 256],
-    sets: &mut [u32; 256],
-) -> usize
-    requires { ⌜ (length (now words) ≡ 256) × (length (now sets) ≡ 256) × Walkable (now kinds) start n ⌝ }
-    ensures { λ r. ⌜ (length (now (words .exit)) ≡ 256) × (length (now (sets .exit)) ≡ 256) × (r ≡ settings (now (kinds .entry)) start n)
-        × Holds (now (words .exit)) (now (sets .exit)) r (entry (now (kinds .entry)) (now (terms .entry)) start parities n) ⌝ }
-{
-    let mut word_steps: [u32; 9] = [0; 9];
-    let mut set_steps: [u32; 9] = [0; 9];
-    let free = walk(
-        kinds,
-        terms,
-        start,
-        n,
-        parities,
-        &mut word_steps,
-        &mut set_steps,
-    );
-    double_all(words, &word_steps, free);
-    double_all(sets, &set_steps, free)
 }

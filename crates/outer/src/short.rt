@@ -71,7 +71,7 @@ fn from(key: u32, bound: u32) -> u32
 }
 
 // The lesser of two.
-fn lesser(x: u32, y: u32) -> u32
+pub fn lesser(x: u32, y: u32) -> u32
     ensures { λ r. ⌜ r ≡ min x y ⌝ }
 {
     if x < y { x } else { y }
@@ -141,7 +141,7 @@ fn place(keys: &[u32; 256], count: usize, key: u32) -> u32
 }
 
 // The entry of setting w, by the entry of setting 0 and the directions.
-fn spread_at(steps: &[u32; 9], free: usize, w: u32) -> u32
+pub fn spread_at(steps: &[u32; 9], free: usize, w: u32) -> u32
     requires { ⌜ free ≤ 8 ⌝ }
     ensures { λ r. ⌜ r ≡ spread (now (steps .entry)) 0 free w ⌝ }
 {
