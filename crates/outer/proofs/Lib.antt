@@ -7,6 +7,8 @@ pub mod Sums
 pub mod Advance
 pub mod Least
 pub mod Below
+pub mod Groups
+pub mod Turned
 pub mod Found
 pub mod Numbers
 pub mod Parities

@@ -4,7 +4,7 @@ use mathlib.Core.Path.{_≡_}
 use mathlib.Core.Bool.{_&&_, true, false, cond}
 use mathlib.Core.List.{List}
 use mathlib.Core.Option.{Option}
-use Prim.Native.Nat.{ℕ, _/_, _^_, _≤_, _<_}
+use Prim.Native.Nat.{ℕ, _+_, _*_, _/_, _%_, _^_, _≤_, _<_}
 use lib.Dec.{ltb, leb}
 use lib.IntN.{ℤ}
 use lib.ListN.{getD}
@@ -16,6 +16,11 @@ use Rattle.outer.specs.Search.{Entry, spread, costOf, picked, keyOf, tri
 -- the costs of the first n words, by a table of the costs of half bytes
 unfoldable pub Summed : List ℕ → List ℕ → ℕ → List ℕ → ℕ → Type 0
 Summed costs sums runs words n = (w : ℕ) → w < n → getD costs w 0 ≡ picked sums 0 runs (getD words w 0)
+
+-- the first n settings are pairs of an even one and the next, whose words' costs have one sum
+pub record Turned (sums : List ℕ) (runs : ℕ) (words : List ℕ) (n total : ℕ) : Type 0 where
+  pub even : n % 2 ≡ 0
+  pub sum : (k : ℕ) → 2 * k + 1 < n → picked sums 0 runs (getD words (2 * k) 0) + picked sums 0 runs (getD words (2 * k + 1) 0) ≡ total
 
 -- none of the first n costs is below the floor of its 16 settings
 unfoldable pub Floors : List ℕ → List ℕ → ℕ → Type 0

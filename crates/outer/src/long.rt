@@ -4,7 +4,7 @@ ghost use mathlib.Core.Path.{_≡_};
 ghost use mathlib.Core.Bool.{_&&_};
 ghost use mathlib.Core.List.{List};
 ghost use mathlib.Core.Option.{Option};
-ghost use Prim.Native.Nat.{ℕ, _+_, _*_, _^_, _≤_, _<_, min};
+ghost use Prim.Native.Nat.{ℕ, _+_, _-_, _%_, _^_, _≤_, _<_, min};
 ghost use lib.Dec.{leb, ltb};
 ghost use lib.IntN.{ℤ};
 ghost use lib.ListN.{length, getD};
@@ -12,7 +12,7 @@ ghost use Rattle.laws.specs.Lists.{All};
 ghost use Rattle.polar.specs.Layers.{part, Within};
 ghost use Rattle.machine.specs.Choice.{choose};
 ghost use Rattle.outer.specs.Search.{Entry, settings, entry, picked, Fours, Small, keyAt, lesser, leastFrom, bestOf, answer, found, foundPair, Scratch, Walkable};
-ghost use Rattle.outer.specs.Long.{Summed, Floors, tableKey, leastBelow, Listed, chosen};
+ghost use Rattle.outer.specs.Long.{Summed, Turned, Floors, tableKey, leastBelow, Listed, chosen};
 use crate::Best;
 use crate::Candidate;
 use crate::Pair;
@@ -59,25 +59,109 @@ fn list_group(
     floor
 }
 
+// The same, where the costs of each two words from an even setting on have one sum: each second cost is what is left of it.
+fn list_pairs(
+    words: &[u32; 256],
+    at: usize,
+    end: usize,
+    sums: &[u32; 128],
+    runs: usize,
+    total: u32,
+    costs: &mut [u32; 256],
+) -> u32
+    requires { ⌜ (length (now costs) ≡ 256) × (at ≤ end) × (end ≤ 256) × Fours runs × Small (now sums) runs × (at % 2 ≡ 0)
+        × Turned (now sums) runs (now words) end total ⌝ }
+    ensures { λ r. ⌜ (length (now (costs .exit)) ≡ 256) × ((w : ℕ) → w < at → getD (now (costs .exit)) w 0 ≡ getD (now (costs .entry)) w 0)
+        × ((w : ℕ) → at ≤ w → w < end → (getD (now (costs .exit)) w 0 ≡ picked (now (sums .entry)) 0 runs (getD (now (words .entry)) w 0))
+        × (r ≤ getD (now (costs .exit)) w 0)) ⌝ }
+{
+    let mut floor: u32 = 4294967295;
+    let mut w = at;
+    while w < end {
+        let cost = cost_of(sums, runs, words[w]);
+        let other = total - cost;
+        costs[w] = cost;
+        costs[w + 1] = other;
+        floor = lesser(other, lesser(cost, floor));
+        w += 2;
+    }
+    floor
+}
+
+// The same, in pairs unless the sum is the greatest number.
+fn list_some(
+    words: &[u32; 256],
+    at: usize,
+    end: usize,
+    sums: &[u32; 128],
+    runs: usize,
+    total: u32,
+    costs: &mut [u32; 256],
+) -> u32
+    requires { ⌜ (length (now costs) ≡ 256) × (at ≤ end) × (end ≤ 256) × Fours runs × Small (now sums) runs × (at % 2 ≡ 0)
+        × ((total ≡ 4294967295 → ⊥) → Turned (now sums) runs (now words) end total) ⌝ }
+    ensures { λ r. ⌜ (length (now (costs .exit)) ≡ 256) × ((w : ℕ) → w < at → getD (now (costs .exit)) w 0 ≡ getD (now (costs .entry)) w 0)
+        × ((w : ℕ) → at ≤ w → w < end → (getD (now (costs .exit)) w 0 ≡ picked (now (sums .entry)) 0 runs (getD (now (words .entry)) w 0))
+        × (r ≤ getD (now (costs .exit)) w 0)) ⌝ }
+{
+    if total == 4294967295 {
+        return list_group(words, at, end, sums, runs, costs);
+    }
+    list_pairs(words, at, end, sums, runs, total, costs)
+}
+
 // The costs of the first `count` words, and the floors.
 fn list_costs(
     words: &[u32; 256],
     count: usize,
     sums: &[u32; 128],
     runs: usize,
+    total: u32,
     costs: &mut [u32; 256],
     floors: &mut [u32; 16],
 )
-    requires { ⌜ (length (now costs) ≡ 256) × (length (now floors) ≡ 16) × (count ≤ 256) × Fours runs × Small (now sums) runs ⌝ }
+    requires { ⌜ (length (now costs) ≡ 256) × (length (now floors) ≡ 16) × (count ≤ 256) × Fours runs × Small (now sums) runs
+        × ((total ≡ 4294967295 → ⊥) → Turned (now sums) runs (now words) count total) ⌝ }
     ensures { λ _. ⌜ (length (now (costs .exit)) ≡ 256) × (length (now (floors .exit)) ≡ 16)
         × Summed (now (costs .exit)) (now (sums .entry)) runs (now (words .entry)) count × Floors (now (floors .exit)) (now (costs .exit)) count ⌝ }
 {
     let mut g: usize = 0;
     while g * 16 < count {
         let at = g * 16;
-        floors[g] = list_group(words, at, group_end(at, count), sums, runs, costs);
+        floors[g] = list_some(words, at, group_end(at, count), sums, runs, total, costs);
         g += 1;
     }
+}
+
+// The word of n ones.
+fn ones(n: usize) -> u32
+    requires { ⌜ n ≤ 32 ⌝ }
+    ensures { λ r. ⌜ r ≡ 2 ^ n - 1 ⌝ }
+{
+    let all: u64 = 1 << n;
+    (all - 1) as u32
+}
+
+// The sum of the costs of the first two words, where the last of the directions is the word of n ones; else the greatest number.
+fn turned(
+    words: &[u32; 256],
+    sums: &[u32; 128],
+    runs: usize,
+    steps: &[u32; 9],
+    free: usize,
+    n: usize,
+) -> u32
+    requires { ⌜ Fours runs × Small (now sums) runs × (free ≤ 8) × (n ≤ 32) ⌝ }
+    ensures { λ r. ⌜ ((r ≡ 4294967295 → ⊥) → (0 < free) × (getD (now (steps .entry)) free 0 ≡ 2 ^ n - 1)
+        × (r ≡ picked (now (sums .entry)) 0 runs (getD (now (words .entry)) 0 0) + picked (now (sums .entry)) 0 runs (getD (now (words .entry)) 1 0))) ⌝ }
+{
+    if free == 0 {
+        return 4294967295;
+    }
+    if steps[free] != ones(n) {
+        return 4294967295;
+    }
+    cost_of(sums, runs, words[0]) + cost_of(sums, runs, words[1])
 }
 
 // The lesser of the best so far and a key that is not below the bound and below `top`, the earlier of equals.
@@ -287,7 +371,8 @@ fn fill_long(
     let free = walk(kinds, terms, start, n, parities, &mut word_steps, steps);
     let count = double_all(words, &word_steps, free);
     let runs = prepare(numbers, at, n, sums);
-    list_costs(words, count, sums, runs, costs, floors);
+    let total = turned(words, sums, runs, &word_steps, free, n);
+    list_costs(words, count, sums, runs, total, costs, floors);
     free
 }
 

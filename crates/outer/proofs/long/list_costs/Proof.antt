@@ -10,6 +10,7 @@ use lib.Seq.{getD-set-same, getD-set-other}
 use Rattle.laws.proofs.Tests.{lt-or}
 use Rattle.outer.specs.Search.{picked}
 use Rattle.outer.specs.Long.{Summed, Floors}
+use Rattle.outer.proofs.Turned.{turned-fewer}
 use Rattle.outer.proofs.long.list_costs.Statement.{statement}
 use Rattle.outer.proofs.long.list_costs.Tie as tie
 
@@ -34,11 +35,11 @@ more costs floors new f count g end floor s i e d same made w l m = go (lt-or w 
         (h .0, omega (arith, o, h .1))
 
 abbrev Inv-loop : tie.InvT-loop
-Inv-loop words count sums runs costs₀ floors₀ g₀ costs floors g =
+Inv-loop words count sums runs total costs₀ floors₀ g₀ costs floors g =
     (g ≤ 16) × (length costs ≡ 256) × (length floors ≡ 16) × Done costs floors (λ w. picked sums 0 runs (getD words w 0)) count (g * 16)
 
 abbrev μ-loop : tie.MeasureT-loop
-μ-loop words count sums runs costs₀ floors₀ g₀ costs floors g = 16 - g
+μ-loop words count sums runs total costs₀ floors₀ g₀ costs floors g = 16 - g
 
 loop-holds : tie.Need-loop-holds Inv-loop μ-loop
 loop-holds c = (omega arith, c .pre .0, c .pre .1, λ w l m. absurd (omega arith))
@@ -52,11 +53,19 @@ mul-at c = omega arith
 group-end-requires : tie.Need-group-end-requires Inv-loop μ-loop
 group-end-requires c κs = (omega arith, c .before .before .pre .2)
 
-list-group-requires : tie.Need-list-group-requires Inv-loop μ-loop
-list-group-requires c κs =
+list-some-requires : tie.Need-list-some-requires Inv-loop μ-loop
+list-some-requires c κs =
     let s = c .before .before .before .before in
-    let r = c .before .group-end in
-    (c .before .before .before .loop .inv .1, omega (arith, r .ensures), omega (arith, r .ensures, s .pre .2), s .pre .3, s .pre .4)
+    let a = s .args in
+    let r = c .before .group-end in (
+      c .before .before .before .loop .inv .1,
+      omega (arith, r .ensures),
+      omega (arith, r .ensures, s .pre .2),
+      s .pre .3,
+      s .pre .4,
+      omega arith,
+      λ z. let t = s .pre .5 z in turned-fewer (a .sums .now) (a .words .now) (a .runs) (a .count) (r .result) (a .total) t (omega (arith, r .ensures)) (omega (arith, r .ensures, t .even)),
+    )
 
 mul-floors : tie.Need-mul-floors Inv-loop μ-loop
 mul-floors c = omega arith
@@ -75,11 +84,11 @@ loop-again c =
     let s = c .before .before .before .before .before in
     let x = c .before .before .before .before .loop in
     let r = c .before .before .group-end in
-    let m = c .list-group in (
+    let m = c .list-some in (
       omega (arith, s .pre .2),
       m .ensures .0,
       length-set (x .floors) (x .g) (m .result) ∙ x .inv .2,
-      more (x .costs) (x .floors) (m .last .1 .1 .1 .1 .1 .0) (λ w. picked (s .args .sums .now) 0 (s .args .runs) (getD (s .args .words .now) w 0)) (s .args .count) (x .g) (r .result) (m .result)
+      more (x .costs) (x .floors) (m .last .1 .1 .1 .1 .1 .1 .0) (λ w. picked (s .args .sums .now) 0 (s .args .runs) (getD (s .args .words .now) w 0)) (s .args .count) (x .g) (r .result) (m .result)
           (x .inv .2) (omega (arith, s .pre .2)) (r .ensures) (x .inv .3) (m .ensures .1) (m .ensures .2),
     )
 
@@ -99,7 +108,7 @@ list-costs-spec =
     mul-loop
     mul-at
     group-end-requires
-    list-group-requires
+    list-some-requires
     mul-floors
     element-write-floors
     add-g
