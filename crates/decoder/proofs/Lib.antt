@@ -1,3 +1,9 @@
-pub mod Cleared
-pub mod Fitting
-pub mod Valued
+pub mod Attempts
+pub mod Fits
+pub mod Handed
+pub mod Handing
+pub mod Judged
+pub mod Machine
+pub mod Readied
+pub mod Unbarred
+pub mod Whole

@@ -1,1 +1,3 @@
-pub mod Checks
+pub mod Given
+pub mod WholeRun
+pub mod Attempt

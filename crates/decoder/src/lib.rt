@@ -1,31 +1,8 @@
-// The decoding calls, by layers: the settings and their check; checks of what is lent; buffers cleared and written.
-pub mod buffers;
-pub mod checks;
-pub mod ranges;
+// The decoding calls: the plain call, which hands out word and data, and the hook call, which reads the record besides. Both make one attempt.
+pub mod attempt;
+pub mod call;
+pub mod giving;
+pub mod ran;
 
-use codebook::Refusal;
-
-// Settings that lie in their ranges, when made by `checked`.
-pub struct Settings {
-    pub visits: u32,
-    pub paths: u32,
-    pub limit: u32,
-}
-
-// Settings, or why there are none.
-pub enum Checked {
-    Good(Settings),
-    Bad(Refusal),
-}
-
-// The lengths of what is lent: values, word and data; the workspace's numbers and bytes; the walk's paths, blocks and scores.
-pub struct Lengths {
-    pub values: usize,
-    pub word: usize,
-    pub bits: usize,
-    pub numbers: usize,
-    pub bytes: usize,
-    pub paths: usize,
-    pub blocks: usize,
-    pub scores: usize,
-}
+pub use call::decode;
+pub use call::decode_hook;

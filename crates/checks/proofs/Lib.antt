@@ -1,0 +1,4 @@
+pub mod Admitted
+pub mod Cleared
+pub mod Fitting
+pub mod Valued

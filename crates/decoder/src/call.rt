@@ -1,0 +1,109 @@
+// The decoding calls. Each makes one attempt, and hands out word and data on success alone. Relies on attempt.rt and giving.rt;
+// machine/specs/Calls says what each call answers and leaves, specs/WholeRun what demand 3 asks of it.
+use crate::attempt::attempt;
+use crate::giving::give;
+use crate::giving::read_found;
+use machine::Decoded;
+use machine::HookDecoded;
+ghost use mathlib.Core.Path.{_≡_};
+ghost use mathlib.Core.Bool.{true, false};
+ghost use Rattle.machine.specs.Calls.{plainCall, hookCall};
+ghost use Rattle.decoder.specs.Given.{given, lent};
+ghost use Rattle.decoder.specs.Attempt.{fitsFor};
+ghost use Rattle.decoder.specs.WholeRun.{WholeRun};
+
+// The plain decoding call.
+pub fn decode(
+    book: &[u8],
+    visits: u32,
+    paths: u32,
+    limit: u32,
+    values: &[i16],
+    word: &mut [u8],
+    bits: &mut [u8],
+    numbers: &mut [i32],
+    bytes: &mut [u8],
+    walk_path: &mut [i32],
+    walk_blocks: &mut [i32],
+    walk_score: &mut [i32],
+) -> Decoded
+    ensures { λ r. ⌜ (let c = given (now (book .entry)) visits paths limit (now (values .entry)) in
+        let l = lent (now (word .entry)) (now (bits .entry)) (now (numbers .entry)) (now (bytes .entry)) (now («walk_path» .entry)) (now («walk_blocks» .entry)) (now («walk_score» .entry)) in
+        let after = lent (now (word .exit)) (now (bits .exit)) (now (numbers .exit)) (now (bytes .exit)) (now («walk_path» .exit)) (now («walk_blocks» .exit)) (now («walk_score» .exit)) in
+        (r ≡ plainCall c l .answer) × (after ≡ plainCall c l .lent) × WholeRun (fitsFor false) c l (r .counts) after) ⌝ }
+{
+    let mut found = [0u8; 512];
+    let mut info = [0u8; 512];
+    let x = attempt(
+        false,
+        book,
+        visits,
+        paths,
+        limit,
+        values,
+        word,
+        bits,
+        numbers,
+        bytes,
+        walk_path,
+        walk_blocks,
+        walk_score,
+        &mut found,
+        &mut info,
+    );
+    let outcome = x.outcome;
+    give(outcome, &found, &info, word, bits);
+    x
+}
+
+// The hook call: the record of the word's data besides.
+pub fn decode_hook(
+    book: &[u8],
+    visits: u32,
+    paths: u32,
+    limit: u32,
+    values: &[i16],
+    word: &mut [u8],
+    bits: &mut [u8],
+    numbers: &mut [i32],
+    bytes: &mut [u8],
+    walk_path: &mut [i32],
+    walk_blocks: &mut [i32],
+    walk_score: &mut [i32],
+) -> HookDecoded
+    ensures { λ r. ⌜ (let c = given (now (book .entry)) visits paths limit (now (values .entry)) in
+        let l = lent (now (word .entry)) (now (bits .entry)) (now (numbers .entry)) (now (bytes .entry)) (now («walk_path» .entry)) (now («walk_blocks» .entry)) (now («walk_score» .entry)) in
+        let after = lent (now (word .exit)) (now (bits .exit)) (now (numbers .exit)) (now (bytes .exit)) (now («walk_path» .exit)) (now («walk_blocks» .exit)) (now («walk_score» .exit)) in
+        (r ≡ hookCall c l .answer) × (after ≡ hookCall c l .lent) × WholeRun (fitsFor true) c l (r .counts) after) ⌝ }
+{
+    let mut found = [0u8; 512];
+    let mut info = [0u8; 512];
+    let x = attempt(
+        true,
+        book,
+        visits,
+        paths,
+        limit,
+        values,
+        word,
+        bits,
+        numbers,
+        bytes,
+        walk_path,
+        walk_blocks,
+        walk_score,
+        &mut found,
+        &mut info,
+    );
+    let outcome = x.outcome;
+    let read = read_found(outcome, &info);
+    let answer = read.outcome;
+    give(answer, &found, &info, word, bits);
+    let counts = x.counts;
+    let hook = read.hook;
+    HookDecoded {
+        outcome: answer,
+        counts,
+        hook,
+    }
+}
