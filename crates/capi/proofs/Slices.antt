@@ -1,22 +1,15 @@
 -- A shape or a record is written where it is lent at its length, and kept where it is not: by the test of the length. Assumes nothing.
-use mathlib.Core.Path.{_≡_, refl, ap}
-use mathlib.Core.Bool.{Bool, cond}
+use mathlib.Core.Path.{_≡_, refl}
 use mathlib.Core.List.{List, [], _∷_}
-use Prim.Native.Nat.{ℕ, _<_}
+use Prim.Native.Nat.{ℕ}
 use native.Mathlib.Omega.{arith}
-use lib.ListN.{length, set, length-set}
-use lib.Dec.{eqb}
-use borrow.Author.Tests.{eq-eqb, ne-eqb}
+use lib.ListN.{length, set}
 use Rattle.codebook.specs.Refusals.{outcomeNumber}
 use Rattle.codebook.specs.Loading.{load, shapeOf}
 use Rattle.codec.specs.Calls.{readRecordCall}
-use Rattle.capi.specs.Answers.{misfitNumber, loadAnswer, recordSlice, readRecordAnswer}
-
-pub at-length : {A : Type 0} (x y : A) (n m : ℕ) → n ≡ m → cond (eqb n m) x y ≡ x
-at-length x y n m e = ap (λ (t : Bool). cond t x y) (eq-eqb n m e)
-
-pub at-other : {A : Type 0} (x y : A) (n m : ℕ) → (n ≡ m → ⊥) → cond (eqb n m) x y ≡ y
-at-other x y n m f = ap (λ (t : Bool). cond t x y) (ne-eqb n m f)
+use Rattle.slices.specs.Slices.{recordSlice}
+use Rattle.slices.proofs.Written.{at-length, at-other}
+use Rattle.capi.specs.Answers.{misfitNumber, loadAnswer, readRecordAnswer}
 
 -- load's two answers
 pub load-written : (book shape : List ℕ) → length shape ≡ 3 →
@@ -47,14 +40,3 @@ three (x ∷ []) a b c e = absurd (omega arith)
 three (x ∷ y ∷ []) a b c e = absurd (omega arith)
 three (x ∷ y ∷ z ∷ []) a b c e = refl
 three (x ∷ y ∷ z ∷ w ∷ ws) a b c e = absurd (omega arith)
-
-pub four : (xs : List ℕ) (a b c d : ℕ) → length xs ≡ 4 → set (set (set (set xs 0 a) 1 b) 2 c) 3 d ≡ a ∷ b ∷ c ∷ d ∷ []
-four [] a b c d e = absurd (omega arith)
-four (x ∷ []) a b c d e = absurd (omega arith)
-four (x ∷ y ∷ []) a b c d e = absurd (omega arith)
-four (x ∷ y ∷ z ∷ []) a b c d e = absurd (omega arith)
-four (x ∷ y ∷ z ∷ w ∷ []) a b c d e = refl
-four (x ∷ y ∷ z ∷ w ∷ v ∷ vs) a b c d e = absurd (omega arith)
-
-pub fourth : (xs : List ℕ) (a b c : ℕ) → length xs ≡ 4 → 3 < length (set (set (set xs 0 a) 1 b) 2 c)
-fourth xs a b c e = omega (arith, e, length-set (set (set xs 0 a) 1 b) 2 c, length-set (set xs 0 a) 1 b, length-set xs 0 a)

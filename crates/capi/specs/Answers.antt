@@ -17,8 +17,8 @@ use Rattle.codec.specs.declared.Status.the-variants.{Passed}
 use Rattle.codec.specs.declared.HookRecord.{HookRecord}
 use Rattle.codec.specs.declared.Tested.{Tested}
 use Rattle.codec.specs.declared.Tested.the-variants.{InCode, NotInCode, Refused as NotTested}
-use Rattle.codec.specs.Record.{statusNumber}
 use Rattle.codec.specs.Calls.{Wrote, kept, holdsRecord, makeRecordCall, readRecordCall}
+use Rattle.slices.specs.Slices.{recordSlice}
 
 -- a call's number, and what its slice then holds
 pub record Answer : Type 0 where
@@ -59,10 +59,7 @@ unfoldable pub recordFrom : ℕ → ℕ → ℕ → Option Status → HookRecord
 recordFrom plant carcass side none = record { plant = 64; carcass = carcass; side = side; status = Passed }
 recordFrom plant carcass side (some s) = record { plant = plant; carcass = carcass; side = side; status = s }
 
--- read record: the record is plant, carcass, side and status
-unfoldable pub recordSlice : HookRecord → List ℕ
-recordSlice h = h .plant ∷ h .carcass ∷ h .side ∷ statusNumber (h .status) ∷ []
-
+-- read record
 unfoldable pub readRecordAnswer : List ℕ → List ℕ → List ℕ → Answer
 readRecordAnswer book ds hook =
     let x = readRecordCall book ds in

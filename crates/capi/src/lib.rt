@@ -1,5 +1,5 @@
 // The calls as C sees them: slices are a pointer and a length, and each function answers 0 or the number of the refusal. include/saddlemint.h
-// declares them. Relies on the crates codebook and codec, whose calls these are; specs/Answers.antt says what is new here.
+// declares them. Relies on the crates codebook, codec and slices, whose calls these are; specs/Answers.antt says what is new here.
 use codebook::Outcome;
 use codebook::load;
 use codebook::outcome_number;
@@ -11,12 +11,16 @@ use codec::encode;
 use codec::make_record;
 use codec::read_data;
 use codec::read_record;
-use codec::status_number;
 use codec::test;
+use slices::decode_hook_slices;
+use slices::decode_slices;
+use slices::put_hook;
 ghost use mathlib.Core.Path.{_≡_};
 ghost use Rattle.codebook.specs.Refusals.{outcomeNumber};
 ghost use Rattle.codec.specs.Record.{statusOf};
 ghost use Rattle.codec.specs.Calls.{encodeCall, testCall, readDataCall};
+ghost use Rattle.decoder.specs.Given.{given, lent};
+ghost use Rattle.slices.specs.Slices.{plainAnswered, hookAnswered};
 ghost use Rattle.capi.specs.Answers.{misfitNumber, loadAnswer, testedNumber, makeRecordWrote, recordFrom, readRecordAnswer};
 
 // The number where a slice is lent at a wrong length.
@@ -154,12 +158,91 @@ pub extern "C" fn saddlemint_read_record(book: &[u8], bits: &[u8], hook: &mut [u
     }
     let x = read_record(book, bits);
     let h = x.hook;
-    let status = h.status;
-    let number = status_number(status);
-    hook[0] = h.plant;
-    hook[1] = h.carcass;
-    hook[2] = h.side;
-    hook[3] = number;
+    put_hook(hook, h);
     let outcome = x.outcome;
     outcome_number(outcome)
+}
+
+// Decodes values: word, data, walk and counts.
+#[no_mangle]
+pub extern "C" fn saddlemint_decode(
+    book: &[u8],
+    visits: u32,
+    paths: u32,
+    limit: u32,
+    values: &[i16],
+    word: &mut [u8],
+    bits: &mut [u8],
+    numbers: &mut [i32],
+    bytes: &mut [u8],
+    walk_path: &mut [i32],
+    walk_blocks: &mut [i32],
+    walk_score: &mut [i32],
+    counts: &mut [u32],
+) -> u32
+    ensures { λ r. ⌜ (let a = plainAnswered (given (now (book .entry)) visits paths limit (now (values .entry)))
+        (lent (now (word .entry)) (now (bits .entry)) (now (numbers .entry)) (now (bytes .entry)) (now («walk_path» .entry)) (now («walk_blocks» .entry)) (now («walk_score» .entry)))
+        (now (counts .entry)) in
+        (r ≡ a .number)
+        × (lent (now (word .exit)) (now (bits .exit)) (now (numbers .exit)) (now (bytes .exit)) (now («walk_path» .exit)) (now («walk_blocks» .exit)) (now («walk_score» .exit)) ≡ a .lent)
+        × (now (counts .exit) ≡ a .counts)) ⌝ }
+{
+    decode_slices(
+        book,
+        visits,
+        paths,
+        limit,
+        values,
+        word,
+        bits,
+        numbers,
+        bytes,
+        walk_path,
+        walk_blocks,
+        walk_score,
+        counts,
+    )
+}
+
+// Decodes values, and reads the record of the word's data.
+#[no_mangle]
+pub extern "C" fn saddlemint_decode_hook(
+    book: &[u8],
+    visits: u32,
+    paths: u32,
+    limit: u32,
+    values: &[i16],
+    word: &mut [u8],
+    bits: &mut [u8],
+    numbers: &mut [i32],
+    bytes: &mut [u8],
+    walk_path: &mut [i32],
+    walk_blocks: &mut [i32],
+    walk_score: &mut [i32],
+    counts: &mut [u32],
+    hook: &mut [u32],
+) -> u32
+    ensures { λ r. ⌜ (let a = hookAnswered (given (now (book .entry)) visits paths limit (now (values .entry)))
+        (lent (now (word .entry)) (now (bits .entry)) (now (numbers .entry)) (now (bytes .entry)) (now («walk_path» .entry)) (now («walk_blocks» .entry)) (now («walk_score» .entry)))
+        (now (counts .entry)) (now (hook .entry)) in
+        (r ≡ a .number)
+        × (lent (now (word .exit)) (now (bits .exit)) (now (numbers .exit)) (now (bytes .exit)) (now («walk_path» .exit)) (now («walk_blocks» .exit)) (now («walk_score» .exit)) ≡ a .lent)
+        × (now (counts .exit) ≡ a .counts) × (now (hook .exit) ≡ a .hook)) ⌝ }
+{
+    decode_hook_slices(
+        book,
+        visits,
+        paths,
+        limit,
+        values,
+        word,
+        bits,
+        numbers,
+        bytes,
+        walk_path,
+        walk_blocks,
+        walk_score,
+        counts,
+        hook,
+    )
 }

@@ -1,0 +1,125 @@
+-- `slices::decode_hook_slices` meets its contract: counts and record are written where both are lent at their length, and all is kept where one is not.
+-- Assumes nothing.
+use mathlib.Core.Path.{_≡_, sym, ap, _∙_}
+use mathlib.Core.List.{[]}
+use Prim.Native.Nat.{ℕ}
+use lib.ListN.{length}
+use Rattle.codebook.specs.Refusals.{outcomeNumber}
+use Rattle.machine.specs.Calls.{Input, Lent}
+use Rattle.decoder.specs.Given.{given, lent}
+use Rattle.slices.specs.Slices.{countsSlice, recordSlice, misfitNumber, misfit, hookAnswered}
+use Rattle.slices.proofs.Written.{misfit-values, hook-written, hook-left}
+use borrow.Author.Needs.{needs}
+use Rattle.slices.proofs.decode_hook_slices.Statement.{statement}
+use Rattle.slices.proofs.decode_hook_slices.Tie as tie
+
+-- what the call is given, and what it is lent
+abbrev input : tie.Start → Input
+input s = given (s .args .book .now) (s .args .visits) (s .args .paths) (s .args .limit) (s .args .values .now)
+
+abbrev buffers : tie.Start → Lent
+buffers s =
+    let a = s .args in
+    lent (a .word .now) (a .bits .now) (a .numbers .now) (a .bytes .now) (a .walk-path .now) (a .walk-blocks .now) (a .walk-score .now)
+
+-- all is kept, where a length is wrong
+left : (s : tie.Start) {r : ℕ} → let a = s .args in
+    r ≡ misfitNumber (given (a .book .now) (a .visits) (a .paths) (a .limit) []) → (length (a .counts .now) ≡ 4 → length (a .hook .now) ≡ 4 → ⊥)
+    → let x = hookAnswered (input s) (buffers s) (a .counts .now) (a .hook .now) in
+    (r ≡ x .number) × (buffers s ≡ x .lent) × (a .counts .now ≡ x .counts) × (a .hook .now ≡ x .hook)
+unfolding misfit
+left s e f =
+    let a = s .args in
+    let w = sym (hook-left (input s) (buffers s) (a .counts .now) (a .hook .now) f) in (
+      e ∙ misfit-values (a .book .now) (a .visits) (a .paths) (a .limit) [] (a .values .now) ∙ ap (λ x. x .number) w,
+      ap (λ x. x .lent) w,
+      ap (λ x. x .counts) w,
+      ap (λ x. x .hook) w,
+    )
+
+misfit-number-requires : tie.Need-misfit-number-requires
+misfit-number-requires c κs = search needs
+
+returns : tie.Need-returns
+returns c = left (c .before .before .before .before .before .before .before .before) (c .misfit-number .ensures) (λ e _. c .before .if1 .taken e)
+
+misfit-number-requires-2 : tie.Need-misfit-number-requires-2
+misfit-number-requires-2 c κs = search needs
+
+returns-2 : tie.Need-returns-2
+returns-2 c = left (c .before .before .before .before .before .before .before .before .before) (c .misfit-number2 .ensures) (λ _ e. c .before .if2 .taken e)
+
+decode-hook-requires : tie.Need-decode-hook-requires
+decode-hook-requires c κs = search needs
+
+put-counts-requires : tie.Need-put-counts-requires
+put-counts-requires c κs = search needs
+
+put-hook-requires : tie.Need-put-hook-requires
+put-hook-requires c κs = search needs
+
+outcome-number-requires : tie.Need-outcome-number-requires
+outcome-number-requires c κs = search needs
+
+same-length : tie.Need-same-length
+same-length c = search needs
+
+same-length-2 : tie.Need-same-length-2
+same-length-2 c = search needs
+
+same-length-3 : tie.Need-same-length-3
+same-length-3 c = search needs
+
+same-length-4 : tie.Need-same-length-4
+same-length-4 c = search needs
+
+same-length-5 : tie.Need-same-length-5
+same-length-5 c = search needs
+
+same-length-6 : tie.Need-same-length-6
+same-length-6 c = search needs
+
+same-length-7 : tie.Need-same-length-7
+same-length-7 c = search needs
+
+same-length-8 : tie.Need-same-length-8
+same-length-8 c = search needs
+
+same-length-9 : tie.Need-same-length-9
+same-length-9 c = search needs
+
+returns-3 : tie.Need-returns-3
+returns-3 c =
+    let d = c .before .before .before .before .before .before .before .before .before .before .before .before .before .before .before .before .before .before .before .before .before in
+    let s = d .before .before .before .before .before .before .before .before .before .before .before .before .before .before .before .before in
+    let a = s .args in
+    let w = sym (hook-written (input s) (buffers s) (a .counts .now) (a .hook .now) (d .before .before .before .before .before .before .before .before .before .if1 .left) (d .before .before .before .before .before .before .before .before .if2 .left)) in
+    let e = d .decode-hook .ensures in (
+      c .outcome-number .ensures ∙ ap (λ x. outcomeNumber (x .outcome)) (e .0) ∙ ap (λ x. x .number) w,
+      e .1 ∙ ap (λ x. x .lent) w,
+      c .before .before .before .before .before .before .before .before .put-counts .ensures ∙ ap (λ x. countsSlice (x .counts)) (e .0) ∙ ap (λ x. x .counts) w,
+      c .before .before .before .put-hook .ensures ∙ ap (λ x. recordSlice (x .hook)) (e .0) ∙ ap (λ x. x .hook) w,
+    )
+
+pub decode-hook-slices-spec : {M : Type 1} → statement M
+decode-hook-slices-spec =
+    tie.close
+    (tie.spec
+    misfit-number-requires
+    returns
+    misfit-number-requires-2
+    returns-2
+    decode-hook-requires
+    put-counts-requires
+    put-hook-requires
+    outcome-number-requires
+    same-length
+    same-length-2
+    same-length-3
+    same-length-4
+    same-length-5
+    same-length-6
+    same-length-7
+    same-length-8
+    same-length-9
+    returns-3)

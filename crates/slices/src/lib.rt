@@ -1,0 +1,154 @@
+// The decoding calls with a number as the answer, and counts and record in lent slices: what C calls, but for the names. Relies on the crates decoder,
+// checks and codebook; specs/Slices.antt says what each answers and leaves.
+use checks::Checked;
+use checks::Settings;
+use codebook::Outcome;
+use codebook::load;
+use codebook::outcome_number;
+use codebook::refusal_number;
+use codec::HookRecord;
+use codec::status_number;
+use decoder::decode;
+use decoder::decode_hook;
+use machine::Counts;
+ghost use mathlib.Core.Path.{_≡_};
+ghost use mathlib.Core.List.{[]};
+ghost use lib.ListN.{length};
+ghost use Rattle.decoder.specs.Given.{given, lent};
+ghost use Rattle.slices.specs.Slices.{countsSlice, recordSlice, misfitNumber, plainAnswered, hookAnswered};
+
+// The number where counts or record have a wrong length.
+fn misfit_number(book: &[u8], visits: u32, paths: u32, limit: u32) -> u32
+    ensures { λ r. ⌜ r ≡ misfitNumber (given (now (book .entry)) visits paths limit []) ⌝ }
+{
+    let x = load(book);
+    let outcome = x.outcome;
+    if let Outcome::Refused(r) = outcome {
+        return refusal_number(r);
+    }
+    let Checked::Good(s) = Settings::checked(visits, paths, limit) else {
+        return 8;
+    };
+    7
+}
+
+// Extractions, crowded out, outrun, discrepancy.
+fn put_counts(counts: &mut [u32], x: Counts)
+    requires { ⌜ length (now counts) ≡ 4 ⌝ }
+    ensures { λ _. ⌜ now (counts .exit) ≡ countsSlice x ⌝ }
+{
+    counts[0] = x.extractions;
+    counts[1] = x.crowded;
+    counts[2] = x.outrun;
+    counts[3] = x.discrepancy;
+}
+
+// Plant, carcass, side, status.
+pub fn put_hook(hook: &mut [u32], h: HookRecord)
+    requires { ⌜ length (now hook) ≡ 4 ⌝ }
+    ensures { λ _. ⌜ now (hook .exit) ≡ recordSlice h ⌝ }
+{
+    let status = h.status;
+    hook[0] = h.plant;
+    hook[1] = h.carcass;
+    hook[2] = h.side;
+    hook[3] = status_number(status);
+}
+
+// The plain decoding call.
+pub fn decode_slices(
+    book: &[u8],
+    visits: u32,
+    paths: u32,
+    limit: u32,
+    values: &[i16],
+    word: &mut [u8],
+    bits: &mut [u8],
+    numbers: &mut [i32],
+    bytes: &mut [u8],
+    walk_path: &mut [i32],
+    walk_blocks: &mut [i32],
+    walk_score: &mut [i32],
+    counts: &mut [u32],
+) -> u32
+    ensures { λ r. ⌜ (let a = plainAnswered (given (now (book .entry)) visits paths limit (now (values .entry)))
+        (lent (now (word .entry)) (now (bits .entry)) (now (numbers .entry)) (now (bytes .entry)) (now («walk_path» .entry)) (now («walk_blocks» .entry)) (now («walk_score» .entry)))
+        (now (counts .entry)) in
+        (r ≡ a .number)
+        × (lent (now (word .exit)) (now (bits .exit)) (now (numbers .exit)) (now (bytes .exit)) (now («walk_path» .exit)) (now («walk_blocks» .exit)) (now («walk_score» .exit)) ≡ a .lent)
+        × (now (counts .exit) ≡ a .counts)) ⌝ }
+{
+    if counts.len() != 4 {
+        return misfit_number(book, visits, paths, limit);
+    }
+    let x = decode(
+        book,
+        visits,
+        paths,
+        limit,
+        values,
+        word,
+        bits,
+        numbers,
+        bytes,
+        walk_path,
+        walk_blocks,
+        walk_score,
+    );
+    let found = x.counts;
+    put_counts(counts, found);
+    let outcome = x.outcome;
+    outcome_number(outcome)
+}
+
+// The hook call.
+pub fn decode_hook_slices(
+    book: &[u8],
+    visits: u32,
+    paths: u32,
+    limit: u32,
+    values: &[i16],
+    word: &mut [u8],
+    bits: &mut [u8],
+    numbers: &mut [i32],
+    bytes: &mut [u8],
+    walk_path: &mut [i32],
+    walk_blocks: &mut [i32],
+    walk_score: &mut [i32],
+    counts: &mut [u32],
+    hook: &mut [u32],
+) -> u32
+    ensures { λ r. ⌜ (let a = hookAnswered (given (now (book .entry)) visits paths limit (now (values .entry)))
+        (lent (now (word .entry)) (now (bits .entry)) (now (numbers .entry)) (now (bytes .entry)) (now («walk_path» .entry)) (now («walk_blocks» .entry)) (now («walk_score» .entry)))
+        (now (counts .entry)) (now (hook .entry)) in
+        (r ≡ a .number)
+        × (lent (now (word .exit)) (now (bits .exit)) (now (numbers .exit)) (now (bytes .exit)) (now («walk_path» .exit)) (now («walk_blocks» .exit)) (now («walk_score» .exit)) ≡ a .lent)
+        × (now (counts .exit) ≡ a .counts) × (now (hook .exit) ≡ a .hook)) ⌝ }
+{
+    if counts.len() != 4 {
+        return misfit_number(book, visits, paths, limit);
+    }
+    if hook.len() != 4 {
+        return misfit_number(book, visits, paths, limit);
+    }
+    let x = decode_hook(
+        book,
+        visits,
+        paths,
+        limit,
+        values,
+        word,
+        bits,
+        numbers,
+        bytes,
+        walk_path,
+        walk_blocks,
+        walk_score,
+    );
+    let found = x.counts;
+    put_counts(counts, found);
+    let h = x.hook;
+    put_hook(hook, h);
+    let outcome = x.outcome;
+    outcome_number(outcome)
+}
