@@ -1,6 +1,6 @@
 -- Words of at most 8 positions: their numbers are bytes, whose keys are sums of the keys of two half bytes; with 8 free indices every byte is
 -- the word of one setting, which the rows of the matrix A give back: computed over all bytes. Assumes nothing.
-use mathlib.Core.Path.{_≡_, refl, sym, ap, ap₂, _∙_, subst}
+use mathlib.Core.Path.{_≡_, refl, sym, ap, ap₂, _∙_}
 use mathlib.Core.Bool.{Bool, _&&_}
 use mathlib.Core.List.{List, [], _∷_, zipWith}
 use mathlib.Core.Logic.{_⊎_, inl, inr}
@@ -20,7 +20,7 @@ use Rattle.polar.specs.Transform.{transform}
 use Rattle.polar.specs.Layers.{part, Within}
 use Rattle.outer.specs.Search.{unit, rowOf, Entry, put, later, grown, settings, entry, spread, costOf}
 use Rattle.outer.specs.Short.{byteKey, Halves, byteRows, backRows}
-use Rattle.outer.proofs.Rows.{every, every-at}
+use Rattle.outer.proofs.Rows.{every-at}
 use Rattle.outer.proofs.Sums.{split, part-costs, part-small}
 use Rattle.outer.proofs.Advance.{grown-free, grown-other}
 

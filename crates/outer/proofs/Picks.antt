@@ -9,13 +9,11 @@ use Prim.Native.Nat.{ℕ, _+_, _*_, _/_, _%_, _^_, _≤_, _<_}
 use native.Mathlib.Omega.{arith}
 use lib.Dec.{ltb, leb}
 use lib.IntN.{ℤ}
-use lib.ListN.{length, getD}
-use lib.Pow.{pow-mono}
+use lib.ListN.{getD}
 use borrow.Author.Tests.{lt-ltb, le-ltb}
-use Rattle.laws.specs.Lists.{All, May}
+use Rattle.laws.specs.Lists.{All}
 use Rattle.laws.proofs.Tests.{lt-or}
 use Rattle.polar.specs.Layers.{Within}
-use Rattle.outer.specs.declared.Candidate.{Candidate}
 use Rattle.outer.specs.Search.{Entry, spread, costOf, keyOf, keyAt, lesser, leastFrom, answer}
 use Rattle.outer.specs.Short.{leastKey, byteKey, byteRows, backRows, Keyed}
 use Rattle.outer.proofs.Sums.{cost-bound}

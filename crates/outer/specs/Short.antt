@@ -1,7 +1,7 @@
 -- The search of a block of at most 8 positions as its code goes: a word's key is 256 times its cost and its number, the sum of the keys of its
 -- two half bytes; the least key from a bound on; for 8 free indices, where every byte is a word, the setting by the byte. Assumes nothing.
 use mathlib.Core.Path.{_≡_}
-use mathlib.Core.Bool.{Bool, cond}
+use mathlib.Core.Bool.{cond}
 use mathlib.Core.List.{List, [], _∷_}
 use Prim.Native.Nat.{ℕ, zero, suc, _+_, _*_, _/_, _%_, _^_, _≤_, _<_, min}
 use lib.Dec.{ltb}

@@ -142,7 +142,7 @@ fn ones(n: usize) -> u32
     (all - 1) as u32
 }
 
-// The sum of the costs of the first two words, where the last of the directions is the word of n ones; else the greatest number.
+// The sum of the costs of the first two words, where the last of at least 4 directions is the word of n ones; else the greatest number.
 fn turned(
     words: &[u32; 256],
     sums: &[u32; 128],
@@ -155,7 +155,7 @@ fn turned(
     ensures { λ r. ⌜ ((r ≡ 4294967295 → ⊥) → (0 < free) × (getD (now (steps .entry)) free 0 ≡ 2 ^ n - 1)
         × (r ≡ picked (now (sums .entry)) 0 runs (getD (now (words .entry)) 0 0) + picked (now (sums .entry)) 0 runs (getD (now (words .entry)) 1 0))) ⌝ }
 {
-    if free == 0 {
+    if free < 4 {
         return 4294967295;
     }
     if steps[free] != ones(n) {

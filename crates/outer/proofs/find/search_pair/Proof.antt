@@ -1,6 +1,5 @@
 -- `outer::find::search_pair` meets its contract, by what the pairs of short blocks and of long ones ensure. Assumes nothing.
 use mathlib.Core.Path.{ap, _∙_}
-use Prim.Native.Nat.{_^_}
 use native.Mathlib.Omega.{arith}
 use borrow.Author.Needs.{needs}
 use Rattle.polar.specs.Layers.{part}

@@ -1,9 +1,8 @@
 -- `outer::long::scan_group` meets its contract. Where the floor is not below `top`, no key is; else the loop's invariant: the best of the first
 -- w settings. Assumes nothing.
 use mathlib.Core.Path.{_≡_, ap, _∙_}
-use Prim.Native.Nat.{ℕ, _+_, _-_, _*_, _≤_, _<_}
+use Prim.Native.Nat.{ℕ, _+_, _-_, _≤_, _<_}
 use native.Mathlib.Omega.{arith}
-use lib.ListN.{getD}
 use Rattle.outer.specs.Search.{keyOf, bestOf}
 use Rattle.outer.specs.Long.{tableKey, leastBelow}
 use Rattle.outer.proofs.Below.{below-more, below-over}

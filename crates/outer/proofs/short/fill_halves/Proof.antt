@@ -1,7 +1,5 @@
 -- `outer::short::fill_halves` meets its contract, by what `value` and `half_keys` ensure. Assumes nothing.
-use mathlib.Core.Path.{_∙_}
 use native.Mathlib.Omega.{arith}
-use lib.ListN.{length}
 use borrow.Author.Needs.{needs}
 use Rattle.polar.specs.Layers.{part}
 use Rattle.polar.proofs.Writes.{part-length}

@@ -1,12 +1,10 @@
 -- `outer::short::fill_short` meets its contract: the directions span the entries, and the words of a table are their keys. Assumes nothing.
 use mathlib.Core.Path.{_≡_, sym, ap, _∙_}
-use Prim.Native.Nat.{ℕ, _^_, _≤_, _<_}
+use Prim.Native.Nat.{_^_, _≤_, _<_}
 use native.Mathlib.Omega.{arith}
-use lib.ListN.{getD}
 use lib.Pow.{pow-mono}
 use borrow.Author.Needs.{needs}
-use Rattle.polar.specs.Layers.{part}
-use Rattle.outer.specs.Search.{settings, entry, Spans}
+use Rattle.outer.specs.Search.{Spans}
 use Rattle.outer.specs.Short.{byteKey}
 use Rattle.outer.proofs.Advance.{few-free}
 use Rattle.outer.proofs.Bytes.{entry-byte, entry-bytes}
