@@ -1,6 +1,7 @@
--- `extraction::extract::third` meets its contract: once the values of the path's next block are there, the search answers the reader's nearest word;
--- the path's row and entry, written anew, hold the path with that word, and the insertion queues it. Moves.antt has each step, for any state that
--- memory stands for; the contract's own state shows what the calls need. Assumes nothing.
+-- `extraction::extract::third` meets its contract: once the values of the path's next block are there, the search answers the reader's nearest word
+-- and the next after it; the path's row and entry, written anew, hold the path with the nearest, the insertion queues it, and the next is kept for
+-- that entry. Moves.antt and Keeping.antt have each step, for any state that memory stands for; the contract's own state shows what the calls need.
+-- Assumes nothing.
 use mathlib.Core.Path.{_≡_, refl, ap, ap₂, _∙_, subst}
 use mathlib.Core.List.{List, _∷_}
 use mathlib.Core.Option.{some}
