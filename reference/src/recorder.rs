@@ -44,13 +44,25 @@ pub fn inputs(seed: u64) -> Vec<Recorded> {
         name,
         input: input.0,
     };
-    vec![
+    let mut files = vec![
         file("load", loads(&mut Rng::of_case(seed, 1))),
         file("codec", codec(&mut Rng::of_case(seed, 2))),
         file("records", records(&mut Rng::of_case(seed, 3))),
         file("decode", decodes(&mut Rng::of_case(seed, 4))),
         file("walk", walks(&mut Rng::of_case(seed, 5))),
-    ]
+    ];
+    files.push(file("vectors", joined(&files[1..4])));
+    files
+}
+
+/// The streams of several files one after the other, as one stream.
+fn joined(files: &[Recorded]) -> Stream {
+    let mut out = Stream::default();
+    for file in files {
+        out.0.extend(&file.input[..file.input.len() - 1]);
+    }
+    out.byte(op::END);
+    out
 }
 
 /// The (16,10) book of document 01.

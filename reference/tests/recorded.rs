@@ -29,7 +29,7 @@ fn inputs_come_from_the_seed() {
 
 #[test]
 fn outputs_are_printed() {
-    for name in ["load", "codec", "records", "decode", "walk"] {
+    for name in ["load", "codec", "records", "decode", "walk", "vectors"] {
         let file = Recorded {
             name,
             input: recorded(name, "in"),
