@@ -1,0 +1,135 @@
+-- What the screen's calls say, from what their covered parts leave: the records are those of the machine's extractions, which are the reader's. Once for
+-- both calls. Assumes nothing.
+use mathlib.Core.Path.{_≡_, refl, sym, ap, _∙_}
+use mathlib.Core.Bool.{Bool, true, false, cond}
+use mathlib.Core.List.{List}
+use mathlib.Core.Option.{none}
+use Prim.Native.Nat.{ℕ, _≤_}
+use native.Mathlib.Omega.{arith}
+use lib.ListN.{length}
+use Rattle.codebook.specs.declared.Refusal.the-variants.{Mismatch}
+use Rattle.codebook.specs.declared.Outcome.the-variants.{Refused}
+use Rattle.codebook.specs.Book.{Book}
+use Rattle.codebook.specs.Loading.{loaded, load}
+use Rattle.codec.specs.declared.Status.the-variants.{Passed}
+use Rattle.codec.specs.Record.{noRecord}
+use Rattle.machine.specs.declared.Counts.{Counts}
+use Rattle.machine.specs.declared.Decoded.{Decoded}
+use Rattle.machine.specs.declared.HookDecoded.{HookDecoded}
+use Rattle.machine.specs.Queue.{Step}
+use Rattle.machine.specs.Calls.{Input, Lent, Called, barred, noCounts, plainCall, plainRefused, hookCall, hookRefused}
+use Rattle.decoder.specs.Attempt.{fitsFor}
+use Rattle.decoder.specs.WholeRun.{machineRun, WholeRun}
+use Rattle.decoder.proofs.Handing.{plainOf, hookOfAttempt, handed, plain-handed, hook-handed}
+use Rattle.decoder.proofs.Whole.{Left, whole-run}
+use Rattle.screen.specs.declared.StepRecord.{StepRecord}
+use Rattle.screen.specs.Records.{recorded, copied}
+use Rattle.screen.specs.Screen.{stepsUnbarred, stepsWith, stepsOf, few, plainWithin, hookWithin, Fitting, recordsAfter, WholeScreen}
+use Rattle.screen.proofs.Copied.{copied-recorded}
+use Rattle.screen.proofs.Extracted.{left-extracted, left-fits}
+
+-- ---- what the covered call leaves: nothing is done where the records are too few, else what the attempt does
+pub record Within (hook : Bool) (c : Input) (l : Lent) (room : ℕ) (counts : Counts) (after : Lent) : Type 0 where
+  pub none-made : few c room ≡ true → counts ≡ noCounts
+  pub left : few c room ≡ false → Left hook c l counts after
+
+plain-left : (c : Input) (l : Lent) → Left false c l (plainCall c l .answer .counts) (plainCall c l .lent)
+unfolding plainOf handed
+plain-left c l =
+    let e = plain-handed c l in
+    record { counted = ap (λ y. y .answer .counts) e; paths = ap (λ y. y .lent .walkPath) e; blocks = ap (λ y. y .lent .walkBlocks) e; scores = ap (λ y. y .lent .walkScore) e }
+
+hook-left : (c : Input) (l : Lent) → Left true c l (hookCall c l .answer .counts) (hookCall c l .lent)
+unfolding hookOfAttempt handed
+hook-left c l =
+    let e = hook-handed c l in
+    record { counted = ap (λ y. y .answer .counts) e; paths = ap (λ y. y .lent .walkPath) e; blocks = ap (λ y. y .lent .walkBlocks) e; scores = ap (λ y. y .lent .walkScore) e }
+
+plain-within : (c : Input) (l : Lent) (room : ℕ) → Within false c l room (plainWithin c l room .answer .counts) (plainWithin c l room .lent)
+unfolding plainWithin plainRefused
+plain-within c l room = record { none-made = λ f. rw f refl; left = λ f. rw f (plain-left c l) }
+
+hook-within : (c : Input) (l : Lent) (room : ℕ) → Within true c l room (hookWithin c l room .answer .counts) (hookWithin c l room .lent)
+unfolding hookWithin hookRefused
+hook-within c l room = record { none-made = λ f. rw f refl; left = λ f. rw f (hook-left c l) }
+
+-- ---- the contracts of the covered calls: the answer, the buffers, and a count that fits
+abbrev pub Leaves : {R : Type 0} → (R → Counts) → Called R → ℕ → R → Lent → Type 0
+Leaves counts w room r after = (r ≡ w .answer) × (after ≡ w .lent) × Fitting (counts r) room after
+
+-- no extraction fits any buffers
+none-fits : (counts : Counts) (room : ℕ) (l : Lent) → counts ≡ noCounts → Fitting counts room l
+unfolding Fitting noCounts
+none-fits counts room l e = rw e (omega arith, omega arith, omega arith, omega arith)
+
+module _ (c : Input) (l : Lent) (room : ℕ) where
+  pub plain-few : few c room ≡ true → (counts : Counts) → counts ≡ noCounts → Leaves (λ (r : Decoded). r .counts) (plainWithin c l room) room (record { outcome = Refused Mismatch; counts = counts }) l
+  unfolding plainWithin plainRefused
+  plain-few f counts e = rw f (ap (λ (n : Counts). record { outcome = Refused Mismatch; counts = n }) e, refl, none-fits counts room l e)
+
+  pub plain-enough : few c room ≡ false → (r : Decoded) (after : Lent) → r ≡ plainCall c l .answer → after ≡ plainCall c l .lent → Leaves (λ (r : Decoded). r .counts) (plainWithin c l room) room r after
+  unfolding plainWithin
+  plain-enough f r after p q = rw f (p, q, left-fits false c l (r .counts) after (rw (p, q) (plain-left c l)) room f)
+
+  pub hook-few : few c room ≡ true → (counts : Counts) → counts ≡ noCounts
+      → Leaves (λ (r : HookDecoded). r .counts) (hookWithin c l room) room (record { outcome = Refused Mismatch; counts = counts; hook = record { plant = 0; carcass = 0; side = 0; status = Passed } }) l
+  unfolding hookWithin hookRefused noRecord
+  hook-few f counts e = rw f (ap (λ (n : Counts). record { outcome = Refused Mismatch; counts = n; hook = noRecord }) e, refl, none-fits counts room l e)
+
+  pub hook-enough : few c room ≡ false → (r : HookDecoded) (after : Lent) → r ≡ hookCall c l .answer → after ≡ hookCall c l .lent → Leaves (λ (r : HookDecoded). r .counts) (hookWithin c l room) room r after
+  unfolding hookWithin
+  hook-enough f r after p q = rw f (p, q, left-fits true c l (r .counts) after (rw (p, q) (hook-left c l)) room f)
+
+-- ---- the screen's calls
+module _ (hook : Bool) (c : Input) (l : Lent) where
+  -- the machine's extractions are those of the machine's run
+  ran-steps : (B : Book) → load (c .book) ≡ loaded B → barred B c l (fitsFor hook B) ≡ none → stepsOf hook c l ≡ machineRun B c .steps
+  unfolding stepsOf stepsWith stepsUnbarred machineRun
+  ran-steps B e b = rw (e, b) refl
+
+  module _ (old : List StepRecord) (counts : Counts) (after : Lent) (x : Within hook c l (length old) counts after) (fit : Fitting counts (length old) after) where
+    abbrev shown : List StepRecord
+    shown = copied old (after .walkPath) (after .walkBlocks) (after .walkScore) (counts .extractions)
+
+    -- the records are those of the machine's extractions
+    shown-recorded : few c (length old) ≡ false → shown ≡ recorded (stepsOf hook c l) old
+    unfolding Fitting
+    shown-recorded f =
+        let a = left-extracted hook c l counts after (x .left f) in
+        let few-enough : length (stepsOf hook c l) ≤ length old = omega (arith, a .counted, fit .0) in
+        rw (a .paths, a .blocks, a .scores, a .counted) (copied-recorded (stepsOf hook c l) old (l .walkPath) (l .walkBlocks) (l .walkScore) few-enough)
+
+    shown-records : shown ≡ recordsAfter hook c l old
+    unfolding recordsAfter copied noCounts
+    shown-records = go (few c (length old)) refl
+      where
+        go : (b : Bool) → few c (length old) ≡ b → shown ≡ cond b old (recorded (stepsOf hook c l) old)
+        go true f = rw (x .none-made f) refl
+        go false f = shown-recorded f
+
+    -- demand 3
+    shown-whole : WholeScreen hook c l old counts after shown
+    unfolding WholeScreen WholeRun
+    shown-whole B e b f =
+        let w = whole-run hook c l counts after (x .left f) B e b in
+        (w, shown-recorded f ∙ ap (λ (s : List Step). recorded s old) (ran-steps B e b ∙ sym (w .extractions)))
+
+  -- what a call with records says
+  abbrev pub Says : {R : Type 0} → (R → Counts) → Called R → List StepRecord → R → Lent → List StepRecord → Type 0
+  Says counts w old r after steps = (r ≡ w .answer) × (after ≡ w .lent) × (steps ≡ recordsAfter hook c l old) × WholeScreen hook c l old (counts r) after steps
+
+  says : {R : Type 0} (counts : R → Counts) (w : Called R) (old : List StepRecord) → Within hook c l (length old) (counts (w .answer)) (w .lent) → (r : R) (after : Lent)
+      → Leaves counts w (length old) r after → Says counts w old r after (copied old (after .walkPath) (after .walkBlocks) (after .walkScore) (counts r .extractions))
+  says counts w old x r after h =
+      let y : Within hook c l (length old) (counts r) after = rw (h .0, h .1) x in
+      (h .0, h .1, shown-records old (counts r) after y (h .2), shown-whole old (counts r) after y (h .2))
+
+module _ (c : Input) (l : Lent) (old : List StepRecord) where
+  abbrev copies : Counts → Lent → List StepRecord
+  copies n after = copied old (after .walkPath) (after .walkBlocks) (after .walkScore) (n .extractions)
+
+  pub plain-says : (r : Decoded) (after : Lent) → let w = plainWithin c l (length old) in Leaves (λ (r : Decoded). r .counts) w (length old) r after → Says false c l (λ (r : Decoded). r .counts) w old r after (copies (r .counts) after)
+  plain-says = says false c l (λ (r : Decoded). r .counts) (plainWithin c l (length old)) old (plain-within c l (length old))
+
+  pub hook-says : (r : HookDecoded) (after : Lent) → let w = hookWithin c l (length old) in Leaves (λ (r : HookDecoded). r .counts) w (length old) r after → Says true c l (λ (r : HookDecoded). r .counts) w old r after (copies (r .counts) after)
+  hook-says = says true c l (λ (r : HookDecoded). r .counts) (hookWithin c l (length old)) old (hook-within c l (length old))

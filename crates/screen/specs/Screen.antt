@@ -1,0 +1,71 @@
+-- The screen's calls: the plain decoding call and the hook call with a slice of step records besides the walk's number buffers. Document 01: "the screen's
+-- call takes the walk as a lent slice of step records". At least L x V + 1 records, else 7 in 7's place. Assumes nothing.
+use mathlib.Core.Path.{_≡_}
+use mathlib.Core.Bool.{Bool, false, cond, _&&_}
+use mathlib.Core.List.{List, []}
+use mathlib.Core.Option.{Option, none, some}
+use Prim.Native.Nat.{ℕ, _≤_}
+use lib.ListN.{length}
+use lib.Dec.{ltb}
+use Rattle.codebook.specs.declared.Refusal.{Refusal}
+use Rattle.codebook.specs.declared.Refusal.the-variants.{Mismatch}
+use Rattle.codebook.specs.Book.{Book}
+use Rattle.codebook.specs.Loading.{Load, refused, loaded, load}
+use Rattle.machine.specs.declared.Counts.{Counts}
+use Rattle.machine.specs.declared.Decoded.{Decoded}
+use Rattle.machine.specs.declared.HookDecoded.{HookDecoded}
+use Rattle.machine.specs.Queue.{Step}
+use Rattle.machine.specs.Machine.{runOf}
+use Rattle.machine.specs.Calls.{Input, Lent, Called, settingsOk, walkNeeded, barred, plainCall, plainRefused, hookCall, hookRefused}
+use Rattle.decoder.specs.Attempt.{fitsFor}
+use Rattle.decoder.specs.WholeRun.{readerRun, Agreed}
+use Rattle.screen.specs.declared.StepRecord.{StepRecord}
+use Rattle.screen.specs.Records.{recorded}
+
+-- ---- the records of a run
+
+-- the machine's extractions in a call: none where it makes no run
+unfoldable pub stepsUnbarred : Book → Input → Option Refusal → List Step
+stepsUnbarred B c (some r) = []
+stepsUnbarred B c none = runOf B (c .L) (c .D) (c .values) .steps
+
+unfoldable pub stepsWith : Bool → Load → Input → Lent → List Step
+stepsWith hook (refused r) c l = []
+stepsWith hook (loaded B) c l = stepsUnbarred B c (barred B c l (fitsFor hook B))
+
+unfoldable pub stepsOf : Bool → Input → Lent → List Step
+stepsOf hook c l = stepsWith hook (load (c .book)) c l
+
+-- ---- the calls
+
+-- whether so many records are too few, where neither the book nor a setting is at fault before
+unfoldable pub fewWith : Load → Input → ℕ → Bool
+fewWith (refused r) c room = false
+fewWith (loaded B) c room = settingsOk c && ltb room (walkNeeded B c)
+
+unfoldable pub few : Input → ℕ → Bool
+few c room = fewWith (load (c .book)) c room
+
+-- the call with room for so many records: 7 where they are too few, else the call
+unfoldable pub plainWithin : Input → Lent → ℕ → Called Decoded
+plainWithin c l room = cond (few c room) (plainRefused Mismatch l) (plainCall c l)
+
+unfoldable pub hookWithin : Input → Lent → ℕ → Called HookDecoded
+hookWithin c l room = cond (few c room) (hookRefused Mismatch l) (hookCall c l)
+
+-- the count of extractions is at most the room for records, and the walk's buffers hold as many entries
+unfoldable pub Fitting : Counts → ℕ → Lent → Type 0
+Fitting counts room l =
+    (counts .extractions ≤ room) × (counts .extractions ≤ length (l .walkPath)) × (counts .extractions ≤ length (l .walkBlocks))
+    × (counts .extractions ≤ length (l .walkScore))
+
+-- the records afterwards
+unfoldable pub recordsAfter : Bool → Input → Lent → List StepRecord → List StepRecord
+recordsAfter hook c l old = cond (few c (length old)) old (recorded (stepsOf hook c l) old)
+
+-- Demand 3 where the call makes a run: the reader's run is the machine's, the counts and the walk are the reader's (decoder/specs/WholeRun), and the records
+-- are those of the reader's extractions.
+unfoldable pub WholeScreen : Bool → Input → Lent → List StepRecord → Counts → Lent → List StepRecord → Type 0
+WholeScreen hook c l old counts after steps =
+    (B : Book) → load (c .book) ≡ loaded B → barred B c l (fitsFor hook B) ≡ none → few c (length old) ≡ false
+    → Agreed B c l counts after × (steps ≡ recorded (readerRun B c l .steps) old)

@@ -1,0 +1,22 @@
+// Number buffers copied into a slice of step records.
+use crate::StepRecord;
+ghost use mathlib.Core.Path.{_≡_};
+ghost use Prim.Native.Nat.{_≤_};
+ghost use lib.ListN.{length};
+ghost use Rattle.screen.specs.Records.{copied};
+
+// The first n entries of the walk's buffers, as records.
+pub fn copy_steps(steps: &mut [StepRecord], paths: &[i32], blocks: &[i32], scores: &[i32], n: usize)
+    requires { ⌜ (n ≤ length (now steps)) × (n ≤ length (now paths)) × (n ≤ length (now blocks)) × (n ≤ length (now scores)) ⌝ }
+    ensures { λ _. ⌜ now (steps .exit) ≡ copied (now (steps .entry)) (now (paths .entry)) (now (blocks .entry)) (now (scores .entry)) n ⌝ }
+{
+    let mut i: usize = 0;
+    while i < n {
+        steps[i] = StepRecord {
+            path: paths[i],
+            blocks: blocks[i],
+            score: scores[i],
+        };
+        i = i + 1;
+    }
+}
