@@ -41,7 +41,8 @@ written-part n new rest e = take-at new rest n e
 pub part-cleared : {A : Type 0} (v : A) (n : ℕ) (l : List A) {new : List A} → n ≤ length l → new ≡ replicate (length (take n l)) v → new ++ drop n l ≡ replicate n v ++ drop n l
 part-cleared v n l h e = ap (λ y. y ++ drop n l) (e ∙ ap (λ k. replicate k v) (length-take-le n l h))
 
-free-most : (ks : List Kind) → freeCount ks ≤ length ks
+-- no more kinds are free than there are
+pub free-most : (ks : List Kind) → freeCount ks ≤ length ks
 unfolding freeCount
 free-most [] = omega arith
 free-most (free ∷ ks) = omega (arith, free-most ks)
