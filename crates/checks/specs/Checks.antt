@@ -2,12 +2,11 @@
 -- and buffers; proofs/ shows the two alike. Assumes nothing.
 use mathlib.Core.Bool.{Bool, cond, _&&_}
 use mathlib.Core.List.{List}
-use Prim.Native.Nat.{ℕ, _+_, _*_, _^_}
+use Prim.Native.Nat.{ℕ, _+_, _*_}
 use lib.Dec.{leb, eqb}
 use lib.IntN.{ℤ}
 use Rattle.codebook.specs.declared.Refusal.the-variants.{Mismatch, BadSetting, BadValue}
 use Rattle.machine.specs.Calls.{valuesOk}
-use Rattle.checks.specs.declared.Settings.{Settings}
 use Rattle.checks.specs.declared.Checked.{Checked}
 use Rattle.checks.specs.declared.Checked.the-variants.{Good, Bad}
 use Rattle.checks.specs.declared.Lengths.{Lengths}

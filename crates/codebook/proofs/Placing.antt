@@ -30,7 +30,7 @@ free-append (free ∷ ks) ls = omega (arith, free-append ks ls)
 free-append (frozen ∷ ks) ls = free-append ks ls
 free-append (tied ts ∷ ks) ls = free-append ks ls
 
-free-le : (n : ℕ) (ks : List Kind) → freeCount (take n ks) ≤ n
+pub free-le : (n : ℕ) (ks : List Kind) → freeCount (take n ks) ≤ n
 unfolding freeCount
 free-le zero ks = zero-le
 free-le (suc n) [] = zero-le

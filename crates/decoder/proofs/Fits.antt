@@ -1,6 +1,6 @@
 -- The extractions that a call counts never pass the walk's buffers: none without a run, and a run makes at most L x V + 1. Assumes nothing.
 use mathlib.Core.Path.{_≡_, refl, sym, subst}
-use mathlib.Core.Bool.{Bool, true, false}
+use mathlib.Core.Bool.{Bool, false}
 use mathlib.Core.Option.{Option, none, some}
 use Prim.Native.Nat.{ℕ, _≤_}
 use native.Mathlib.Omega.{arith}
@@ -8,10 +8,10 @@ use lib.ListN.{length}
 use Rattle.codebook.specs.declared.Refusal.{Refusal}
 use Rattle.codebook.specs.Book.{Book}
 use Rattle.codebook.specs.Loading.{Load, refused, loaded, load}
-use Rattle.machine.specs.Calls.{Input, Lent, barred, countsOf, noCounts, plainCall, hookCall}
+use Rattle.machine.specs.Calls.{Input, Lent, barred, countsOf, noCounts, plainCall}
 use Rattle.runs.proofs.Ends.{run-steps}
 use Rattle.decoder.specs.Attempt.{fitsFor, ranOf, answerOf, noRun, unbarred, attemptWith, attempted}
-use Rattle.decoder.proofs.Handing.{plainOf, hookOfAttempt, plain-handed, hook-handed}
+use Rattle.decoder.proofs.Handing.{plainOf, plain-handed}
 use Rattle.decoder.proofs.Unbarred.{nothing-bars}
 
 -- so many entries lie within each buffer of the walk
@@ -38,7 +38,3 @@ attempt-within hook c l = go (load (c .book))
 pub plain-within : (c : Input) (l : Lent) → Within (plainCall c l .answer .counts .extractions) l
 unfolding plainOf
 plain-within c l = subst (λ y. Within (y .answer .counts .extractions) l) (sym (plain-handed c l)) (attempt-within false c l)
-
-pub hook-within : (c : Input) (l : Lent) → Within (hookCall c l .answer .counts .extractions) l
-unfolding hookOfAttempt
-hook-within c l = subst (λ y. Within (y .answer .counts .extractions) l) (sym (hook-handed c l)) (attempt-within true c l)

@@ -1,14 +1,14 @@
 -- What a judged run stands on: a book in tables gives the run's input and fits the buffers, the machine's final word has the data that is read from it,
 -- and the limit decides the answer. By the limits of a loaded book and the exactness of the run. Assumes nothing.
-use mathlib.Core.Path.{_≡_, refl, sym, ap, _∙_}
+use mathlib.Core.Path.{_≡_, refl, sym, ap, _∙_, subst}
 use mathlib.Core.Bool.{true, false}
-use mathlib.Core.List.{List, [], _∷_, _++_}
+use mathlib.Core.List.{List, _++_}
 use Prim.Native.Nat.{ℕ, _+_, _*_, _^_, _≤_, _<_}
 use native.Mathlib.Nat.{mul-le-mul-left}
 use native.Mathlib.Omega.{arith}
 use lib.IntN.{ℤ}
 use lib.ListN.{length, take, drop, replicate}
-use lib.Seq.{take-at, length-take-le}
+use lib.Seq.{take-at, take-all, length-take-le}
 use lib.Dec.{leb}
 use lib.Pow.{pow-mono}
 use borrow.Author.Tests.{le-leb, lt-leb}
@@ -16,7 +16,8 @@ use Rattle.polar.specs.Layers.{part}
 use Rattle.codebook.specs.declared.Refusal.the-variants.{AboveLimit}
 use Rattle.codebook.specs.declared.Outcome.the-variants.{Done, Refused}
 use Rattle.codebook.specs.declared.Sizes.{Sizes}
-use Rattle.codebook.specs.Book.{Kind, free, frozen, tied, freeCount}
+use Rattle.codebook.specs.Book.{Kind, freeCount}
+use Rattle.codebook.proofs.Placing.{free-le}
 use Rattle.machine.specs.declared.Counts.{Counts}
 use Rattle.machine.specs.Queue.{Final}
 use Rattle.machine.specs.Machine as M
@@ -43,11 +44,7 @@ part-cleared v n l h e = ap (λ y. y ++ drop n l) (e ∙ ap (λ k. replicate k v
 
 -- no more kinds are free than there are
 pub free-most : (ks : List Kind) → freeCount ks ≤ length ks
-unfolding freeCount
-free-most [] = omega arith
-free-most (free ∷ ks) = omega (arith, free-most ks)
-free-most (frozen ∷ ks) = omega (arith, free-most ks)
-free-most (tied ts ∷ ks) = omega (arith, free-most ks)
+free-most ks = subst (λ l. freeCount l ≤ length ks) (take-all (length ks) ks (omega arith)) (free-le (length ks) ks)
 
 -- ---- a book in tables, and values that fit it
 

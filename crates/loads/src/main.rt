@@ -1,26 +1,11 @@
 // Replays recorded load cases: reads a stream of operations on standard input (reference/README.md has its format), and prints for each case what
 // the load call answers. The output is held to what the independent reference printed. Relies on codebook::load.
-use codebook::Outcome;
-use codebook::Refusal;
 use codebook::Shape;
 use libc::STDIN_FILENO;
 use libc::STDOUT_FILENO;
+use text::bytes::two;
 ghost use Prim.Native.Nat.{_+_, _<_, _≤_};
 ghost use lib.ListN.{length};
-
-fn wide(x: u8) -> usize
-    ensures { λ r. ⌜ r < 256 ⌝ }
-{
-    x as usize
-}
-
-// Two bytes as a number, the highest first.
-fn two(s: &[u8], at: usize) -> usize
-    requires { ⌜ at + 2 ≤ length (now s) ⌝ }
-    ensures { λ r. ⌜ r < 65536 ⌝ }
-{
-    256 * wide(s[at]) + wide(s[at + 1])
-}
 
 fn print_field(n: u64) {
     io::write_all(STDOUT_FILENO, b" ");
@@ -71,7 +56,7 @@ fn change(s: &[u8], at: usize, book: &mut [u8]) -> usize
     ensures { λ r. ⌜ (at < r) × (r ≤ length (now (s .entry))) ⌝ }
 {
     let op = s[at];
-    let field = two(s, at + 1);
+    let field = two(s, at + 1) as usize;
     if op == 1 {
         return copy_book(s, at + 3, field, book);
     }
@@ -95,7 +80,7 @@ fn replay(s: &[u8], book: &mut [u8]) {
     while 3 < s.len() - at {
         if s[at] == 3 {
             case += 1;
-            load_case(case, book, two(s, at + 1));
+            load_case(case, book, two(s, at + 1) as usize);
             at += 3;
         } else {
             at = change(s, at, book);

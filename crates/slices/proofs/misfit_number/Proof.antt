@@ -1,5 +1,5 @@
 -- `slices::misfit_number` meets its contract: by loading's outcome and the check of the settings. Assumes nothing.
-use mathlib.Core.Path.{_≡_, sym, ap, _∙_}
+use mathlib.Core.Path.{sym, _∙_}
 use mathlib.Core.List.{[]}
 use Rattle.codec.proofs.Told.{shape-refused, shape-known}
 use Rattle.checks.proofs.Admitted.{none-made, these-made}

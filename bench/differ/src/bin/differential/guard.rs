@@ -13,29 +13,17 @@ pub trait Entry: Copy + PartialEq + Debug {
     fn garbage(bits: u64) -> Self;
 }
 
-impl Entry for u8 {
-    fn garbage(bits: u64) -> u8 {
-        bits as u8
-    }
+macro_rules! entries {
+    ($($kind:ty)*) => {
+        $(impl Entry for $kind {
+            fn garbage(bits: u64) -> $kind {
+                bits as $kind
+            }
+        })*
+    };
 }
 
-impl Entry for i16 {
-    fn garbage(bits: u64) -> i16 {
-        bits as i16
-    }
-}
-
-impl Entry for i32 {
-    fn garbage(bits: u64) -> i32 {
-        bits as i32
-    }
-}
-
-impl Entry for u32 {
-    fn garbage(bits: u64) -> u32 {
-        bits as u32
-    }
-}
+entries!(u8 i16 i32 u32);
 
 pub struct Guarded<T> {
     name: &'static str,

@@ -19,6 +19,9 @@ pub const NOT_IN_CODE: u32 = 255;
 /// What the reference's own buffers hold before a call of the codec.
 const OTHER_GARBAGE: u8 = 165;
 
+/// A call that turns one buffer of bytes into another: encoding, reading data.
+type Turn = unsafe extern "C" fn(*const u8, usize, *const u8, usize, *mut u8, usize) -> u32;
+
 /// The functions, in the order in which a case tries them.
 pub const FUNCTIONS: [&str; 8] = [
     "load",
@@ -167,25 +170,47 @@ impl Trial<'_> {
 
     fn encode(&mut self) -> Result<u32, String> {
         let case = self.case;
-        let mut book = self.book();
-        let mut data = self.input("data", &case.data);
-        let mut word = self.garbage("word", case.word_length);
-        let answer = unsafe {
-            saddlemint_encode(
-                book.start(),
-                book.length(),
-                data.start(),
-                data.length(),
-                word.start(),
-                word.length(),
-            )
-        };
         let mut written = vec![OTHER_GARBAGE; case.word_length];
         let refusal = self.reader.encode(&case.book, &case.data, &mut written);
+        let given = ("data", &case.data[..]);
+        self.turned(saddlemint_encode, given, "word", &written, refusal)
+    }
+
+    fn read_data(&mut self) -> Result<u32, String> {
+        let case = self.case;
+        let mut written = vec![OTHER_GARBAGE; case.data_length];
+        let refusal = self.reader.read_data(&case.book, &case.word, &mut written);
+        let given = ("word", &case.word[..]);
+        self.turned(saddlemint_read_data, given, "data", &written, refusal)
+    }
+
+    /// A call that turns one buffer of bytes into another, held to what the
+    /// reference wrote.
+    fn turned(
+        &mut self,
+        call: Turn,
+        given: (&'static str, &[u8]),
+        name: &'static str,
+        written: &[u8],
+        refusal: Option<Refusal>,
+    ) -> Result<u32, String> {
+        let mut book = self.book();
+        let mut from = self.input(given.0, given.1);
+        let mut to = self.garbage(name, written.len());
+        let answer = unsafe {
+            call(
+                book.start(),
+                book.length(),
+                from.start(),
+                from.length(),
+                to.start(),
+                to.length(),
+            )
+        };
         same(answer, number(refusal))?;
         book.kept()?;
-        data.kept()?;
-        word.holds(if refusal.is_none() { &written } else { &[] })?;
+        from.kept()?;
+        to.holds(if refusal.is_none() { written } else { &[] })?;
         Ok(answer)
     }
 
@@ -203,30 +228,6 @@ impl Trial<'_> {
         same(answer, expected)?;
         book.kept()?;
         word.kept()?;
-        Ok(answer)
-    }
-
-    fn read_data(&mut self) -> Result<u32, String> {
-        let case = self.case;
-        let mut book = self.book();
-        let mut word = self.input("word", &case.word);
-        let mut data = self.garbage("data", case.data_length);
-        let answer = unsafe {
-            saddlemint_read_data(
-                book.start(),
-                book.length(),
-                word.start(),
-                word.length(),
-                data.start(),
-                data.length(),
-            )
-        };
-        let mut written = vec![OTHER_GARBAGE; case.data_length];
-        let refusal = self.reader.read_data(&case.book, &case.word, &mut written);
-        same(answer, number(refusal))?;
-        book.kept()?;
-        word.kept()?;
-        data.holds(if refusal.is_none() { &written } else { &[] })?;
         Ok(answer)
     }
 
