@@ -1,12 +1,44 @@
 // Arrays held, taken, shared and let go. `rows` has 16 numbers for each slot, the ids of its path's arrays by height first; `holders` has 257 for
 // each height, the number of paths that hold each id.
 ghost use mathlib.Core.Path.{_≡_};
-ghost use mathlib.Core.Bool.{_&&_};
+ghost use mathlib.Core.Bool.{false, _&&_};
 ghost use Prim.Native.Nat.{ℕ, _+_, _*_, _≤_, _<_};
 ghost use lib.Dec.{ltb, leb};
-ghost use lib.ListN.{length, set};
+ghost use lib.ListN.{length, getD, set};
 ghost use Rattle.reader.specs.Arrays.{ownOf};
 ghost use Rattle.sharing.specs.Sharing.{idAt, heldAt, Sizes, Shared, MoreBy, LessBy, Exchanged, Copied};
+
+// Whether one of the 16 counts from `at` on is 0. There is no early exit, so that the compiler compares several at once.
+fn any_free(holders: &[u16; 2570], at: usize) -> bool
+    requires { ⌜ at + 16 ≤ 2570 ⌝ }
+    ensures { λ r. ⌜ (r ≡ false → (k : ℕ) → k < 16 → 1 ≤ getD (now (holders .entry)) (at + k) 0) ⌝ }
+{
+    let mut free: u16 = 0;
+    let mut k: usize = 0;
+    while k < 16 {
+        if holders[at + k] == 0 {
+            free = 1;
+        }
+        k += 1;
+    }
+    free != 0
+}
+
+// Passes over groups of 16 ids, from 1 on, none of which is free at a height: the first id of the next group, or of the fewer than 16 left.
+// No id below it is free.
+fn skip(holders: &[u16; 2570], height: usize, most: usize) -> usize
+    requires { ⌜ (height ≤ 9) × (most ≤ 256) ⌝ }
+    ensures { λ r. ⌜ (1 ≤ r) × (r ≤ most + 1) × ((k : ℕ) → 1 ≤ k → k < r → 1 ≤ heldAt (now (holders .entry)) height k) ⌝ }
+{
+    let mut id: usize = 1;
+    while id + 15 <= most {
+        if any_free(holders, height * 257 + id) {
+            return id;
+        }
+        id += 16;
+    }
+    id
+}
 
 // The first id from 1 on that no path holds at a height; most + 1 if none of the first `most` is free.
 fn first_free(holders: &[u16; 2570], height: usize, most: usize) -> usize
@@ -15,7 +47,7 @@ fn first_free(holders: &[u16; 2570], height: usize, most: usize) -> usize
         × ((k : ℕ) → 1 ≤ k → k < r → 1 ≤ heldAt (now (holders .entry)) height k)
         × (r ≤ most → heldAt (now (holders .entry)) height r ≡ 0) ⌝ }
 {
-    let mut id: usize = 1;
+    let mut id = skip(holders, height, most);
     while id <= most {
         if holders[height * 257 + id] == 0 {
             return id;

@@ -12,8 +12,11 @@ Inv-loop holders height most id₀ id = (1 ≤ id) × (id ≤ most + 1) × ((k :
 abbrev μ-loop : tie.MeasureT-loop
 μ-loop holders height most id₀ id = most + 1 - id
 
+skip-requires : tie.Need-skip-requires Inv-loop μ-loop
+skip-requires c κs = c .pre
+
 loop-holds : tie.Need-loop-holds Inv-loop μ-loop
-loop-holds c = (omega arith, omega arith, λ k a b. absurd (omega arith))
+loop-holds c = c .skip .ensures
 
 mul-if1 : tie.Need-mul-if1 Inv-loop μ-loop
 mul-if1 c = omega arith
@@ -41,7 +44,7 @@ loop-again : tie.Need-loop-again Inv-loop μ-loop
 unfolding heldAt
 loop-again c =
     let x = c .before .before .before .loop in
-    let a = c .before .before .before .before .args in
+    let a = c .before .before .before .before .before .args in
     let held : (k : ℕ) → Type 0 = λ k. 1 ≤ k → 1 ≤ heldAt (a .holders .now) (a .height) k in
     (omega arith, omega arith, λ k a b. below-more held (x .id) (λ i l s. x .inv .2 i s l) (λ _. omega (arith, c .if1 .left)) k b a)
 
@@ -54,6 +57,7 @@ first-free-spec =
     (tie.spec
     Inv-loop
     μ-loop
+    skip-requires
     loop-holds
     mul-if1
     add-if1
