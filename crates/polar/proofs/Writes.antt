@@ -1,18 +1,20 @@
 -- What the loops within the lent workspace leave. Such a loop goes up and writes a new list over a part; after i turns the workspace is the old
--- one with the new list's first i elements pasted in, and what is read next is as it was (`Clear`). Assumes nothing.
+-- one with the new list's first i elements pasted in, and what is read next is as it was (`Clear`). The same for stores one after the other.
+-- Assumes nothing.
 use mathlib.Core.Path.{_≡_, refl, sym, ap, ap₂, _∙_, subst}
 use mathlib.Core.List.{List, [], _∷_, _++_}
-use mathlib.Core.Logic.{⊎-elim}
+use mathlib.Core.Logic.{inl, ⊎-elim}
 use Prim.Native.Nat.{ℕ, zero, suc, _+_, _≤_, _<_}
-use native.Mathlib.Nat.{not-suc-le-zero, le-of-suc-le-suc}
+use native.Mathlib.Nat.{not-suc-le-zero, le-of-suc-le-suc, add-zero}
+use native.Mathlib.Numerals.{add-one}
 use native.Mathlib.Omega.{arith}
 use lib.ListN.{length, getD, set, take, drop, length-take, length-drop}
-use lib.Seq.{getD-take, getD-drop, take-all, paste}
+use lib.Seq.{getD-take, getD-drop, take-all, paste, paste-zero}
 use lib.Bits.{bitXor, xor-add-and, xor-lt}
 use lib.IntN.{ℤ, pos, natAbs}
 use mir.Facts.{toZ-ofZ}
 use Rattle.laws.specs.Lists.{All}
-use Rattle.laws.proofs.Lists.{all-at, getD-zip, paste-next, getD-paste-before, getD-paste-after}
+use Rattle.laws.proofs.Lists.{all-at, all-take, all-drop, getD-zip, paste-next, getD-paste-before, getD-paste-after}
 use Rattle.laws.proofs.Signed.{back, abs-fits}
 use Rattle.polar.specs.Bits.{Bit, _⊕_, addBits}
 use Rattle.polar.specs.Soft.{Q, P, Qs, Ps}
@@ -136,10 +138,66 @@ module _ (low high n : ℕ) (l : List ℕ) (h : low + n ≤ length l) (g : high 
   pub add-sums-length : length (addBits (part low n l) (part high n l)) ≡ n
   add-sums-length = add-length (part low n l) (part high n l) (part-length low n l h ∙ sym (part-length high n l g)) ∙ part-length low n l h
 
-  pub add-sums-at : All Bit (part low n l) → All Bit (part high n l) → (i : ℕ) → i < n →
+  add-sums-at : All Bit (part low n l) → All Bit (part high n l) → (i : ℕ) → i < n →
       bitXor (getD l (low + i) 0) (getD l (high + i) 0) ≡ getD (addBits (part low n l) (part high n l)) i 0
   unfolding addBits
   add-sums-at a b i j =
       xor-bit (getD l (low + i) 0) (getD l (high + i) 0) (part-all low n l Bit 0 h a i j) (part-all high n l Bit 0 g b i j)
       ∙ ap₂ _⊕_ (sym (part-at low n l 0 i j)) (sym (part-at high n l 0 i j))
       ∙ sym (getD-zip _⊕_ (part low n l) (part high n l) i 0 0 0 (omega (arith, part-length low n l h)) (omega (arith, part-length high n l g)))
+
+-- one more sum, and all of them
+module _ {low high to n : ℕ} {l : List ℕ} (c : Clear low n to n l) (d : Clear high n to n l) (a : All Bit (part low n l)) (b : All Bit (part high n l)) where
+  abbrev sums : List ℕ
+  sums = addBits (part low n l) (part high n l)
+
+  sums-length : length sums ≡ n
+  sums-length = add-sums-length low high n l (c .source) (d .source)
+
+  pub sums-next : {w : List ℕ} (i : ℕ) → w ≡ paste l to sums i → i < n →
+      set w (to + i) (bitXor (getD w (low + i) 0) (getD w (high + i) 0)) ≡ paste l to sums (i + 1)
+  sums-next i q h =
+      next sums c sums-length 0 i q h
+      (ap₂ bitXor (unread sums c sums-length 0 i i q (omega arith) (omega arith) h) (unread sums d sums-length 0 i i q (omega arith) (omega arith) h)
+      ∙ add-sums-at low high n l (c .source) (d .source) a b i h)
+
+  pub sums-written : {w : List ℕ} (i : ℕ) → w ≡ paste l to sums i → i ≤ n → n ≤ i → w ≡ overAt to sums l
+  sums-written i q h g = written sums c sums-length i q h g
+
+-- ---- the last half of a run of 2h bits added to its first
+
+module _ (at h : ℕ) (l : List ℕ) where
+  -- the list after i sums
+  unfoldable pub summed : ℕ → List ℕ
+  summed zero = l
+  summed (suc zero) = set l at (bitXor (getD l at 0) (getD l (at + h) 0))
+  summed (suc (suc i)) =
+      set (summed (suc i)) (at + suc i) (bitXor (getD (summed (suc i)) (at + suc i) 0) (getD (summed (suc i)) (at + h + suc i) 0))
+
+  module _ (room : at + (h + h) ≤ length l) (bits : All Bit l) where
+    -- what adding the words asks
+    pub run-clear : Clear at h at h l × (Clear (at + h) h at h l × (All Bit (part at h l) × All Bit (part (at + h) h l)))
+    run-clear = (
+      record { source = omega arith; room = omega arith; ahead = inl (omega arith) },
+      (record { source = omega arith; room = omega arith; ahead = inl (omega arith) }, (bits-of at, bits-of (at + h))),
+    )
+      where
+        bits-of : (from : ℕ) → All Bit (part from h l)
+        bits-of from = unfold part in all-take Bit h (drop from l) (all-drop Bit from l bits)
+
+    abbrev run-sums : List ℕ
+    run-sums = addBits (part at h l) (part (at + h) h l)
+
+    run-next : {w : List ℕ} (i : ℕ) → w ≡ paste l at run-sums i → i < h →
+        set w (at + i) (bitXor (getD w (at + i) 0) (getD w (at + h + i) 0)) ≡ paste l at run-sums (i + 1)
+    run-next i q b = sums-next (run-clear .0) (run-clear .1 .0) (run-clear .1 .1 .0) (run-clear .1 .1 .1) i q b
+
+    summed-first : (i : ℕ) → i ≤ h → summed i ≡ paste l at run-sums i
+    unfolding summed
+    summed-first zero b = paste-zero l at run-sums
+    summed-first (suc zero) b = simp add-zero at (run-next 0 (paste-zero l at run-sums) b)
+    summed-first (suc (suc i)) b = run-next (suc i) (summed-first (suc i) (omega arith)) b ∙ ap (paste l at run-sums) (add-one (suc i))
+
+    pub summed-all : (i : ℕ) → i ≡ h → summed i ≡ overAt at run-sums l
+    summed-all i e =
+        sums-written (run-clear .0) (run-clear .1 .0) (run-clear .1 .1 .0) (run-clear .1 .1 .1) i (summed-first i (omega arith)) (omega arith) (omega arith)

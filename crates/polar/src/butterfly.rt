@@ -1,12 +1,40 @@
 // The transform in place, stage by stage.
 ghost use mathlib.Core.Path.{_≡_};
-ghost use Prim.Native.Nat.{_+_, _*_, _^_};
+ghost use Prim.Native.Nat.{_+_, _*_, _^_, _≤_};
 ghost use lib.ListN.{length};
 ghost use Rattle.laws.specs.Lists.{All};
-ghost use Rattle.polar.specs.Bits.{Bit};
+ghost use Rattle.polar.specs.Bits.{Bit, addBits};
 ghost use Rattle.polar.specs.Transform.{transform};
-ghost use Rattle.polar.specs.Layers.{stage};
+ghost use Rattle.polar.specs.Layers.{part, overAt, stage};
 use crate::layers::add_sums;
+
+// Adds the last half of the run of 2h bits at `at` to its first half. Up to 4 sums are written out: a loop costs more than they do.
+fn add_run(c: &mut [u8], at: usize, h: usize)
+    requires { ⌜ (at + (h + h) ≤ length (now c)) × All Bit (now c) ⌝ }
+    ensures { λ _. ⌜ (let l = now (c .entry) in
+        now (c .exit) ≡ overAt at (addBits (part at h l) (part (at + h) h l)) l) ⌝ }
+{
+    if h > 4 {
+        add_sums(c, at, at + h, at, h);
+        return;
+    }
+    if h == 0 {
+        return;
+    }
+    c[at] = c[at] ^ c[at + h];
+    if h == 1 {
+        return;
+    }
+    c[at + 1] = c[at + 1] ^ c[at + h + 1];
+    if h == 2 {
+        return;
+    }
+    c[at + 2] = c[at + 2] ^ c[at + h + 2];
+    if h == 3 {
+        return;
+    }
+    c[at + 3] = c[at + 3] ^ c[at + h + 3];
+}
 
 // Adds the last half of each of k runs of 2h bits to its first half.
 fn stage(c: &mut [u8], k: usize, h: usize)
@@ -16,7 +44,7 @@ fn stage(c: &mut [u8], k: usize, h: usize)
     let mut at: usize = 0;
     let mut left = k;
     while left > 0 {
-        add_sums(c, at, at + h, at, h);
+        add_run(c, at, h);
         at += h + h;
         left -= 1;
     }

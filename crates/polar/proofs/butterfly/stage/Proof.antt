@@ -2,15 +2,13 @@
 -- Assumes nothing.
 use mathlib.Core.Path.{_≡_, refl, ap, _∙_}
 use mathlib.Core.List.{_++_}
-use mathlib.Core.Logic.{inl}
 use Prim.Native.Nat.{suc, _+_, _-_, _*_, _≤_, _<_}
 use native.Mathlib.Nat.{suc-mul}
 use native.Mathlib.Omega.{arith}
 use lib.ListN.{length, take, drop}
 use Rattle.laws.specs.Lists.{All}
-use Rattle.laws.proofs.Lists.{all-take, all-drop}
 use Rattle.polar.specs.Bits.{Bit}
-use Rattle.polar.specs.Layers.{part, stage}
+use Rattle.polar.specs.Layers.{stage}
 use Rattle.polar.proofs.Stages.{stage-end, turn-bits, turn-stage}
 use Rattle.polar.proofs.butterfly.stage.Statement.{statement}
 use Rattle.polar.proofs.butterfly.stage.Tie as tie
@@ -31,25 +29,8 @@ room t q =
 loop-holds : tie.Need-loop-holds Inv-loop μ-loop
 loop-holds c = (refl, omega arith, c .before .pre .1, refl)
 
-add-add-sums : tie.Need-add-add-sums Inv-loop μ-loop
-add-add-sums c = let r = room (c .before .before) (c .before .loop-test .taken) in omega arith
-
-add-sums-requires : tie.Need-add-sums-requires Inv-loop μ-loop
-add-sums-requires c κs =
-    let t = c .before .before in
-    let l = t .loop .c in
-    let h = t .before .before .args .h in
-    let r = room t (c .before .loop-test .taken) in
-    let b = t .loop .inv .2 in (
-      record { source = omega arith; room = omega arith; ahead = inl (omega arith) },
-      (
-        record { source = omega arith; room = omega arith; ahead = inl (omega arith) },
-        (
-          unfold part in all-take Bit h (drop (t .loop .at) l) (all-drop Bit (t .loop .at) l b),
-          unfold part in all-take Bit h (drop (t .loop .at + h) l) (all-drop Bit (t .loop .at + h) l b),
-        ),
-      ),
-    )
+add-run-requires : tie.Need-add-run-requires Inv-loop μ-loop
+add-run-requires c κs = let t = c .before .before in (room t (c .before .loop-test .taken), t .loop .inv .2)
 
 add-at : tie.Need-add-at Inv-loop μ-loop
 add-at c = let r = room (c .before .before .before .before .before) (c .before .before .before .before .loop-test .taken) in omega arith
@@ -68,13 +49,13 @@ loop-again c =
     let t = c .before .before .before .before .before in
     let x = t .loop in
     let h = t .before .before .args .h in
-    let w = c .before .before .add-sums .last .0 in
-    let e = c .before .before .add-sums .ensures in
+    let w = c .before .before .add-run .last .0 in
+    let e = c .before .before .add-run .ensures in
     let q = c .before .before .before .before .loop-test .taken in
     let r = room t q in
     let one : suc (x .left - 1) ≡ x .left = omega arith in (
-      c .before .before .add-sums .kept .0 ∙ x .inv .0,
-      omega (arith, c .before .before .add-sums .kept .0, suc-mul (x .left - 1) (h + h), ap (λ n. n * (h + h)) one),
+      c .before .before .add-run .kept .0 ∙ x .inv .0,
+      omega (arith, c .before .before .add-run .kept .0, suc-mul (x .left - 1) (h + h), ap (λ n. n * (h + h)) one),
       turn-bits (x .at) h (x .c) w r e (x .inv .2),
       turn-stage (x .at) h (x .c) w r e (x .left - 1) ∙ ap (λ n. take (x .at) (x .c) ++ stage n h (drop (x .at) (x .c))) one ∙ x .inv .3,
     )
@@ -94,8 +75,7 @@ stage-spec =
     Inv-loop
     μ-loop
     loop-holds
-    add-add-sums
-    add-sums-requires
+    add-run-requires
     add-at
     add-at-2
     sub-left

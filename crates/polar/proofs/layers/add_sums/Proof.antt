@@ -1,14 +1,12 @@
 -- `polar::layers::add_sums` meets its contract. The loop's invariant: the first i sums are written, and the rest is as it was. Assumes nothing.
-use mathlib.Core.Path.{_≡_, refl, ap₂, _∙_}
-use mathlib.Core.List.{List}
-use Prim.Native.Nat.{ℕ, _-_, _≤_}
+use mathlib.Core.Path.{_≡_, refl}
+use Prim.Native.Nat.{_-_, _≤_}
 use native.Mathlib.Omega.{arith}
-use lib.Bits.{bitXor}
 use lib.ListN.{length, length-set}
 use lib.Seq.{paste, paste-zero}
 use Rattle.polar.specs.Bits.{addBits}
 use Rattle.polar.specs.Layers.{part}
-use Rattle.polar.proofs.Writes.{unread, next, written, add-sums-length, add-sums-at}
+use Rattle.polar.proofs.Writes.{sums-next, sums-written}
 use Rattle.polar.proofs.layers.add_sums.Statement.{statement}
 use Rattle.polar.proofs.layers.add_sums.Tie as tie
 
@@ -18,15 +16,11 @@ Inv-loop bytes₀ low high to n i₀ bytes i = (i ≤ n) × (length bytes ≡ le
 abbrev μ-loop : tie.MeasureT-loop
 μ-loop bytes₀ low high to n i₀ bytes i = n - i
 
--- what is to be written
-abbrev new : tie.Start Inv-loop μ-loop → List ℕ
-new s = addBits (part (s .args .low) (s .args .n) (s .args .bytes .now)) (part (s .args .high) (s .args .n) (s .args .bytes .now))
-
-size : (s : tie.Start Inv-loop μ-loop) → length (new s) ≡ s .args .n
-size s = add-sums-length (s .args .low) (s .args .high) (s .args .n) (s .args .bytes .now) (s .pre .0 .source) (s .pre .1 .0 .source)
-
 loop-holds : tie.Need-loop-holds Inv-loop μ-loop
-loop-holds c = (omega arith, refl, paste-zero _ (c .args .to) (new c))
+loop-holds c =
+    let a = c .args in
+    let l = a .bytes .now in
+    (omega arith, refl, paste-zero l (a .to) (addBits (part (a .low) (a .n) l) (part (a .high) (a .n) l)))
 
 add-bytes : tie.Need-add-bytes Inv-loop μ-loop
 add-bytes c = omega arith
@@ -54,27 +48,18 @@ loop-less c = omega arith
 
 loop-again : tie.Need-loop-again Inv-loop μ-loop
 loop-again c =
-    let s = c .before .before .before .before in
-    let a = s .args in
-    let h = s .pre in
-    let i = c .before .before .before .loop .i in
-    let q = c .before .before .before .loop .inv .2 in (
-      omega arith,
-      simp length-set (omega arith),
-      next (new s) (h .0) (size s) 0 i q (omega arith)
-          (ap₂ bitXor
-          (unread (new s) (h .0) (size s) 0 i i q (omega arith) (omega arith) (omega arith))
-          (unread (new s) (h .1 .0) (size s) 0 i i q (omega arith) (omega arith) (omega arith))
-          ∙ add-sums-at (a .low) (a .high) (a .n) (a .bytes .now) (h .0 .source) (h .1 .0 .source) (h .1 .1 .0) (h .1 .1 .1) i (omega arith)),
-    )
+    let h = c .before .before .before .before .pre in
+    let x = c .before .before .before .loop in
+    (omega arith, simp length-set (omega arith), sums-next (h .0) (h .1 .0) (h .1 .1 .0) (h .1 .1 .1) (x .i) (x .inv .2) (omega arith))
 
 same-length : tie.Need-same-length Inv-loop μ-loop
 same-length c = omega arith
 
 returns : tie.Need-returns Inv-loop μ-loop
 returns c =
-    let s = c .before .before in
-    written (new s) (s .pre .0) (size s) (c .before .loop .i) (c .before .loop .inv .2) (omega arith) (omega arith)
+    let h = c .before .before .pre in
+    let x = c .before .loop in
+    sums-written (h .0) (h .1 .0) (h .1 .1 .0) (h .1 .1 .1) (x .i) (x .inv .2) (omega arith) (omega arith)
 
 pub add-sums-spec : {M : Type 1} → statement M
 add-sums-spec =
