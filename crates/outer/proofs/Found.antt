@@ -1,60 +1,56 @@
--- What the scan of a long block's tables finds is the word of least key: the tables' keys are those of the entries. Assumes nothing.
-use mathlib.Core.Path.{_≡_, refl, ap, ap₂, _∙_, subst}
+-- What the pass over a long block's words finds are the words of least keys: its keys are those of the entries, and a key holds the cost and the
+-- number of its word. Also for short blocks: a pair of words that are found. Assumes nothing.
+use mathlib.Core.Path.{_≡_, refl, sym, ap, ap₂, _∙_}
 use mathlib.Core.List.{List}
 use mathlib.Core.Option.{Option, none, some}
-use Prim.Native.Nat.{ℕ, _+_, _^_, _≤_, _<_}
+use Prim.Native.Nat.{ℕ, zero, suc, _+_, _/_, _%_, _≤_, _<_}
 use native.Mathlib.Omega.{arith}
 use lib.IntN.{ℤ}
 use lib.ListN.{length, getD}
+use borrow.Author.Tests.{eq-eqb, ne-eqb}
 use Rattle.laws.specs.Lists.{All, May}
 use Rattle.polar.specs.Layers.{Within}
-use Rattle.outer.specs.declared.Best.{Best}
+use Rattle.machine.specs.Choice.{firstOf}
 use Rattle.outer.specs.declared.Candidate.{Candidate}
 use Rattle.outer.specs.declared.Pair.{Pair}
-use Rattle.outer.specs.Search.{Entry, settings, entry, spread, Spans, costOf, Costs, keyOf, leastFrom, bestOf, answer, keyAt, found, foundPair}
-use Rattle.outer.specs.Long.{Summed, Floors, tableKey, Listed, chosen}
+use Rattle.outer.specs.declared.Two.{Two}
+use Rattle.outer.specs.Search.{Entry, settings, entry, spread, Spans, costOf, picked, Costs, keyOf, leastFrom, above, afterFirst, foundKey, foundSetting, twoOf, twoLeast, answer, keyAt, found, foundPair}
+use Rattle.outer.specs.Long.{summedKey, chosen, foundTwo}
 use Rattle.outer.proofs.Sums.{cost-bound, picked-costs}
-use Rattle.outer.proofs.Least.{least-below, least-same}
+use Rattle.outer.proofs.Least.{least-below, least-same, Chosen, least-chosen}
+use Rattle.outer.proofs.LeastTwo.{after-below, after-same}
 
--- the tables as they are filled
-pub listed : (words costs floors sets ds sums : List ℕ) (free count runs : ℕ) (e : ℕ → Entry) (vs : List ℤ) → free ≤ 8 → Spans ds sets free e → count ≡ 2 ^ free
-    → ((k : ℕ) → k < 2 ^ free → getD words k 0 ≡ spread ds 0 free k) → Costs sums runs vs → Summed costs sums runs words count → Floors floors costs count
-    → ((w : ℕ) → e w .word < 4294967296) → All (Within 1048064) vs → length vs ≤ 32 → Listed free words costs floors sets e vs
-unfolding Spans Summed
-listed words costs floors sets ds sums free count runs e vs f s n d c t h l a i =
-    record {
-      few = f;
-      word = at;
-      cost = λ w k. t w (omega arith) ∙ picked-costs c (getD words w 0) ∙ ap (λ x. costOf x vs) (at w k);
-      small = l;
-      near = λ w. omega (arith, cost-bound (e w .word) vs a);
-      floored = subst (λ (m : ℕ). Floors floors costs m) n h;
-      spans = λ w. s w .1;
-    }
-  where
-    at : (w : ℕ) → w < 2 ^ free → getD words w 0 ≡ e w .word
-    at w k = d w k ∙ s w .0
+module _ (words ds sets sums : List ℕ) (free count runs : ℕ) (e : ℕ → Entry) (vs : List ℤ) (s : Spans ds sets free e)
+    (d : (w : ℕ) → w < count → getD words w 0 ≡ spread ds 0 free w) (c : Costs sums runs vs) (l : (w : ℕ) → e w .word < 4294967296) (a : All (Within 1048064) vs) (i : length vs ≤ 32) where
+  -- the key by the tables
+  f : ℕ → ℕ
+  f = summedKey sums runs words
 
-module _ (free : ℕ) (words costs floors sets : List ℕ) (e : ℕ → Entry) (vs : List ℤ) (h : Listed free words costs floors sets e vs) where
-  key-same : (w : ℕ) → w < 2 ^ free → tableKey costs words w ≡ keyAt e vs w
-  unfolding tableKey keyAt
-  key-same w l = ap₂ keyOf (h .cost w l) (h .word w l)
+  f-is : (w : ℕ) → w < count → f w ≡ keyAt e vs w
+  unfolding f summedKey keyAt Spans
+  f-is w m = ap (λ x. keyOf (picked sums 0 runs x) x) (d w m ∙ s w .0) ∙ ap (λ x. keyOf x (e w .word)) (picked-costs c (e w .word))
 
-  pub key-small : (w : ℕ) → w < 2 ^ free → tableKey costs words w < 18446744069414584320
-  unfolding keyOf keyAt
-  key-small w l = omega (arith, key-same w l, h .small w, h .near w)
+  chosen-answer : (o : Option ℕ) → May (λ (w : ℕ). w < count) o → chosen sets free (foundKey f o) (foundSetting o) ≡ answer e vs o
+  unfolding chosen foundKey foundSetting answer May keyOf keyAt Spans
+  chosen-answer none m = refl
+  chosen-answer (some w) m =
+      let near : costOf (e w .word) vs < 4294967295 = omega (arith, cost-bound (e w .word) vs a) in
+      let cost : f w / 4294967296 ≡ costOf (e w .word) vs = omega (arith, f-is w m, l w) in
+      let number : f w % 4294967296 ≡ e w .word = omega (arith, f-is w m, l w) in
+      rw (ne-eqb (f w) 18446744073709551615 (λ q. omega (arith, f-is w m, l w)), cost, number, s w .1)
 
-  chosen-answer : (k : ℕ → ℕ) (o : Option ℕ) → May (λ (w : ℕ). w < 2 ^ free) o → chosen words costs sets free (bestOf k o) ≡ answer e vs o
-  unfolding chosen bestOf answer May
-  chosen-answer k none l = refl
-  chosen-answer k (some w) l = rw (h .word w l, h .cost w l, h .spans w)
+  module _ (bound : ℕ) (two : Two) (q : two ≡ twoLeast (summedKey sums runs words) bound count) where
+    pub first-answer : chosen sets free (two .first) (two .at) ≡ answer e vs (leastFrom (keyAt e vs) bound count)
+    unfolding twoLeast twoOf f
+    first-answer =
+        ap (λ (x : Two). chosen sets free (x .first) (x .at)) q ∙ chosen-answer (leastFrom f bound count) (least-below f bound count)
+        ∙ ap (answer e vs) (least-same f (keyAt e vs) bound count f-is)
 
-  pub scan-answer : (bound : ℕ) (best : Best) → best ≡ bestOf (tableKey costs words) (leastFrom (tableKey costs words) bound (2 ^ free)) →
-      chosen words costs sets free best ≡ answer e vs (leastFrom (keyAt e vs) bound (2 ^ free))
-  scan-answer bound best q =
-      let k : ℕ → ℕ = tableKey costs words in
-      ap (chosen words costs sets free) q ∙ chosen-answer k (leastFrom k bound (2 ^ free)) (least-below k bound (2 ^ free))
-      ∙ ap (answer e vs) (least-same k (keyAt e vs) bound (2 ^ free) key-same)
+    pub second-answer : chosen sets free (two .second) (two .next) ≡ answer e vs (afterFirst (keyAt e vs) bound count)
+    unfolding twoLeast twoOf f
+    second-answer =
+        ap (λ (x : Two). chosen sets free (x .second) (x .next)) q ∙ chosen-answer (afterFirst f bound count) (after-below f bound count)
+        ∙ ap (answer e vs) (after-same f (keyAt e vs) bound count f-is)
 
 -- a cost that is found has room above it
 pub found-cost : (kinds terms : List ℕ) (start p n : ℕ) (vs : List ℤ) (bound : ℕ) → All (Within 1048064) vs → length vs ≤ 32 → found kinds terms start p n vs bound .cost < 4294967295
@@ -74,3 +70,30 @@ pub pair-found : (kinds terms : List ℕ) (start p n : ℕ) (vs : List ℤ) (a b
 unfolding foundPair
 pair-found kinds terms start p n vs a b bound e m q =
     ap₂ both e (q ∙ ap (found kinds terms start p n vs) (m ∙ ap (λ (c : Candidate). keyOf (c .cost) (c .number) + 1) e))
+
+-- two words, as they are found
+pub two-found : (kinds terms : List ℕ) (start p n : ℕ) (vs : List ℤ) (bound count : ℕ) (a b : Candidate) → count ≡ settings kinds start n
+    → a ≡ answer (entry kinds terms start p n) vs (leastFrom (keyAt (entry kinds terms start p n) vs) bound count)
+    → b ≡ answer (entry kinds terms start p n) vs (afterFirst (keyAt (entry kinds terms start p n) vs) bound count)
+    → record { first = a; second = b } ≡ foundTwo kinds terms start p n vs bound
+unfolding foundTwo found
+two-found kinds terms start p n vs bound count a b m q r =
+    let e = entry kinds terms start p n in
+    ap₂ both (q ∙ ap (λ i. answer e vs (leastFrom (keyAt e vs) bound i)) m) (r ∙ ap (λ i. answer e vs (afterFirst (keyAt e vs) bound i)) m)
+
+-- from the bound 0 on they are the pair
+pub two-pair : (kinds terms : List ℕ) (start p n : ℕ) (vs : List ℤ) → foundTwo kinds terms start p n vs 0 ≡ foundPair kinds terms start p n vs
+unfolding foundTwo foundPair found afterFirst above answer keyAt leastFrom firstOf
+two-pair kinds terms start p n vs = go (settings kinds start n) (leastFrom k 0 (settings kinds start n)) (least-chosen k 0 (settings kinds start n))
+  where
+    e : ℕ → Entry
+    e = entry kinds terms start p n
+
+    k : ℕ → ℕ
+    k = keyAt e vs
+
+    go : (m : ℕ) (o : Option ℕ) → Chosen k 0 m o
+        → both (answer e vs o) (answer e vs (above k m o)) ≡ both (answer e vs o) (answer e vs (leastFrom k (keyOf (answer e vs o .cost) (answer e vs o .number) + 1) m))
+    go zero none h = refl
+    go (suc m) none h = absurd (omega (arith, h 0 (omega arith)))
+    go m (some w) h = refl

@@ -1,7 +1,7 @@
--- The scan for the least key: what is found is the least, equal keys give equal answers, and one key more is what the scan makes of the best so
--- far. By cases on what was found before. Assumes nothing.
+-- The least key from a bound on: what is found is the least, and equal keys give equal answers. By cases on what was found before. Assumes
+-- nothing.
 use mathlib.Core.Path.{_≡_, refl, sym, ap, ap₂, _∙_, subst}
-use mathlib.Core.Bool.{Bool, true, false, cond, _&&_, true≢false}
+use mathlib.Core.Bool.{Bool, true, false, cond}
 use mathlib.Core.Logic.{_⊎_, inl, inr}
 use mathlib.Core.Option.{Option, none, some}
 use Prim.Native.Nat.{ℕ, zero, suc, _≤_, _<_}
@@ -11,8 +11,7 @@ use borrow.Author.Tests.{lt-ltb, le-ltb, le-leb, lt-leb}
 use Rattle.laws.specs.Lists.{May}
 use Rattle.laws.proofs.Tests.{cond-case, lt-or}
 use Rattle.machine.specs.Choice.{choose, firstOf}
-use Rattle.outer.specs.declared.Best.{Best}
-use Rattle.outer.specs.Search.{tried, lesser, leastFrom, bestOf}
+use Rattle.outer.specs.Search.{tried, lesser, leastFrom}
 
 -- the setting found, by another count
 abbrev pub mapped : (ℕ → ℕ) → Option ℕ → Option ℕ
@@ -99,44 +98,3 @@ least-moved k b n there back t u p q i o e = go o (subst (Chosen k b n) e (least
     go (some x) h (some y) g =
         let least : k x ≡ k (there y) = omega (arith, h .2 (there y) (t y (g .0)) (g .1), g .2 (back x) (u x (h .0)) (omega (arith, same x (h .0), h .1)), same x (h .0)) in
         ap some (sym (p y (g .0)) ∙ ap back (sym (i x (there y) (h .0) (t y (g .0)) least)))
-
-pub best-within : (k : ℕ → ℕ) (n : ℕ) (o : Option ℕ) → May (λ (w : ℕ). w < n) o → n ≤ 256 → bestOf k o .setting < 256
-unfolding bestOf May
-best-within k n none h l = omega arith
-best-within k n (some w) h l = omega arith
-
--- ---- one key more
-
-module _ (k : ℕ → ℕ) (bound top w : ℕ) (best : Best) where
-  -- the test that it passes
-  abbrev pub passes : Bool
-  passes = leb bound (k w) && ltb (k w) top
-
-  pub under : (o : Option ℕ) → best ≡ bestOf k o → k w < bound → best ≡ bestOf k (choose (lesser k) passes w o)
-  unfolding choose
-  under o e h = rw (lt-leb bound (k w) h) e
-
-  module _ (h : bound ≤ k w) where
-    pub over : (o : Option ℕ) → best ≡ bestOf k o → top ≤ k w → best ≡ bestOf k (choose (lesser k) passes w o)
-    unfolding choose
-    over o e l = rw (le-leb bound (k w) h, le-ltb (k w) top l) e
-
-    module _ (g : k w < top) where
-      pub kept : (o : Option ℕ) → best ≡ bestOf k o → best .some ≡ true → best .key ≤ k w → best ≡ bestOf k (choose (lesser k) passes w o)
-      unfolding choose bestOf lesser
-      kept none e t l = absurd (true≢false (sym t ∙ ap (λ (b : Best). b .some) e))
-      kept (some y) e t l =
-          let q : best .key ≡ k y = ap (λ (b : Best). b .key) e in
-          rw (le-leb bound (k w) h, lt-ltb (k w) top g, le-ltb (k w) (k y) (omega arith)) e
-
-      pub taken : (o : Option ℕ) → best ≡ bestOf k o → k w < best .key → record { some = true; key = k w; setting = w } ≡ bestOf k (choose (lesser k) passes w o)
-      unfolding choose bestOf lesser
-      taken none e l = rw (le-leb bound (k w) h, lt-ltb (k w) top g)
-      taken (some y) e l =
-          let q : best .key ≡ k y = ap (λ (b : Best). b .key) e in
-          rw (le-leb bound (k w) h, lt-ltb (k w) top g, lt-ltb (k w) (k y) (omega arith))
-
-      pub started : (o : Option ℕ) → best ≡ bestOf k o → best .some ≡ false → record { some = true; key = k w; setting = w } ≡ bestOf k (choose (lesser k) passes w o)
-      unfolding choose bestOf
-      started none e t = rw (le-leb bound (k w) h, lt-ltb (k w) top g)
-      started (some y) e t = absurd (true≢false (sym (ap (λ (b : Best). b .some) e) ∙ t))

@@ -6,8 +6,7 @@ pub mod Rows
 pub mod Sums
 pub mod Advance
 pub mod Least
-pub mod Below
-pub mod Groups
+pub mod LeastTwo
 pub mod Turned
 pub mod Found
 pub mod Numbers

@@ -75,7 +75,6 @@ fn search(
         parities,
         bound,
         words,
-        sets,
         sums,
     )
 }
@@ -137,18 +136,7 @@ fn search_pair(
     if n <= 8 {
         return pair_short(numbers, at, kinds, terms, start, n, parities, words, sets);
     }
-    pair_long(
-        numbers,
-        at,
-        kinds,
-        terms,
-        start,
-        n,
-        parities,
-        words,
-        sets,
-        sums,
-    )
+    pair_long(numbers, at, kinds, terms, start, n, parities, words, sums)
 }
 
 // The nearest word of a block, and the next after it, from one filling of the tables.

@@ -1,6 +1,7 @@
 // Words of a block: the definitions by the values of its node, that these are the machine's words, and the search for the nearest and the next.
 pub mod costs;
 pub mod find;
+pub mod least_two;
 pub mod long;
 pub mod settings;
 pub mod short;
@@ -14,11 +15,12 @@ pub struct Candidate {
     pub number: u32,
 }
 
-// The least key found, and its setting; zeros for none.
-pub struct Best {
-    pub some: bool,
-    pub key: u64,
-    pub setting: usize,
+// The two least keys so far, with their settings; the greatest number for none.
+pub struct Two {
+    pub first: u64,
+    pub second: u64,
+    pub at: usize,
+    pub next: usize,
 }
 
 // The nearest word of a block and the next after it.

@@ -1,137 +1,21 @@
-// The search of a block of more than 8 positions: its words and their costs are listed once, with a floor for each 16 of them, and a scan for
-// the least key passes over those whose floor is too high.
+// The search of a block of more than 8 positions: its words are listed, and one pass over their keys keeps the two least from the bound on.
 ghost use mathlib.Core.Path.{_≡_};
-ghost use mathlib.Core.Bool.{_&&_};
-ghost use mathlib.Core.List.{List};
-ghost use mathlib.Core.Option.{Option};
-ghost use Prim.Native.Nat.{ℕ, _+_, _-_, _%_, _^_, _≤_, _<_, min};
-ghost use lib.Dec.{leb, ltb};
-ghost use lib.IntN.{ℤ};
+ghost use Prim.Native.Nat.{ℕ, _+_, _-_, _^_, _≤_, _<_};
 ghost use lib.ListN.{length, getD};
 ghost use Rattle.laws.specs.Lists.{All};
 ghost use Rattle.polar.specs.Layers.{part, Within};
-ghost use Rattle.machine.specs.Choice.{choose};
-ghost use Rattle.outer.specs.Search.{Entry, settings, entry, picked, Fours, Small, keyAt, lesser, leastFrom, bestOf, answer, found, foundPair, Scratch, Walkable};
-ghost use Rattle.outer.specs.Long.{Summed, Turned, Floors, tableKey, leastBelow, Listed, chosen};
-use crate::Best;
+ghost use Rattle.outer.specs.Search.{picked, Fours, Small, twoLeast, found, foundPair, Walkable};
+ghost use Rattle.outer.specs.Long.{Turned, summedKey, chosen, foundTwo};
 use crate::Candidate;
 use crate::Pair;
+use crate::Two;
 use crate::costs::cost_of;
 use crate::costs::prepare;
-use crate::find::after;
-use crate::find::key;
+use crate::least_two::among;
+use crate::least_two::none;
 use crate::settings::double_all;
 use crate::settings::walk;
-use crate::short::lesser;
-use crate::short::power;
 use crate::short::spread_at;
-
-// The end of the 16 settings from `at` on, of `count`.
-fn group_end(at: usize, count: usize) -> usize
-    requires { ⌜ (at ≤ 256) × (count ≤ 256) ⌝ }
-    ensures { λ r. ⌜ r ≡ min (at + 16) count ⌝ }
-{
-    if at + 16 < count { at + 16 } else { count }
-}
-
-// The costs of the words from `at` to `end`, and a floor of them.
-fn list_group(
-    words: &[u32; 256],
-    at: usize,
-    end: usize,
-    sums: &[u32; 128],
-    runs: usize,
-    costs: &mut [u32; 256],
-) -> u32
-    requires { ⌜ (length (now costs) ≡ 256) × (at ≤ end) × (end ≤ 256) × Fours runs × Small (now sums) runs ⌝ }
-    ensures { λ r. ⌜ (length (now (costs .exit)) ≡ 256) × ((w : ℕ) → w < at → getD (now (costs .exit)) w 0 ≡ getD (now (costs .entry)) w 0)
-        × ((w : ℕ) → at ≤ w → w < end → (getD (now (costs .exit)) w 0 ≡ picked (now (sums .entry)) 0 runs (getD (now (words .entry)) w 0))
-        × (r ≤ getD (now (costs .exit)) w 0)) ⌝ }
-{
-    let mut floor: u32 = 4294967295;
-    let mut w = at;
-    while w < end {
-        let cost = cost_of(sums, runs, words[w]);
-        costs[w] = cost;
-        floor = lesser(cost, floor);
-        w += 1;
-    }
-    floor
-}
-
-// The same, where the costs of each two words from an even setting on have one sum: each second cost is what is left of it.
-fn list_pairs(
-    words: &[u32; 256],
-    at: usize,
-    end: usize,
-    sums: &[u32; 128],
-    runs: usize,
-    total: u32,
-    costs: &mut [u32; 256],
-) -> u32
-    requires { ⌜ (length (now costs) ≡ 256) × (at ≤ end) × (end ≤ 256) × Fours runs × Small (now sums) runs × (at % 2 ≡ 0)
-        × Turned (now sums) runs (now words) end total ⌝ }
-    ensures { λ r. ⌜ (length (now (costs .exit)) ≡ 256) × ((w : ℕ) → w < at → getD (now (costs .exit)) w 0 ≡ getD (now (costs .entry)) w 0)
-        × ((w : ℕ) → at ≤ w → w < end → (getD (now (costs .exit)) w 0 ≡ picked (now (sums .entry)) 0 runs (getD (now (words .entry)) w 0))
-        × (r ≤ getD (now (costs .exit)) w 0)) ⌝ }
-{
-    let mut floor: u32 = 4294967295;
-    let mut w = at;
-    while w < end {
-        let cost = cost_of(sums, runs, words[w]);
-        let other = total - cost;
-        costs[w] = cost;
-        costs[w + 1] = other;
-        floor = lesser(other, lesser(cost, floor));
-        w += 2;
-    }
-    floor
-}
-
-// The same, in pairs unless the sum is the greatest number.
-fn list_some(
-    words: &[u32; 256],
-    at: usize,
-    end: usize,
-    sums: &[u32; 128],
-    runs: usize,
-    total: u32,
-    costs: &mut [u32; 256],
-) -> u32
-    requires { ⌜ (length (now costs) ≡ 256) × (at ≤ end) × (end ≤ 256) × Fours runs × Small (now sums) runs × (at % 2 ≡ 0)
-        × ((total ≡ 4294967295 → ⊥) → Turned (now sums) runs (now words) end total) ⌝ }
-    ensures { λ r. ⌜ (length (now (costs .exit)) ≡ 256) × ((w : ℕ) → w < at → getD (now (costs .exit)) w 0 ≡ getD (now (costs .entry)) w 0)
-        × ((w : ℕ) → at ≤ w → w < end → (getD (now (costs .exit)) w 0 ≡ picked (now (sums .entry)) 0 runs (getD (now (words .entry)) w 0))
-        × (r ≤ getD (now (costs .exit)) w 0)) ⌝ }
-{
-    if total == 4294967295 {
-        return list_group(words, at, end, sums, runs, costs);
-    }
-    list_pairs(words, at, end, sums, runs, total, costs)
-}
-
-// The costs of the first `count` words, and the floors.
-fn list_costs(
-    words: &[u32; 256],
-    count: usize,
-    sums: &[u32; 128],
-    runs: usize,
-    total: u32,
-    costs: &mut [u32; 256],
-    floors: &mut [u32; 16],
-)
-    requires { ⌜ (length (now costs) ≡ 256) × (length (now floors) ≡ 16) × (count ≤ 256) × Fours runs × Small (now sums) runs
-        × ((total ≡ 4294967295 → ⊥) → Turned (now sums) runs (now words) count total) ⌝ }
-    ensures { λ _. ⌜ (length (now (costs .exit)) ≡ 256) × (length (now (floors .exit)) ≡ 16)
-        × Summed (now (costs .exit)) (now (sums .entry)) runs (now (words .entry)) count × Floors (now (floors .exit)) (now (costs .exit)) count ⌝ }
-{
-    let mut g: usize = 0;
-    while g * 16 < count {
-        let at = g * 16;
-        floors[g] = list_some(words, at, group_end(at, count), sums, runs, total, costs);
-        g += 1;
-    }
-}
 
 // The word of n ones.
 fn ones(n: usize) -> u32
@@ -164,190 +48,90 @@ fn turned(
     cost_of(sums, runs, words[0]) + cost_of(sums, runs, words[1])
 }
 
-// The lesser of the best so far and a key that is not below the bound and below `top`, the earlier of equals.
-fn better(best: Best, bound: u64, top: u64, key: u64, setting: usize) -> Best
-    ensures { λ r. ⌜ ((k : ℕ → ℕ) (o : Option ℕ) → best ≡ bestOf k o → key ≡ k setting
-        → r ≡ bestOf k (choose (lesser k) (leb bound (k setting) && ltb (k setting) top) setting o)) ⌝ }
+// The two least keys from the bound on, of the first `count` words.
+fn two_each(words: &[u32; 256], count: usize, sums: &[u32; 128], runs: usize, bound: u64) -> Two
+    requires { ⌜ (count ≤ 256) × Fours runs × Small (now sums) runs ⌝ }
+    ensures { λ r. ⌜ r ≡ twoLeast (summedKey (now (sums .entry)) runs (now (words .entry))) bound count ⌝ }
 {
-    if key < bound {
-        return best;
-    }
-    if top <= key {
-        return best;
-    }
-    if best.some {
-        if best.key <= key {
-            return best;
-        }
-    }
-    Best {
-        some: true,
-        key,
-        setting,
-    }
-}
-
-// The best with the settings from `at` to `end`, unless their floor keeps them from `top`.
-fn scan_group(
-    best: Best,
-    words: &[u32; 256],
-    costs: &[u32; 256],
-    floor: u32,
-    at: usize,
-    end: usize,
-    bound: u64,
-    top: u64,
-) -> Best
-    requires { ⌜ (at ≤ end) × (end ≤ 256) ⌝ }
-    ensures { λ r. ⌜ (let k = tableKey (now (costs .entry)) (now (words .entry)) in
-        ((w : ℕ) → at ≤ w → w < end → floor ≤ getD (now (costs .entry)) w 0)
-        → best ≡ bestOf k (leastBelow k bound top at) → r ≡ bestOf k (leastBelow k bound top end)) ⌝ }
-{
-    if top <= key(floor, 0) {
-        return best;
-    }
-    let mut near = best;
-    let mut w = at;
-    while w < end {
-        near = better(near, bound, top, key(costs[w], words[w]), w);
+    let mut two = none();
+    let mut w: usize = 0;
+    while w < count {
+        let word = words[w];
+        two = among(two, bound, cost_of(sums, runs, word), word, w);
         w += 1;
     }
-    near
+    two
 }
 
-// The least key from a bound on of those below `top`, of the first `count` settings.
-fn scan(
+// The same, where the costs of each two words from an even setting on have one sum: each second cost is what is left of it.
+fn two_turned(
     words: &[u32; 256],
-    costs: &[u32; 256],
-    floors: &[u32; 16],
     count: usize,
+    sums: &[u32; 128],
+    runs: usize,
+    total: u32,
     bound: u64,
-    top: u64,
-) -> Best
-    requires { ⌜ count ≤ 256 ⌝ }
-    ensures { λ r. ⌜ (let k = tableKey (now (costs .entry)) (now (words .entry)) in Floors (now (floors .entry)) (now (costs .entry)) count
-        → r ≡ bestOf k (leastBelow k bound top count)) ⌝ }
+) -> Two
+    requires { ⌜ (count ≤ 256) × Fours runs × Small (now sums) runs × (total < 4294967295) × Turned (now sums) runs (now words) count total ⌝ }
+    ensures { λ r. ⌜ r ≡ twoLeast (summedKey (now (sums .entry)) runs (now (words .entry))) bound count ⌝ }
 {
-    let mut best = Best {
-        some: false,
-        key: 0,
-        setting: 0,
-    };
-    let mut g: usize = 0;
-    while g * 16 < count {
-        let at = g * 16;
-        best = scan_group(
-            best,
-            words,
-            costs,
-            floors[g],
-            at,
-            group_end(at, count),
-            bound,
-            top,
-        );
-        g += 1;
+    let mut two = none();
+    let mut w: usize = 0;
+    while w < count {
+        let word = words[w];
+        let other = words[w + 1];
+        let cost = cost_of(sums, runs, word);
+        two = among(two, bound, cost, word, w);
+        two = among(two, bound, total - cost, other, w + 1);
+        w += 2;
     }
-    best
+    two
 }
 
-// A floor above the bound's cost; else the greatest number.
-fn above(floor: u32, bound: u64) -> u32 {
-    if floor as u64 <= bound / 4294967296 {
-        return 4294967295;
-    }
-    floor
-}
-
-// A guess of a key above the one to find: the least floor above the bound's cost.
-fn guess(floors: &[u32; 16], count: usize, bound: u64) -> u64
-    requires { ⌜ count ≤ 256 ⌝ }
-{
-    let mut least: u32 = 4294967295;
-    let mut g: usize = 0;
-    while g * 16 < count {
-        least = lesser(above(floors[g], bound), least);
-        g += 1;
-    }
-    key(least, 4294967295)
-}
-
-// The least key from a bound on, of the first `count` settings: it is below the guess, or all are looked through.
-fn least(
+// The same, two words a turn unless the sum is the greatest number.
+fn pass(
     words: &[u32; 256],
-    costs: &[u32; 256],
-    floors: &[u32; 16],
     count: usize,
+    sums: &[u32; 128],
+    runs: usize,
+    total: u32,
     bound: u64,
-) -> Best
-    requires { ⌜ count ≤ 256 ⌝ }
-    ensures { λ r. ⌜ (let k = tableKey (now (costs .entry)) (now (words .entry)) in Floors (now (floors .entry)) (now (costs .entry)) count
-        → ((w : ℕ) → w < count → k w < 18446744069414584320) → r ≡ bestOf k (leastFrom k bound count)) ⌝ }
+) -> Two
+    requires { ⌜ (count ≤ 256) × Fours runs × Small (now sums) runs
+        × ((total ≡ 4294967295 → ⊥) → Turned (now sums) runs (now words) count total) ⌝ }
+    ensures { λ r. ⌜ r ≡ twoLeast (summedKey (now (sums .entry)) runs (now (words .entry))) bound count ⌝ }
 {
-    let near = scan(
-        words,
-        costs,
-        floors,
-        count,
-        bound,
-        guess(floors, count, bound),
-    );
-    if near.some {
-        return near;
+    if total == 4294967295 {
+        return two_each(words, count, sums, runs, bound);
     }
-    scan(words, costs, floors, count, bound, 18446744069414584320)
+    two_turned(words, count, sums, runs, total, bound)
 }
 
-// The word found, as a candidate.
-fn candidate(
-    best: Best,
-    words: &[u32; 256],
-    costs: &[u32; 256],
-    steps: &[u32; 9],
-    free: usize,
-) -> Candidate
-    requires { ⌜ (best .setting < 256) × (free ≤ 8) ⌝ }
-    ensures { λ r. ⌜ r ≡ chosen (now (words .entry)) (now (costs .entry)) (now (steps .entry)) free best ⌝ }
+// The word with a key, as a candidate; none for the greatest number.
+fn candidate(key: u64, at: usize, steps: &[u32; 9], free: usize) -> Candidate
+    requires { ⌜ (at < 256) × (free ≤ 8) ⌝ }
+    ensures { λ r. ⌜ r ≡ chosen (now (steps .entry)) free key at ⌝ }
 {
-    let at = best.setting;
-    if best.some {
+    if key == 18446744073709551615 {
         return Candidate {
-            some: true,
-            setting: at as u32,
-            parities: spread_at(steps, free, at as u32),
-            cost: costs[at],
-            number: words[at],
+            some: false,
+            setting: 0,
+            parities: 0,
+            cost: 0,
+            number: 0,
         };
     }
     Candidate {
-        some: false,
-        setting: 0,
-        parities: 0,
-        cost: 0,
-        number: 0,
+        some: true,
+        setting: at as u32,
+        parities: spread_at(steps, free, at as u32),
+        cost: (key / 4294967296) as u32,
+        number: (key % 4294967296) as u32,
     }
 }
 
-// The word of least key from a bound on, by the tables.
-fn pick_long(
-    words: &[u32; 256],
-    costs: &[u32; 256],
-    floors: &[u32; 16],
-    steps: &[u32; 9],
-    free: usize,
-    bound: u64,
-) -> Candidate
-    requires { ⌜ (free ≤ 8) × Floors (now floors) (now costs) (2 ^ free)
-        × ((w : ℕ) → w < 2 ^ free → tableKey (now costs) (now words) w < 18446744069414584320) ⌝ }
-    ensures { λ r. ⌜ ((e : ℕ → Entry) (vs : List ℤ) → Listed free (now (words .entry)) (now (costs .entry)) (now (floors .entry)) (now (steps .entry)) e vs
-        → r ≡ answer e vs (leastFrom (keyAt e vs) bound (2 ^ free))) ⌝ }
-{
-    let best = least(words, costs, floors, power(free as u32), bound);
-    candidate(best, words, costs, steps, free)
-}
-
-// The tables of a block of n positions, and the number of its free indices.
-fn fill_long(
+// The word of least key from a bound on, of a block of n positions, and the one of least key after it.
+fn find_two(
     numbers: &[i32],
     at: usize,
     kinds: &[u8; 512],
@@ -355,25 +139,33 @@ fn fill_long(
     start: usize,
     n: usize,
     parities: u32,
+    bound: u64,
     words: &mut [u32; 256],
-    costs: &mut [u32; 256],
     sums: &mut [u32; 128],
-    floors: &mut [u32; 16],
-    steps: &mut [u32; 9],
-) -> usize
-    requires { ⌜ Scratch (now words) (now costs) (now sums) × (length (now floors) ≡ 16) × (length (now steps) ≡ 9) × Walkable (now kinds) start n
+) -> Pair
+    requires { ⌜ (length (now words) ≡ 256) × (length (now sums) ≡ 128) × Walkable (now kinds) start n
         × (at + n ≤ length (now numbers)) × All (Within 1048064) (part at n (now numbers)) ⌝ }
-    ensures { λ r. ⌜ Scratch (now (words .exit)) (now (costs .exit)) (now (sums .exit)) × (2 ^ r ≡ settings (now (kinds .entry)) start n)
-        × Listed r (now (words .exit)) (now (costs .exit)) (now (floors .exit)) (now (steps .exit))
-        (entry (now (kinds .entry)) (now (terms .entry)) start parities n) (part at n (now (numbers .entry))) ⌝ }
+    ensures { λ r. ⌜ (length (now (words .exit)) ≡ 256) × (length (now (sums .exit)) ≡ 128)
+        × (r ≡ foundTwo (now (kinds .entry)) (now (terms .entry)) start parities n (part at n (now (numbers .entry))) bound) ⌝ }
 {
     let mut word_steps: [u32; 9] = [0; 9];
-    let free = walk(kinds, terms, start, n, parities, &mut word_steps, steps);
+    let mut steps: [u32; 9] = [0; 9];
+    let free = walk(
+        kinds,
+        terms,
+        start,
+        n,
+        parities,
+        &mut word_steps,
+        &mut steps,
+    );
     let count = double_all(words, &word_steps, free);
     let runs = prepare(numbers, at, n, sums);
     let total = turned(words, sums, runs, &word_steps, free, n);
-    list_costs(words, count, sums, runs, total, costs, floors);
-    free
+    let two = pass(words, count, sums, runs, total, bound);
+    let first = candidate(two.first, two.at, &steps, free);
+    let second = candidate(two.second, two.next, &steps, free);
+    Pair { first, second }
 }
 
 // The word of least key from a bound on, of a block of n positions.
@@ -387,17 +179,14 @@ pub fn search_long(
     parities: u32,
     bound: u64,
     words: &mut [u32; 256],
-    costs: &mut [u32; 256],
     sums: &mut [u32; 128],
 ) -> Candidate
-    requires { ⌜ Scratch (now words) (now costs) (now sums) × Walkable (now kinds) start n × (at + n ≤ length (now numbers))
-        × All (Within 1048064) (part at n (now numbers)) ⌝ }
-    ensures { λ r. ⌜ Scratch (now (words .exit)) (now (costs .exit)) (now (sums .exit))
+    requires { ⌜ (length (now words) ≡ 256) × (length (now sums) ≡ 128) × Walkable (now kinds) start n
+        × (at + n ≤ length (now numbers)) × All (Within 1048064) (part at n (now numbers)) ⌝ }
+    ensures { λ r. ⌜ (length (now (words .exit)) ≡ 256) × (length (now (sums .exit)) ≡ 128)
         × (r ≡ found (now (kinds .entry)) (now (terms .entry)) start parities n (part at n (now (numbers .entry))) bound) ⌝ }
 {
-    let mut floors: [u32; 16] = [0; 16];
-    let mut steps: [u32; 9] = [0; 9];
-    let free = fill_long(
+    let two = find_two(
         numbers,
         at,
         kinds,
@@ -405,13 +194,11 @@ pub fn search_long(
         start,
         n,
         parities,
+        bound,
         words,
-        costs,
         sums,
-        &mut floors,
-        &mut steps,
     );
-    pick_long(words, costs, &floors, &steps, free, bound)
+    two.first
 }
 
 // The word of least key of a block of n positions, and the one of least key after it.
@@ -424,17 +211,14 @@ pub fn pair_long(
     n: usize,
     parities: u32,
     words: &mut [u32; 256],
-    costs: &mut [u32; 256],
     sums: &mut [u32; 128],
 ) -> Pair
-    requires { ⌜ Scratch (now words) (now costs) (now sums) × Walkable (now kinds) start n × (at + n ≤ length (now numbers))
-        × All (Within 1048064) (part at n (now numbers)) ⌝ }
-    ensures { λ r. ⌜ Scratch (now (words .exit)) (now (costs .exit)) (now (sums .exit))
+    requires { ⌜ (length (now words) ≡ 256) × (length (now sums) ≡ 128) × Walkable (now kinds) start n
+        × (at + n ≤ length (now numbers)) × All (Within 1048064) (part at n (now numbers)) ⌝ }
+    ensures { λ r. ⌜ (length (now (words .exit)) ≡ 256) × (length (now (sums .exit)) ≡ 128)
         × (r ≡ foundPair (now (kinds .entry)) (now (terms .entry)) start parities n (part at n (now (numbers .entry)))) ⌝ }
 {
-    let mut floors: [u32; 16] = [0; 16];
-    let mut steps: [u32; 9] = [0; 9];
-    let free = fill_long(
+    find_two(
         numbers,
         at,
         kinds,
@@ -442,20 +226,8 @@ pub fn pair_long(
         start,
         n,
         parities,
+        0,
         words,
-        costs,
         sums,
-        &mut floors,
-        &mut steps,
-    );
-    let first = pick_long(words, costs, &floors, &steps, free, 0);
-    let second = pick_long(
-        words,
-        costs,
-        &floors,
-        &steps,
-        free,
-        after(first.cost, first.number),
-    );
-    Pair { first, second }
+    )
 }

@@ -28,16 +28,18 @@ returns c =
 
 search-long-requires : tie.Need-search-long-requires
 search-long-requires c κs =
-    let s = c .before .before .before .before .before in
-    let e = c .before .before .before .before .power .ensures in
-    (s .pre .1, rw e (s .pre .0 .walk), rw e (s .pre .0 .within), rw e (s .pre .0 .small))
+    let s = c .before .before .before .before in
+    let e = c .before .before .before .power .ensures in
+    (s .pre .1 .words-size, s .pre .1 .sums-size, rw e (s .pre .0 .walk), rw e (s .pre .0 .within), rw e (s .pre .0 .small))
 
 returns-2 : tie.Need-returns-2
 returns-2 c =
-    let a = c .before .before .before .before .before .before .args in (
-      c .search-long .ensures .0,
-      c .search-long .ensures .1
-          ∙ ap (λ m. found (a .kinds .now) (a .terms .now) (a .start) (a .parities) m (part (a .at) m (a .numbers .now)) (a .bound)) (c .before .before .before .before .before .power .ensures),
+    let s = c .before .before .before .before .before in
+    let a = s .args in
+    let r = c .search-long in (
+      record { words-size = r .ensures .0; sets-size = s .pre .1 .sets-size; sums-size = r .ensures .1 },
+      r .ensures .2
+          ∙ ap (λ m. found (a .kinds .now) (a .terms .now) (a .start) (a .parities) m (part (a .at) m (a .numbers .now)) (a .bound)) (c .before .before .before .before .power .ensures),
     )
 
 pub search-spec : {M : Type 1} → statement M

@@ -28,16 +28,18 @@ returns c =
 
 pair-long-requires : tie.Need-pair-long-requires
 pair-long-requires c κs =
-    let s = c .before .before .before .before .before in
-    let e = c .before .before .before .before .power .ensures in
-    (s .pre .1, rw e (s .pre .0 .walk), rw e (s .pre .0 .within), rw e (s .pre .0 .small))
+    let s = c .before .before .before .before in
+    let e = c .before .before .before .power .ensures in
+    (s .pre .1 .words-size, s .pre .1 .sums-size, rw e (s .pre .0 .walk), rw e (s .pre .0 .within), rw e (s .pre .0 .small))
 
 returns-2 : tie.Need-returns-2
 returns-2 c =
-    let a = c .before .before .before .before .before .before .args in (
-      c .pair-long .ensures .0,
-      c .pair-long .ensures .1
-          ∙ ap (λ m. foundPair (a .kinds .now) (a .terms .now) (a .start) (a .parities) m (part (a .at) m (a .numbers .now))) (c .before .before .before .before .before .power .ensures),
+    let s = c .before .before .before .before .before in
+    let a = s .args in
+    let r = c .pair-long in (
+      record { words-size = r .ensures .0; sets-size = s .pre .1 .sets-size; sums-size = r .ensures .1 },
+      r .ensures .2
+          ∙ ap (λ m. foundPair (a .kinds .now) (a .terms .now) (a .start) (a .parities) m (part (a .at) m (a .numbers .now))) (c .before .before .before .before .power .ensures),
     )
 
 pub search-pair-spec : {M : Type 1} → statement M
