@@ -11,7 +11,7 @@ use lib.Seq.{paste, paste-zero, paste-suc, take-length}
 use Rattle.machine.specs.Queue.{Step}
 use Rattle.machine.specs.Calls.{walked}
 use Rattle.screen.specs.declared.StepRecord.{StepRecord}
-use Rattle.screen.specs.Records.{recordOf, recorded, recordAt, copied}
+use Rattle.screen.specs.Records.{recordOf, blank, nthRecord, recorded, recordAt, copied}
 
 pub length-copied : (old : List StepRecord) (paths blocks scores : List ℤ) (n : ℕ) → length (copied old paths blocks scores n) ≡ length old
 unfolding copied
@@ -26,10 +26,10 @@ walked-entry entry steps old i d h =
     List·getD-append (map entry steps) (drop (length steps) old) (entry d) i (omega (arith, h, length-map steps entry)) ∙ List·getD-map entry steps i d
 
 -- what stands past the end of a list of extractions
-abbrev blank : Step
-blank = record { path = 0; blocks = 0; score = pos 0; crowded = []; outrun = [] }
+abbrev no-step : Step
+no-step = record { path = 0; blocks = 0; score = pos 0; crowded = []; outrun = [] }
 
-module _ (steps : List Step) (old : List StepRecord) (paths blocks scores : List ℤ) where
+module _ (steps : List Step) (paths blocks scores : List ℤ) where
   -- the walk of the extractions, in each buffer
   abbrev ps : List ℤ
   ps = walked (λ s. pos (s .path)) steps paths
@@ -40,25 +40,27 @@ module _ (steps : List Step) (old : List StepRecord) (paths blocks scores : List
   abbrev ss : List ℤ
   ss = walked (λ s. s .score) steps scores
 
-  record-at : (i : ℕ) → i < length steps → recordAt ps bs ss i ≡ getD (map recordOf steps) i (recordOf blank)
-  unfolding recordOf recordAt
+  -- an entry of the three buffers is the record of its extraction
+  pub record-at : (i : ℕ) → i < length steps → recordAt ps bs ss i ≡ nthRecord steps i
+  unfolding recordOf blank nthRecord recordAt
   record-at i h =
-      ap₂ (λ (p b : ℤ). record { path = p; blocks = b; score = getD ss i (pos 0) }) (walked-entry (λ s. pos (s .path)) steps paths i blank h) (walked-entry (λ s. pos (s .blocks)) steps blocks i blank h)
-      ∙ ap (λ (z : ℤ). record { path = pos (getD steps i blank .path); blocks = pos (getD steps i blank .blocks); score = z }) (walked-entry (λ s. s .score) steps scores i blank h)
-      ∙ sym (List·getD-map recordOf steps i blank)
+      ap₂ (λ (p b : ℤ). record { path = p; blocks = b; score = getD ss i (pos 0) }) (walked-entry (λ s. pos (s .path)) steps paths i no-step h) (walked-entry (λ s. pos (s .blocks)) steps blocks i no-step h)
+      ∙ ap (λ (z : ℤ). record { path = pos (getD steps i no-step .path); blocks = pos (getD steps i no-step .blocks); score = z }) (walked-entry (λ s. s .score) steps scores i no-step h)
+      ∙ sym (List·getD-map recordOf steps i no-step)
 
-  copied-first : (n : ℕ) → n ≤ length steps → length steps ≤ length old → copied old ps bs ss n ≡ paste old 0 (map recordOf steps) n
-  unfolding copied
-  copied-first zero h in-old = paste-zero old 0 (map recordOf steps)
-  copied-first (suc n) h in-old =
-      ap₂ (λ (l : List StepRecord) (r : StepRecord). set l n r) (copied-first n (omega (arith, h)) in-old) (record-at n h)
-      ∙ ap (λ (k : ℕ). set (paste old 0 (map recordOf steps) n) k (getD (map recordOf steps) n (recordOf blank))) (sym (zero-add n))
-      ∙ paste-suc old 0 (map recordOf steps) n (recordOf blank) (omega (arith, h, in-old)) (omega (arith, h, length-map steps recordOf))
+  module _ (old : List StepRecord) where
+    copied-first : (n : ℕ) → n ≤ length steps → length steps ≤ length old → copied old ps bs ss n ≡ paste old 0 (map recordOf steps) n
+    unfolding copied nthRecord
+    copied-first zero h in-old = paste-zero old 0 (map recordOf steps)
+    copied-first (suc n) h in-old =
+        ap₂ (λ (l : List StepRecord) (r : StepRecord). set l n r) (copied-first n (omega (arith, h)) in-old) (record-at n h)
+        ∙ ap (λ (k : ℕ). set (paste old 0 (map recordOf steps) n) k (nthRecord steps n)) (sym (zero-add n))
+        ∙ paste-suc old 0 (map recordOf steps) n blank (omega (arith, h, in-old)) (omega (arith, h, length-map steps recordOf))
 
-  -- copied whole, it is their records
-  pub copied-recorded : length steps ≤ length old → copied old ps bs ss (length steps) ≡ recorded steps old
-  unfolding recorded
-  copied-recorded in-old =
-      copied-first (length steps) (omega arith) in-old
-      ∙ ap₂ (λ (k m : ℕ). take k (map recordOf steps) ++ drop m old) (sym (length-map steps recordOf)) (zero-add (length steps))
-      ∙ ap (λ (l : List StepRecord). l ++ drop (length steps) old) (take-length (map recordOf steps))
+    -- copied whole, it is their records
+    pub copied-recorded : length steps ≤ length old → copied old ps bs ss (length steps) ≡ recorded steps old
+    unfolding recorded
+    copied-recorded in-old =
+        copied-first (length steps) (omega arith) in-old
+        ∙ ap₂ (λ (k m : ℕ). take k (map recordOf steps) ++ drop m old) (sym (length-map steps recordOf)) (zero-add (length steps))
+        ∙ ap (λ (l : List StepRecord). l ++ drop (length steps) old) (take-length (map recordOf steps))

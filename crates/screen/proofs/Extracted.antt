@@ -76,13 +76,13 @@ module _ (hook : Bool) (c : Input) (l : Lent) where
     left-extracted = let a = attempt-extracted in
         record { counted = ap (λ (n : Counts). n .extractions) (x .counted) ∙ a .counted; paths = x .paths ∙ a .paths; blocks = x .blocks ∙ a .blocks; scores = x .scores ∙ a .scores }
 
+    -- the walk's buffers have an entry for each extraction
+    pub left-long : (counts .extractions ≤ length (after .walkPath)) × (counts .extractions ≤ length (after .walkBlocks)) × (counts .extractions ≤ length (after .walkScore))
+    left-long = let a = left-extracted in
+        let long : (entry : Step → ℤ) (old new : List ℤ) → new ≡ walked entry (stepsOf hook c l) old → counts .extractions ≤ length new =
+        λ entry old new e. omega (arith, a .counted, walked-long entry (stepsOf hook c l) old, ap length e) in
+        (long _ (l .walkPath) (after .walkPath) (a .paths), long _ (l .walkBlocks) (after .walkBlocks) (a .blocks), long _ (l .walkScore) (after .walkScore) (a .scores))
+
     pub left-fits : (room : ℕ) → few c room ≡ false → Fitting counts room after
     unfolding Fitting
-    left-fits room f = let a = left-extracted in
-        let long : (entry : Step → ℤ) (old new : List ℤ) → new ≡ walked entry (stepsOf hook c l) old → counts .extractions ≤ length new =
-        λ entry old new e. omega (arith, a .counted, walked-long entry (stepsOf hook c l) old, ap length e) in (
-          omega (arith, attempt-roomy room f, ap (λ (n : Counts). n .extractions) (x .counted)),
-          long _ (l .walkPath) (after .walkPath) (a .paths),
-          long _ (l .walkBlocks) (after .walkBlocks) (a .blocks),
-          long _ (l .walkScore) (after .walkScore) (a .scores),
-        )
+    left-fits room f = let e = left-long in (omega (arith, attempt-roomy room f, ap (λ (n : Counts). n .extractions) (x .counted)), e .0, e .1, e .2)

@@ -2,6 +2,7 @@ pub mod Copied
 pub mod Few
 pub mod Extracted
 pub mod Shown
+pub mod Stepped
 pub mod Again
 pub mod Lent
 pub mod Thin

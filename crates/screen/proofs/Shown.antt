@@ -33,7 +33,7 @@ pub record Within (hook : Bool) (c : Input) (l : Lent) (room : ℕ) (counts : Co
   pub none-made : few c room ≡ true → counts ≡ noCounts
   pub left : few c room ≡ false → Left hook c l counts after
 
-plain-left : (c : Input) (l : Lent) → Left false c l (plainCall c l .answer .counts) (plainCall c l .lent)
+pub plain-left : (c : Input) (l : Lent) → Left false c l (plainCall c l .answer .counts) (plainCall c l .lent)
 unfolding plainOf handed
 plain-left c l =
     let e = plain-handed c l in
@@ -83,7 +83,7 @@ module _ (c : Input) (l : Lent) (room : ℕ) where
 -- ---- the screen's calls
 module _ (hook : Bool) (c : Input) (l : Lent) where
   -- the machine's extractions are those of the machine's run
-  ran-steps : (B : Book) → load (c .book) ≡ loaded B → barred B c l (fitsFor hook B) ≡ none → stepsOf hook c l ≡ machineRun B c .steps
+  pub ran-steps : (B : Book) → load (c .book) ≡ loaded B → barred B c l (fitsFor hook B) ≡ none → stepsOf hook c l ≡ machineRun B c .steps
   unfolding stepsOf stepsWith stepsUnbarred machineRun
   ran-steps B e b = rw (e, b) refl
 
@@ -97,7 +97,7 @@ module _ (hook : Bool) (c : Input) (l : Lent) where
     shown-recorded f =
         let a = left-extracted hook c l counts after (x .left f) in
         let few-enough : length (stepsOf hook c l) ≤ length old = omega (arith, a .counted, fit .0) in
-        rw (a .paths, a .blocks, a .scores, a .counted) (copied-recorded (stepsOf hook c l) old (l .walkPath) (l .walkBlocks) (l .walkScore) few-enough)
+        rw (a .paths, a .blocks, a .scores, a .counted) (copied-recorded (stepsOf hook c l) (l .walkPath) (l .walkBlocks) (l .walkScore) old few-enough)
 
     shown-records : shown ≡ recordsAfter hook c l old
     unfolding recordsAfter copied noCounts

@@ -1,5 +1,6 @@
 -- The screen's calls: the plain decoding call and the hook call with a slice of step records besides the walk's number buffers. Document 01: "the screen's
--- call takes the walk as a lent slice of step records". At least L x V + 1 records, else 7 in 7's place. Assumes nothing.
+-- call takes the walk as a lent slice of step records". At least L x V + 1 records, else 7 in 7's place. And the plain call with one record of its walk, in
+-- plain parameters. Assumes nothing.
 use mathlib.Core.Path.{_≡_}
 use mathlib.Core.Bool.{Bool, false, cond, _&&_}
 use mathlib.Core.List.{List, []}
@@ -20,7 +21,8 @@ use Rattle.machine.specs.Calls.{Input, Lent, Called, settingsOk, walkNeeded, ba
 use Rattle.decoder.specs.Attempt.{fitsFor}
 use Rattle.decoder.specs.WholeRun.{readerRun, Agreed}
 use Rattle.screen.specs.declared.StepRecord.{StepRecord}
-use Rattle.screen.specs.Records.{recorded}
+use Rattle.screen.specs.declared.step.StepDecoded.{StepDecoded}
+use Rattle.screen.specs.Records.{nthRecord, recorded}
 
 -- ---- the records of a run
 
@@ -69,3 +71,20 @@ unfoldable pub WholeScreen : Bool → Input → Lent → List StepRecord → Cou
 WholeScreen hook c l old counts after steps =
     (B : Book) → load (c .book) ≡ loaded B → barred B c l (fitsFor hook B) ≡ none → few c (length old) ≡ false
     → Agreed B c l counts after × (steps ≡ recorded (readerRun B c l .steps) old)
+
+-- ---- the call with one record
+
+-- the plain call, and the record of extraction i
+unfoldable pub plainStep : Input → Lent → ℕ → Called StepDecoded
+plainStep c l i =
+    let w = plainCall c l in
+    record {
+      answer = record { outcome = w .answer .outcome; counts = w .answer .counts; step = nthRecord (stepsOf false c l) i };
+      lent = w .lent;
+    }
+
+-- Demand 3 where the call makes a run: as above, and the record is that of the reader's extraction i.
+unfoldable pub WholeStep : Input → Lent → ℕ → Counts → Lent → StepRecord → Type 0
+WholeStep c l i counts after step =
+    (B : Book) → load (c .book) ≡ loaded B → barred B c l (fitsFor false B) ≡ none
+    → Agreed B c l counts after × (step ≡ nthRecord (readerRun B c l .steps) i)

@@ -1,9 +1,9 @@
-// Number buffers copied into a slice of step records.
+// Number buffers copied into a slice of step records, and read out of one.
 use crate::StepRecord;
 ghost use mathlib.Core.Path.{_≡_};
 ghost use Prim.Native.Nat.{_≤_};
 ghost use lib.ListN.{length};
-ghost use Rattle.screen.specs.Records.{copied};
+ghost use Rattle.screen.specs.Records.{recordAt, copied};
 
 // The first n entries of the walk's buffers, as records.
 pub fn copy_steps(steps: &mut [StepRecord], paths: &[i32], blocks: &[i32], scores: &[i32], n: usize)
@@ -19,4 +19,18 @@ pub fn copy_steps(steps: &mut [StepRecord], paths: &[i32], blocks: &[i32], score
         };
         i = i + 1;
     }
+}
+
+// The first entry of the walk's buffers as a record, by way of a local slice of records. Its signature is plain: a caller is covered.
+pub fn first_record(paths: &[i32], blocks: &[i32], scores: &[i32]) -> StepRecord
+    requires { ⌜ (1 ≤ length (now paths)) × (1 ≤ length (now blocks)) × (1 ≤ length (now scores)) ⌝ }
+    ensures { λ r. ⌜ r ≡ recordAt (now (paths .entry)) (now (blocks .entry)) (now (scores .entry)) 0 ⌝ }
+{
+    let mut steps = [StepRecord {
+        path: 0,
+        blocks: 0,
+        score: 0,
+    }; 1];
+    copy_steps(&mut steps, paths, blocks, scores, 1);
+    steps[0]
 }
