@@ -1,13 +1,13 @@
 -- What the pass over a long block's words finds are the words of least keys: its keys are those of the entries, and a key holds the cost and the
 -- number of its word. Also for short blocks: a pair of words that are found. Assumes nothing.
-use mathlib.Core.Path.{_≡_, refl, sym, ap, ap₂, _∙_}
+use mathlib.Core.Path.{_≡_, refl, ap, ap₂, _∙_}
 use mathlib.Core.List.{List}
 use mathlib.Core.Option.{Option, none, some}
 use Prim.Native.Nat.{ℕ, zero, suc, _+_, _/_, _%_, _≤_, _<_}
 use native.Mathlib.Omega.{arith}
 use lib.IntN.{ℤ}
 use lib.ListN.{length, getD}
-use borrow.Author.Tests.{eq-eqb, ne-eqb}
+use borrow.Author.Tests.{ne-eqb}
 use Rattle.laws.specs.Lists.{All, May}
 use Rattle.polar.specs.Layers.{Within}
 use Rattle.machine.specs.Choice.{firstOf}
@@ -40,17 +40,23 @@ module _ (words ds sets sums : List ℕ) (free count runs : ℕ) (e : ℕ → En
       rw (ne-eqb (f w) 18446744073709551615 (λ q. omega (arith, f-is w m, l w)), cost, number, s w .1)
 
   module _ (bound : ℕ) (two : Two) (q : two ≡ twoLeast (summedKey sums runs words) bound count) where
-    pub first-answer : chosen sets free (two .first) (two .at) ≡ answer e vs (leastFrom (keyAt e vs) bound count)
+    first : chosen sets free (two .first) (two .at) ≡ answer e vs (leastFrom (keyAt e vs) bound count)
     unfolding twoLeast twoOf f
-    first-answer =
-        ap (λ (x : Two). chosen sets free (x .first) (x .at)) q ∙ chosen-answer (leastFrom f bound count) (least-below f bound count)
+    first =
+        ap (λ (x : Two). chosen sets free (x .first) (x .at)) q
+        ∙ chosen-answer (leastFrom f bound count) (least-below f bound count)
         ∙ ap (answer e vs) (least-same f (keyAt e vs) bound count f-is)
 
-    pub second-answer : chosen sets free (two .second) (two .next) ≡ answer e vs (afterFirst (keyAt e vs) bound count)
+    second : chosen sets free (two .second) (two .next) ≡ answer e vs (afterFirst (keyAt e vs) bound count)
     unfolding twoLeast twoOf f
-    second-answer =
-        ap (λ (x : Two). chosen sets free (x .second) (x .next)) q ∙ chosen-answer (afterFirst f bound count) (after-below f bound count)
+    second =
+        ap (λ (x : Two). chosen sets free (x .second) (x .next)) q
+        ∙ chosen-answer (afterFirst f bound count) (after-below f bound count)
         ∙ ap (answer e vs) (after-same f (keyAt e vs) bound count f-is)
+
+    pub answers : (chosen sets free (two .first) (two .at) ≡ answer e vs (leastFrom (keyAt e vs) bound count))
+        × (chosen sets free (two .second) (two .next) ≡ answer e vs (afterFirst (keyAt e vs) bound count))
+    answers = (first, second)
 
 -- a cost that is found has room above it
 pub found-cost : (kinds terms : List ℕ) (start p n : ℕ) (vs : List ℤ) (bound : ℕ) → All (Within 1048064) vs → length vs ≤ 32 → found kinds terms start p n vs bound .cost < 4294967295

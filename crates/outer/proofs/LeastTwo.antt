@@ -78,9 +78,9 @@ module _ (k : ℕ → ℕ) (b n : ℕ) where
         go (some w) e t = t ∙ after (some w) (above k n (some w)) (skipped k b n h ∙ e) (skipped k (k w + 1) n (omega (arith, found-here (some w) e .1)))
 
     -- a key below the first
-    pub nearest : b ≤ k n → k n < two .first → record { first = k n; second = two .first; at = n; next = two .at } ≡ twoLeast k b (n + 1)
+    pub ahead : b ≤ k n → k n < two .first → record { first = k n; second = two .first; at = n; next = two .at } ≡ twoLeast k b (n + 1)
     unfolding twoLeast afterFirst above twoOf foundKey foundSetting
-    nearest h l = go (leastFrom k b n) refl q
+    ahead h l = go (leastFrom k b n) refl q
       where
         go : (o : Option ℕ) → leastFrom k b n ≡ o → two ≡ twoOf k o (above k n o) → record { first = k n; second = two .first; at = n; next = two .at } ≡ twoLeast k b (n + 1)
         go o e t =

@@ -80,7 +80,7 @@ turned-pairs words ds sums (suc m) count runs total n vs h q d c o l t = record 
         let y : 1 ≡ 2 * 0 + 1 = omega arith in
         t ∙ ap₂ (λ a b. picked sums 0 runs (getD words a 0) + picked sums 0 runs (getD words b 0)) z y ∙ pair 0 (omega (arith, two-pow-succ m, pow-pos m))
 
--- ---- what the listing goes by
+-- ---- what the pass goes by
 
 -- an even setting and the next
 pub pair-sum : (sums words : List ℕ) (runs n total w : ℕ) → Turned sums runs words n total → w % 2 ≡ 0 → w < n
@@ -90,7 +90,3 @@ pair-sum sums words runs n total w t e l =
     let p : w ≡ 2 * k = omega arith in
     let q : w + 1 ≡ 2 * k + 1 = omega arith in
     ap₂ (λ a b. picked sums 0 runs (getD words a 0) + picked sums 0 runs (getD words b 0)) p q ∙ t .sum k (omega (arith, t .even))
-
--- fewer settings
-pub turned-fewer : (sums words : List ℕ) (runs n m total : ℕ) → Turned sums runs words n total → m ≤ n → m % 2 ≡ 0 → Turned sums runs words m total
-turned-fewer sums words runs n m total t h e = record { even = e; sum = λ k l. t .sum k (omega arith) }

@@ -5,7 +5,7 @@ use native.Mathlib.Omega.{arith}
 use mir.Syntax.{w32}
 use mir.Val.{Fits}
 use Rattle.outer.specs.Search.{keyOf}
-use Rattle.outer.proofs.LeastTwo.{far, under, between, equal, nearest}
+use Rattle.outer.proofs.LeastTwo.{far, under, between, equal, ahead}
 use Rattle.outer.proofs.least_two.among.Statement.{statement}
 use Rattle.outer.proofs.least_two.among.Tie as tie
 
@@ -55,7 +55,7 @@ returns-5 c = λ k t e.
     let a = s .args in
     let y = c .before .before .before .before .before .before .before .key in
     let q : y .result ≡ k (a .setting) = y .ensures ∙ e in
-    rw q (nearest k (a .bound) (a .setting) (a .two) t (omega (arith, q)) (omega (arith, q)))
+    rw q (ahead k (a .bound) (a .setting) (a .two) t (omega (arith, q)) (omega (arith, q)))
 
 pub among-spec : {M : Type 1} → statement M
 among-spec =

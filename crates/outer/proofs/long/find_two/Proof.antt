@@ -5,10 +5,9 @@ use borrow.Author.Needs.{needs}
 use Rattle.polar.specs.Layers.{part}
 use Rattle.polar.proofs.Writes.{part-length}
 use Rattle.outer.specs.Search.{entry}
-use Rattle.outer.specs.Long.{summedKey}
 use Rattle.outer.proofs.Advance.{few-free}
 use Rattle.outer.proofs.Bytes.{entry-word}
-use Rattle.outer.proofs.Found.{first-answer, second-answer, two-found}
+use Rattle.outer.proofs.Found.{answers, two-found}
 use Rattle.outer.proofs.LeastTwo.{two-within}
 use Rattle.outer.proofs.Turned.{turned-pairs}
 use Rattle.outer.proofs.long.find_two.Statement.{statement}
@@ -76,12 +75,13 @@ returns c =
     let t = c .before .before .before .before .pass in
     let l = part (a .at) (a .n) (a .numbers .now) in
     let e = entry (a .kinds .now) (a .terms .now) (a .start) (a .parities) (a .n) in
-    let small = entry-word (a .kinds .now) (a .terms .now) (a .start) (a .parities) (a .n) (s .pre .2 .short) in (
+    let q =
+    answers _ _ _ _ (r .result) (d .result) (p .result) e l (r .ensures .3) (λ w i. d .ensures .2 w (omega (arith, d .ensures .1))) (p .ensures .1)
+    (entry-word (a .kinds .now) (a .terms .now) (a .start) (a .parities) (a .n) (s .pre .2 .short)) (s .pre .4)
+    (omega (arith, part-length (a .at) (a .n) (a .numbers .now) (s .pre .3), s .pre .2 .short)) (a .bound) (t .result) (t .ensures) in (
       d .ensures .0,
       p .ensures .0,
-      two-found (a .kinds .now) (a .terms .now) (a .start) (a .parities) (a .n) l (a .bound) (d .result) _ _ (d .ensures .1 ∙ r .ensures .2)
-          (c .before .before .candidate .ensures ∙ first-answer _ _ _ _ (r .result) (d .result) (p .result) e l (r .ensures .3) (λ w i. d .ensures .2 w (omega (arith, d .ensures .1))) (p .ensures .1) small (s .pre .4) (omega (arith, part-length (a .at) (a .n) (a .numbers .now) (s .pre .3), s .pre .2 .short)) (a .bound) (t .result) (t .ensures))
-          (c .candidate2 .ensures ∙ second-answer _ _ _ _ (r .result) (d .result) (p .result) e l (r .ensures .3) (λ w i. d .ensures .2 w (omega (arith, d .ensures .1))) (p .ensures .1) small (s .pre .4) (omega (arith, part-length (a .at) (a .n) (a .numbers .now) (s .pre .3), s .pre .2 .short)) (a .bound) (t .result) (t .ensures)),
+      two-found (a .kinds .now) (a .terms .now) (a .start) (a .parities) (a .n) l (a .bound) (d .result) _ _ (d .ensures .1 ∙ r .ensures .2) (c .before .before .candidate .ensures ∙ q .0) (c .candidate2 .ensures ∙ q .1),
     )
 
 pub find-two-spec : {M : Type 1} → statement M
