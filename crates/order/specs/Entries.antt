@@ -3,7 +3,7 @@
 -- Assumes nothing.
 use mathlib.Core.Path.{_≡_}
 use mathlib.Core.List.{List, [], _∷_}
-use Prim.Native.Nat.{ℕ, zero, suc, _-_, _/_, _%_, _<_}
+use Prim.Native.Nat.{ℕ, zero, suc, _-_, _/_, _%_, _≤_, _<_}
 use lib.ListN.{getD}
 use lib.IntN.{pos, _-ℤ_}
 use Rattle.machine.specs.Queue.{Key}
@@ -25,3 +25,7 @@ pub record Packed (e : ℕ) (k : Key) (s : ℕ) : Type 0 where
 unfoldable pub queueOf : List ℕ → ℕ → List ℕ
 queueOf order zero = []
 queueOf order (suc n) = getD order n 0 ∷ queueOf order n
+
+-- the first n entries never fall, but for their slots: the queue's order, first path last
+unfoldable pub Rising : List ℕ → ℕ → Type 0
+Rising order n = (i j : ℕ) → i ≤ j → j < n → getD order i 0 / 256 ≤ getD order j 0 / 256

@@ -1,8 +1,7 @@
-// Entries of the queue's order: made, read, and compared as numbers.
+// Entries of the queue's order: made and read.
 ghost use mathlib.Core.Path.{_≡_};
 ghost use Prim.Native.Nat.{_<_};
 ghost use Rattle.polar.specs.Layers.{Within};
-ghost use Rattle.machine.specs.Queue.{Key, before};
 ghost use Rattle.order.specs.Entries.{keyAt, slotAt, Packed};
 
 // The entry of a path with this key in this slot.
@@ -41,11 +40,4 @@ pub fn score_of(e: u64) -> i32
     ensures { λ r. ⌜ r ≡ keyAt e .score ⌝ }
 {
     (e / 8589934592) as i32 - 2097152
-}
-
-// Whether the path of a comes before that of b.
-pub fn ahead(a: u64, b: u64) -> bool
-    ensures { λ r. ⌜ r ≡ before (keyAt a) (keyAt b) ⌝ }
-{
-    b / 256 < a / 256
 }

@@ -1,27 +1,52 @@
 // The moves of the queue: a path inserted, the last ones cut off, those with few blocks removed. Entries move within the array; nothing else is
 // touched.
 ghost use mathlib.Core.Path.{_≡_};
-ghost use Prim.Native.Nat.{suc, _≤_, _<_};
-ghost use lib.ListN.{length, take};
+ghost use Prim.Native.Nat.{ℕ, suc, _/_, _≤_, _<_};
+ghost use lib.ListN.{length, getD, take};
 ghost use Rattle.machine.specs.Queue as Q;
-ghost use Rattle.order.specs.Entries.{keyAt, queueOf};
-use crate::entries::ahead;
+ghost use Rattle.order.specs.Entries.{keyAt, queueOf, Rising};
 use crate::entries::blocks_of;
+
+// Where an entry goes among the `queued` entries: above those that it comes before.
+fn place(order: &[u64; 256], queued: usize, e: u64) -> usize
+    requires { ⌜ (length (now order) ≡ 256) × (queued ≤ 256) ⌝ }
+    requires { ⌜ Rising (now order) queued ⌝ }
+    ensures { λ r. ⌜ (r ≤ queued) × ((k : ℕ) → k < r → getD (now (order .entry)) k 0 / 256 < e / 256)
+        × ((k : ℕ) → r ≤ k → k < queued → e / 256 ≤ getD (now (order .entry)) k 0 / 256) ⌝ }
+{
+    let floor = e / 256 * 256;
+    // a path that was just moved mostly goes above them all
+    if queued > 0 {
+        if order[queued - 1] < floor {
+            return queued;
+        }
+    }
+    let mut low: usize = 0;
+    let mut high = queued;
+    while low < high {
+        let mid = (low + high) / 2;
+        if order[mid] < floor {
+            low = mid + 1;
+        } else {
+            high = mid;
+        }
+    }
+    low
+}
 
 // Puts an entry into its place among the `queued` entries.
 pub fn insert(order: &mut [u64; 256], queued: usize, e: u64)
     requires { ⌜ (length (now order) ≡ 256) × (queued < 256) ⌝ }
+    requires { ⌜ Rising (now order) queued ⌝ }
     ensures { λ _. ⌜ (length (now (order .exit)) ≡ 256)
         × (queueOf (now (order .exit)) (suc queued) ≡ Q.insert keyAt e (queueOf (now (order .entry)) queued)) ⌝ }
+    ensures { λ _. ⌜ Rising (now (order .exit)) (suc queued) ⌝ }
 {
-    let mut at = queued;
-    while at > 0 {
-        let other = order[at - 1];
-        if ahead(e, other) {
-            break;
-        }
-        order[at] = other;
-        at -= 1;
+    let at = place(order, queued, e);
+    let mut k = queued;
+    while k > at {
+        order[k] = order[k - 1];
+        k -= 1;
     }
     order[at] = e;
 }
@@ -31,6 +56,7 @@ pub fn cut(order: &mut [u64; 256], queued: usize, kept: usize)
     requires { ⌜ (length (now order) ≡ 256) × (queued ≤ 256) × (kept ≤ queued) ⌝ }
     ensures { λ _. ⌜ (length (now (order .exit)) ≡ 256)
         × (queueOf (now (order .exit)) kept ≡ take kept (queueOf (now (order .entry)) queued)) ⌝ }
+    ensures { λ _. ⌜ (Rising (now (order .entry)) queued → Rising (now (order .exit)) kept) ⌝ }
 {
     let by = queued - kept;
     let mut i: usize = 0;
@@ -45,6 +71,7 @@ pub fn sift(order: &mut [u64; 256], queued: usize, b: u32) -> usize
     requires { ⌜ (length (now order) ≡ 256) × (queued ≤ 256) ⌝ }
     ensures { λ r. ⌜ (length (now (order .exit)) ≡ 256) × (r ≤ queued)
         × (queueOf (now (order .exit)) r ≡ Q.ahead keyAt b (queueOf (now (order .entry)) queued)) ⌝ }
+    ensures { λ r. ⌜ (Rising (now (order .entry)) queued → Rising (now (order .exit)) r) ⌝ }
 {
     let mut kept: usize = 0;
     let mut i: usize = 0;

@@ -1,13 +1,13 @@
 -- `order::moves::cut` meets its contract. The loop's invariant: the first i entries are those from `by` on, and the others are as they were.
 -- Assumes nothing.
 use mathlib.Core.Path.{_≡_, ap, _∙_}
-use Prim.Native.Nat.{_+_, _-_, _≤_}
+use Prim.Native.Nat.{ℕ, _+_, _-_, _≤_, _<_}
 use native.Mathlib.Nat.{zero-add}
 use native.Mathlib.Omega.{arith}
 use lib.ListN.{getD, take}
 use Rattle.laws.proofs.Stores.{Stored, stored-none}
 use Rattle.order.specs.Entries.{queueOf}
-use Rattle.order.proofs.Queues.{cut-more, cut-first}
+use Rattle.order.proofs.Queues.{cut-more, cut-first, cut-rising}
 use Rattle.order.proofs.moves.cut.Statement.{statement}
 use Rattle.order.proofs.moves.cut.Tie as tie
 
@@ -53,8 +53,11 @@ returns c =
     let s = c .before .loop .inv .1 in
     let by = a .queued - a .kept in
     let e : a .kept + by ≡ a .queued = omega arith in
-    let first = cut-first (a .order .now) (c .before .loop .order) by (a .kept) (λ k h. rw zero-add at (s .done k (omega arith))) in
-    (s .size ∙ c .before .before .pre .0, first ∙ ap (λ n. take (a .kept) (queueOf (a .order .now) n)) e)
+    let done : (k : ℕ) → k < a .kept → getD (c .before .loop .order) k 0 ≡ getD (a .order .now) (k + by) 0 = λ k h. rw zero-add at (s .done k (omega arith)) in
+    let first = cut-first (a .order .now) (c .before .loop .order) by (a .kept) done in (
+      (s .size ∙ c .before .before .pre .0, first ∙ ap (λ n. take (a .kept) (queueOf (a .order .now) n)) e),
+      λ r. cut-rising (a .order .now) (c .before .loop .order) by (a .kept) done (rw e r),
+    )
 
 pub cut-spec : {M : Type 1} → statement M
 cut-spec =

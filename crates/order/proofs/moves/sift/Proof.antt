@@ -6,7 +6,7 @@ use Prim.Native.Nat.{_-_, _≤_}
 use native.Mathlib.Omega.{arith}
 use Rattle.machine.specs.Queue.{ahead}
 use Rattle.order.specs.Entries.{keyAt, queueOf}
-use Rattle.order.proofs.Queues.{Sifted, sifted-none, sifted-in, sifted-out}
+use Rattle.order.proofs.Queues.{Sifted, sifted-none, sifted-in, sifted-out, sifted-rising}
 use Rattle.order.proofs.moves.sift.Statement.{statement}
 use Rattle.order.proofs.moves.sift.Tie as tie
 
@@ -56,8 +56,10 @@ returns : tie.Need-returns Inv-loop μ-loop
 returns c =
     let a = c .before .before .args in
     let s = c .before .loop .inv .1 in
-    let e : c .before .loop .i ≡ a .queued = omega arith in
-    (s .size ∙ c .before .before .pre .0, omega (arith, s .few), s .first ∙ ap (λ n. ahead keyAt (a .b) (queueOf (a .order .now) n)) e)
+    let e : c .before .loop .i ≡ a .queued = omega arith in (
+      (s .size ∙ c .before .before .pre .0, omega (arith, s .few), s .first ∙ ap (λ n. ahead keyAt (a .b) (queueOf (a .order .now) n)) e),
+      λ r. sifted-rising s (rw e r),
+    )
 
 pub sift-spec : {M : Type 1} → statement M
 sift-spec =
