@@ -6,7 +6,7 @@ ghost use Prim.Native.Nat.{ℕ, suc, _+_, _-_, _≤_, _<_};
 ghost use lib.ListN.{length};
 ghost use Rattle.outer.specs.Search.{Scratch};
 ghost use Rattle.reader.specs.Reader as R;
-ghost use Rattle.order.specs.Entries.{queueOf};
+ghost use Rattle.order.specs.Entries.{queueOf, Rising};
 ghost use Rattle.standing.specs.Seen.{memory, Lent};
 ghost use Rattle.standing.specs.Standing.{Stands};
 ghost use Rattle.steps.specs.Steps.{Forking, Copying};
@@ -44,11 +44,13 @@ fn fork(
 )
     requires { ⌜ Lent m paths (memory (now rows) (now holders) (now numbers) (now bytes)) × (length (now order) ≡ 256) × (queued + 2 ≤ paths) × (number < 32768) ⌝ }
     requires { ⌜ ((b : ℕ) × (blocks ≡ suc b) × (vs : List ℕ) × Forking m paths (memory (now rows) (now holders) (now numbers) (now bytes)) e to (queueOf (now order) queued) vs last found b) ⌝ }
+    requires { ⌜ Rising (now order) queued ⌝ }
     ensures { λ _. ⌜ Lent m paths (memory (now (rows .exit)) (now (holders .exit)) (now (numbers .exit)) (now (bytes .entry))) × (length (now (order .exit)) ≡ 256) ⌝ }
     ensures { λ _. ⌜ ((b : ℕ) (vs : List ℕ) (c : Forking m paths (memory (now (rows .entry)) (now (holders .entry)) (now (numbers .entry)) (now (bytes .entry))) e to (queueOf (now (order .entry)) queued) vs last found b)
         → blocks ≡ suc b → (let k = R.copyWith (c .hand .book) paths (c .hand .arrays) (c .hand .taken) b (c .hand .rest) number (some (c .word)) in
         Stands (c .hand .book) paths (memory (now (rows .exit)) (now (holders .exit)) (now (numbers .exit)) (now (bytes .entry))) (e ∷ queueOf (now (order .exit)) (suc queued)) vs
         (k .arrays) (c .hand .taken ∷ k .queue))) ⌝ }
+    ensures { λ _. ⌜ Rising (now (order .exit)) (suc queued) ⌝ }
 {
     let slot = slot_of(e);
     let cost = found.cost;
@@ -111,6 +113,7 @@ pub fn copy(
     requires { ⌜ Scratch (now words) (now sets) (now sums) × (2 ≤ s .paths) × (t .queued + 1 ≤ s .paths) × (t .next < 32768) × (t .crowded < 65536) ⌝ }
     requires { ⌜ ((b : ℕ) × (blocks ≡ suc b) × Copying (s .m) (s .paths) (memory (now rows) (now holders) (now numbers) (now bytes)) e (queueOf (now order) (t .queued))
         (queueOf (now vacant) (s .paths - (t .queued + 1))) (now kinds) (now terms) last kept b) ⌝ }
+    requires { ⌜ Rising (now order) (t .queued) ⌝ }
     ensures { λ _. ⌜ Lent (s .m) (s .paths) (memory (now (rows .exit)) (now (holders .exit)) (now (numbers .exit)) (now (bytes .entry)))
         × (length (now (order .exit)) ≡ 256) × (length (now (vacant .exit)) ≡ 256) × Scratch (now (words .exit)) (now (sets .exit)) (now (sums .exit)) ⌝ }
     ensures { λ r. ⌜ (r .extractions ≡ t .extractions) × (r .outrun ≡ t .outrun) × (r .queued + 1 ≤ s .paths) ⌝ }
@@ -120,6 +123,7 @@ pub fn copy(
         (r .queued ≡ length (k .queue)) × (r .next ≡ k .next) × (r .crowded ≡ t .crowded + length (k .crowded))
         × Stands (c .hand .book) (s .paths) (memory (now (rows .exit)) (now (holders .exit)) (now (numbers .exit)) (now (bytes .entry))) (e ∷ queueOf (now (order .exit)) (r .queued))
         (queueOf (now (vacant .exit)) (s .paths - (r .queued + 1))) (k .arrays) (c .hand .taken ∷ k .queue))) ⌝ }
+    ensures { λ r. ⌜ Rising (now (order .exit)) (r .queued) ⌝ }
 {
     let m = s.m;
     let paths = s.paths;

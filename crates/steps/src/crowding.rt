@@ -5,7 +5,7 @@ ghost use Prim.Native.Nat.{ℕ, _+_, _-_, _≤_};
 ghost use lib.IntN.{ℤ};
 ghost use lib.ListN.{length};
 ghost use Rattle.machine.specs.Queue.{roomFor};
-ghost use Rattle.order.specs.Entries.{queueOf};
+ghost use Rattle.order.specs.Entries.{queueOf, Rising};
 ghost use Rattle.sharing.specs.Sharing.{Sizes};
 ghost use Rattle.standing.specs.Seen.{memory};
 ghost use Rattle.standing.specs.Standing.{Stands, InHand};
@@ -26,6 +26,7 @@ pub fn crowd(
     requires { ⌜ Sizes (now rows) (now holders) × (length (now order) ≡ 256) × (length (now vacant) ≡ 256) × (m ≤ 9) ⌝ }
     requires { ⌜ (2 ≤ paths) × (paths ≤ 256) × (queued + 1 ≤ paths) ⌝ }
     requires { ⌜ ((e : ℕ) × (numbers : List ℤ) × (bytes : List ℕ) × InHand m paths (memory (now rows) (now holders) numbers bytes) e (queueOf (now order) queued) (queueOf (now vacant) (paths - (queued + 1)))) ⌝ }
+    requires { ⌜ Rising (now order) queued ⌝ }
     ensures { λ r. ⌜ (length (now (holders .exit)) ≡ 2570) × (length (now (order .exit)) ≡ 256) × (length (now (vacant .exit)) ≡ 256)
         × (r ≤ queued) × (r + 2 ≤ paths) ⌝ }
     ensures { λ r. ⌜ ((e : ℕ) (numbers : List ℤ) (bytes : List ℕ)
@@ -33,6 +34,7 @@ pub fn crowd(
         → (r ≡ length (roomFor paths (c .rest)))
         × Stands (c .book) paths (memory (now (rows .entry)) (now (holders .exit)) numbers bytes) (e ∷ queueOf (now (order .exit)) r) (queueOf (now (vacant .exit)) (paths - (r + 1)))
         (c .arrays) (c .taken ∷ roomFor paths (c .rest))) ⌝ }
+    ensures { λ r. ⌜ Rising (now (order .exit)) r ⌝ }
 {
     if queued + 2 <= paths {
         return queued;

@@ -12,7 +12,7 @@ use borrow.Author.Tests.{not-true, not-false}
 use Rattle.machine.specs.Queue.{roomFor}
 use Rattle.outer.specs.Blocks.{candidateOf}
 use Rattle.reader.specs.Reader as R
-use Rattle.order.specs.Entries.{queueOf}
+use Rattle.order.specs.Entries.{queueOf, Rising}
 use Rattle.order.proofs.Queues.{queue-first, queue-length}
 use Rattle.standing.specs.Seen.{Memory, memory}
 use Rattle.standing.specs.Standing.{Stands}
@@ -32,8 +32,8 @@ Copy s b =
     Copying (a .s .m) (a .s .paths) (at-start s) (a .e) (queueOf (a .order .now) (a .t .queued)) (queueOf (a .vacant .now) (a .s .paths - (a .t .queued + 1)))
     (a .kinds .now) (a .terms .now) (a .last) (a .kept) b
 
-own : (s : tie.Start) → Copy s (s .pre .1 .1 .0)
-own s = s .pre .1 .1 .2
+own : (s : tie.Start) → Copy s (s .pre .1 .1 .0 .0)
+own s = s .pre .1 .1 .0 .2
 
 other-word-requires : tie.Need-other-word-requires
 unfolding memory
@@ -68,9 +68,12 @@ returns c =
       (s .pre .0 .0, s .pre .0 .1, s .pre .0 .2, t .other-word .ensures .0),
       (
         (refl, refl, s .pre .1 .0 .2),
-        λ b o q.
-            let k = copy-none o (s .args .t .next) (s .args .t .crowded) (found-is t b o) (none-there c) in
-            (sym (queue-length (s .args .t .queued) (s .args .order .now)) ∙ k .0, k .1, k .2, k .3),
+        (
+          λ b o q.
+              let k = copy-none o (s .args .t .next) (s .args .t .crowded) (found-is t b o) (none-there c) in
+              (sym (queue-length (s .args .t .queued) (s .args .order .now)) ∙ k .0, k .1, k .2, k .3),
+          s .pre .1 .1 .1,
+        ),
       ),
     )
 
@@ -80,7 +83,7 @@ crowd-requires c κs =
     let s = start (c .before .before .before .before .before .before) in
     let l = s .pre .0 .0 in (
       (l .sizes, s .pre .0 .1, s .pre .0 .2, l .deep),
-      ((s .pre .1 .0 .1, l .many, s .pre .1 .0 .2), (s .args .e, s .args .numbers .now, s .args .bytes .now, own s .hand)),
+      ((s .pre .1 .0 .1, l .many, s .pre .1 .0 .2), ((s .args .e, s .args .numbers .now, s .args .bytes .now, own s .hand), s .pre .1 .1 .1)),
     )
 
 -- the search before the queue was cut
@@ -122,7 +125,7 @@ vacant-is c =
 -- what memory stands for once the queue is cut
 count : (c : tie.After-crowd) (b : ℕ) (o : Copy (start (searched c)) b) → c .crowd .result ≡ length (roomFor (start (searched c) .args .s .paths) (o .hand .rest))
 unfolding memory
-count c b o = let a = start (searched c) .args in c .crowd .ensures .1 (a .e) (a .numbers .now) (a .bytes .now) (o .hand) .0
+count c b o = let a = start (searched c) .args in c .crowd .ensures .1 .0 (a .e) (a .numbers .now) (a .bytes .now) (o .hand) .0
 
 left : (c : tie.After-crowd) (b : ℕ) (o : Copy (start (searched c)) b) → let a = start (searched c) .args in
     Stands (o .hand .book) (a .s .paths) (at-crowd c) (a .e ∷ queueOf (c .crowd .last .1 .1 .0) (c .crowd .result)) (slot c ∷ queueOf (c .crowd .last .1 .1 .1 .0) (top c))
@@ -130,7 +133,7 @@ left : (c : tie.After-crowd) (b : ℕ) (o : Copy (start (searched c)) b) → let
 unfolding memory
 left c b o =
     let a = start (searched c) .args in
-    rw (vacant-is c) at (c .crowd .ensures .1 (a .e) (a .numbers .now) (a .bytes .now) (o .hand) .1)
+    rw (vacant-is c) at (c .crowd .ensures .1 .0 (a .e) (a .numbers .now) (a .bytes .now) (o .hand) .1)
 
 -- what fork needs
 forking : (c : tie.After-crowd) (b : ℕ) (o : Copy (start (searched c)) b) → let a = start (searched c) .args in
@@ -155,7 +158,7 @@ fork-requires c κs =
         f .4,
         omega (arith, s .pre .1 .0 .3),
       ),
-      (s .pre .1 .1 .0, s .pre .1 .1 .1, queueOf (t .crowd .last .1 .1 .1 .0) (top t), forking t _ o),
+      ((s .pre .1 .1 .0 .0, s .pre .1 .1 .0 .1, queueOf (t .crowd .last .1 .1 .1 .0) (top t), forking t _ o), t .crowd .ensures .1 .1),
     )
 
 tallied-requires : tie.Need-tallied-requires
@@ -189,16 +192,19 @@ returns-2 c =
       (f .0 .0, f .0 .1, g .2, searched t .other-word .ensures .0),
       (
         (r .2, r .4, omega (arith, r .0, g .4)),
-        λ b o q.
-            let h = f .1 b (queueOf (t .crowd .last .1 .1 .1 .0) (top t)) (forking t b o) q in
-            let k = copy-done o (found-is (searched t) b o) (some-there t) (count t b o) (g .4) (left t b o) (s .args .t .next) (s .args .t .crowded) h in
-            let down : top t ≡ s .args .s .paths - (c .tallied .result .queued + 1) = omega (arith, r .0) in
-            let here = queue-length (s .args .t .queued) (s .args .order .now) in (
-              r .0 ∙ k .0,
-              r .1 ∙ k .1,
-              r .3 ∙ ap (λ (i : ℕ). s .args .t .crowded + (i - t .crowd .result)) (sym here) ∙ k .2,
-              subst (λ (i : ℕ). Ends u b o (c .tallied .result .queued) i) down (subst (λ (i : ℕ). Ends u b o i (top t)) (sym (r .0)) (k .3)),
-            ),
+        (
+          λ b o q.
+              let h = f .1 .0 b (queueOf (t .crowd .last .1 .1 .1 .0) (top t)) (forking t b o) q in
+              let k = copy-done o (found-is (searched t) b o) (some-there t) (count t b o) (g .4) (left t b o) (s .args .t .next) (s .args .t .crowded) h in
+              let down : top t ≡ s .args .s .paths - (c .tallied .result .queued + 1) = omega (arith, r .0) in
+              let here = queue-length (s .args .t .queued) (s .args .order .now) in (
+                r .0 ∙ k .0,
+                r .1 ∙ k .1,
+                r .3 ∙ ap (λ (i : ℕ). s .args .t .crowded + (i - t .crowd .result)) (sym here) ∙ k .2,
+                subst (λ (i : ℕ). Ends u b o (c .tallied .result .queued) i) down (subst (λ (i : ℕ). Ends u b o i (top t)) (sym (r .0)) (k .3)),
+              ),
+          subst (λ (i : ℕ). Rising (u .fork .last .1 .1 .0) i) (sym (r .0)) (f .1 .1),
+        ),
       ),
     )
 

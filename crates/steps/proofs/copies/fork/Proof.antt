@@ -57,8 +57,8 @@ Fork s b vs =
     let a = s .args in
     Forking (a .m) (a .paths) (at-start s) (a .e) (a .to) (queueOf (a .order .now) (a .queued)) vs (a .last) (a .found) b
 
-own : (s : tie.Start) → Fork s (s .pre .1 .0) (s .pre .1 .2)
-own s = s .pre .1 .3
+own : (s : tie.Start) → Fork s (s .pre .1 .0 .0) (s .pre .1 .0 .2)
+own s = s .pre .1 .0 .3
 
 -- the slot, and the cells read
 abbrev start : tie.After-earlier → tie.Start
@@ -89,7 +89,7 @@ entry-requires : tie.Need-entry-requires
 unfolding memory
 entry-requires c κs =
     let s = start (c .before) in
-    (omega (arith, ap natAbs (score-back c), c .score .ensures .1), omega (arith, s .pre .1 .1, fork-blocks (own s)), s .pre .0 .3, fork-apart (own s) .1)
+    (omega (arith, ap natAbs (score-back c), c .score .ensures .1), omega (arith, s .pre .1 .0 .1, fork-blocks (own s)), s .pre .0 .3, fork-apart (own s) .1)
 
 -- the score and the entry, for any state
 score-is : (c : tie.After-score) →
@@ -175,13 +175,13 @@ claim-requires c κs =
     let s = start (began u) in
     let o = own s in (
       (put-lent u, fork-apart o .1, fork-place o),
-      fork-viewed o (s .args .number) (entry-is u _ _ o (s .pre .1 .1)) (copied-in u _ _ o (s .pre .1 .1)),
+      fork-viewed o (s .args .number) (entry-is u _ _ o (s .pre .1 .0 .1)) (copied-in u _ _ o (s .pre .1 .0 .1)),
     )
 
 insert-requires : tie.Need-insert-requires
 insert-requires c κs =
     let s = start (began (c .before .before .before .before .before .before)) in
-    (s .pre .0 .1, omega (arith, s .pre .0 .2, s .pre .0 .0 .many))
+    ((s .pre .0 .1, omega (arith, s .pre .0 .2, s .pre .0 .0 .many)), s .pre .1 .1)
 
 same-length : tie.Need-same-length
 same-length c = search needs
@@ -191,9 +191,12 @@ unfolding memory
 returns c =
     let f = c .before .before .before .claim in
     let u = c .before .before .before .before .before .before .before in (
-      (f .ensures .0 .0, c .insert .ensures .0),
-      λ b vs o q.
-          rw (c .insert .ensures .1) (fork-queued o (start (began u) .args .number) (entry-is u b vs o q) (copied-in u b vs o q) (f .ensures .0 .1) (f .ensures .1)),
+      (f .ensures .0 .0, c .insert .ensures .0 .0),
+      (
+        λ b vs o q.
+            rw (c .insert .ensures .0 .1) (fork-queued o (start (began u) .args .number) (entry-is u b vs o q) (copied-in u b vs o q) (f .ensures .0 .1) (f .ensures .1)),
+        c .insert .ensures .1,
+      ),
     )
 
 pub fork-spec : {M : Type 1} → statement M

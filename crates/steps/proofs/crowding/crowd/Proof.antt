@@ -24,10 +24,13 @@ returns c =
     let a = c .before .args in
     let s = c .before .pre .0 in (
       (s .0 .holders-size, s .1, s .2, omega arith, omega arith),
-      λ e numbers bytes x.
-          let level : length (x .rest) ≡ a .queued = omega (arith, stands-length (x .stands), queue-length (a .queued) (a .order .now)) in
-          let room : roomFor (a .paths) (x .rest) ≡ x .rest = room-all (a .paths) (x .rest) (omega arith) in
-          (rw room (sym level), rw room (x .stands)),
+      (
+        λ e numbers bytes x.
+            let level : length (x .rest) ≡ a .queued = omega (arith, stands-length (x .stands), queue-length (a .queued) (a .order .now)) in
+            let room : roomFor (a .paths) (x .rest) ≡ x .rest = room-all (a .paths) (x .rest) (omega arith) in
+            (rw room (sym level), rw room (x .stands)),
+        c .before .pre .1 .1 .1,
+      ),
     )
 
 element-copy-out-slot-of : tie.Need-element-copy-out-slot-of
@@ -41,7 +44,7 @@ unfolding memory
 release-requires c κs =
     let t = c .before .before .before .before in
     let a = t .args in
-    let x = t .pre .1 .1 .3 in
+    let x = t .pre .1 .1 .0 .3 in
     let full : a .paths ≡ suc (a .queued) = omega arith in
     let q : a .queued ≡ suc (a .queued - 1) = omega arith in
     let held = last-held (a .order .now) (a .queued) (a .queued - 1) q (x .stands) in (
@@ -85,13 +88,16 @@ returns-2 c =
     let u : a .paths - (a .queued - 1 + 1) ≡ suc v = omega arith in
     let put : queueOf (set (a .vacant .now) v (slot .result)) (a .paths - (a .queued - 1 + 1)) ≡ slot .result ∷ queueOf (a .vacant .now) v =
     ap (queueOf (set (a .vacant .now) v (slot .result))) u ∙ queue-put v (a .vacant .now) (slot .result) (omega arith) in (
-      (c .before .before .release .ensures .0, c .cut .ensures .0, simp length-set (t .pre .0 .2), omega arith, omega arith),
-      λ e numbers bytes x.
-          let level : length (x .rest) ≡ a .queued = omega (arith, stands-length (x .stands), queue-length (a .queued) (a .order .now)) in
-          let less = rw (sym (x .deep), slot .ensures .0) at (c .before .before .release .ensures .1) in
-          let left = last-remove (a .order .now) (a .queued) (a .queued - 1) q (x .stands) (c .before .before .release .last .1 .0) (omega arith) less in
-          let room = room-cut (a .paths) (a .queued - 1) (x .rest) d in
-          (rw room (sym (length-take-le (a .queued - 1) (x .rest) (omega arith))), rw (room, put, c .cut .ensures .1, slot .ensures .0) left),
+      (c .before .before .release .ensures .0, c .cut .ensures .0 .0, simp length-set (t .pre .0 .2), omega arith, omega arith),
+      (
+        λ e numbers bytes x.
+            let level : length (x .rest) ≡ a .queued = omega (arith, stands-length (x .stands), queue-length (a .queued) (a .order .now)) in
+            let less = rw (sym (x .deep), slot .ensures .0) at (c .before .before .release .ensures .1) in
+            let left = last-remove (a .order .now) (a .queued) (a .queued - 1) q (x .stands) (c .before .before .release .last .1 .0) (omega arith) less in
+            let room = room-cut (a .paths) (a .queued - 1) (x .rest) d in
+            (rw room (sym (length-take-le (a .queued - 1) (x .rest) (omega arith))), rw (room, put, c .cut .ensures .0 .1, slot .ensures .0) left),
+        c .cut .ensures .1 (t .pre .1 .1 .1),
+      ),
     )
 
 pub crowd-spec : {M : Type 1} → statement M
