@@ -7,7 +7,7 @@ ghost use lib.ListN.{length, getD};
 ghost use Rattle.machine.specs.Queue.{ahead, behind, visit};
 ghost use Rattle.reader.specs.Paths.{keyOf};
 ghost use Rattle.reader.specs.Reader.{staying, outrunBy};
-ghost use Rattle.order.specs.Entries.{keyAt, queueOf};
+ghost use Rattle.order.specs.Entries.{keyAt, queueOf, Rising};
 ghost use Rattle.sharing.specs.Sharing.{Sizes};
 ghost use Rattle.standing.specs.Seen.{memory};
 ghost use Rattle.standing.specs.Standing.{Stands};
@@ -68,6 +68,7 @@ pub fn outrun(
     requires { ⌜ Sizes (now rows) (now holders) × (length (now order) ≡ 256) × (length (now vacant) ≡ 256) × (length (now visits) ≡ 512) × (s .m ≤ 9) ⌝ }
     requires { ⌜ (s .paths ≤ 256) × (t .queued ≤ s .paths) × (b < 512) × (getD (now visits) b 0 < 65536) × (t .outrun < 16777216) ⌝ }
     requires { ⌜ ((numbers : List ℤ) × (bytes : List ℕ) × Queued (s .m) (s .paths) (memory (now rows) (now holders) numbers bytes) (queueOf (now order) (t .queued)) (queueOf (now vacant) (s .paths - t .queued))) ⌝ }
+    requires { ⌜ Rising (now order) (t .queued) ⌝ }
     ensures { λ r. ⌜ (length (now (holders .exit)) ≡ 2570) × (length (now (order .exit)) ≡ 256) × (length (now (vacant .exit)) ≡ 256)
         × (now (visits .exit) ≡ visit (now (visits .entry)) b) × (r .next ≡ t .next) × (r .extractions ≡ t .extractions) × (r .crowded ≡ t .crowded)
         × (r .queued ≤ s .paths) ⌝ }
@@ -78,6 +79,7 @@ pub fn outrun(
         × (r .outrun ≡ t .outrun + length (outrunBy (c .book) (s .visits) b (visit (now (visits .entry)) b) (c .paths)))
         × Stands (c .book) (s .paths) (memory (now (rows .entry)) (now (holders .exit)) numbers bytes) (queueOf (now (order .exit)) (r .queued))
         (queueOf (now (vacant .exit)) (s .paths - r .queued)) (c .arrays) left)) ⌝ }
+    ensures { λ r. ⌜ Rising (now (order .exit)) (r .queued) ⌝ }
 {
     let seen = visits[b] + 1;
     visits[b] = seen;

@@ -41,10 +41,13 @@ returns c =
     let s = t .pre .0 in
     let seen = visit-seen (a .visits .now) (a .b) (omega arith) in (
       (s .0 .holders-size, s .1, s .2, visited t, refl, refl, refl, omega arith),
-      λ numbers bytes x.
-          let stay = stay-all (x .book) (a .s .visits) (a .b) (visit (a .visits .now) (a .b)) (x .paths) (omega (arith, seen, c .if1 .taken)) in
-          let level : a .t .queued ≡ length (x .paths) = omega (arith, stands-length (x .stands), queue-length (a .t .queued) (a .order .now)) in
-          (rw (stay .0) level, rw (stay .1) (omega arith), rw (stay .0) (x .stands)),
+      (
+        λ numbers bytes x.
+            let stay = stay-all (x .book) (a .s .visits) (a .b) (visit (a .visits .now) (a .b)) (x .paths) (omega (arith, seen, c .if1 .taken)) in
+            let level : a .t .queued ≡ length (x .paths) = omega (arith, stands-length (x .stands), queue-length (a .t .queued) (a .order .now)) in
+            (rw (stay .0) level, rw (stay .1) (omega arith), rw (stay .0) (x .stands)),
+        t .pre .1 .1 .1,
+      ),
     )
 
 cast-dismiss : tie.Need-cast-dismiss
@@ -72,17 +75,20 @@ returns-2 c =
     let gone = c .before .before .before .dismiss in
     let left = c .before .sift in
     let seen = visit-seen (a .visits .now) (a .b) (omega arith) in (
-      (gone .ensures .0 .0, left .ensures .0, gone .ensures .0 .1, visited t, refl, refl, refl, omega (arith, left .ensures .1)),
-      λ numbers bytes x.
-          let w = gone .ensures .1 numbers bytes x in
-          let stay =
-          stay-ahead (x .book) (a .s .visits) (a .b) (visit (a .visits .now) (a .b)) (x .paths) (omega (arith, seen, c .before .before .before .before .before .before .before .if1 .left)) in
-          let level : length (x .paths) ≡ a .t .queued = omega (arith, stands-length (x .stands), queue-length (a .t .queued) (a .order .now)) in
-          let many : left .result ≡ length (ahead (keyOf (x .book)) (a .b) (x .paths)) =
-          sym (queue-length (left .result) (left .last .0)) ∙ ap length (left .ensures .2) ∙ stands-length (w .1) in
-          let slots : a .s .paths - left .result ≡ a .s .paths - a .t .queued + gone .result =
-          omega (arith, sides-length (keyOf (x .book)) (a .b) (x .paths), w .0) in
-          (rw (stay .0) many, rw (stay .1) (ap (λ n. a .t .outrun + n) (w .0)), rw (stay .0, slots, left .ensures .2) (w .1)),
+      (gone .ensures .0 .0, left .ensures .0 .0, gone .ensures .0 .1, visited t, refl, refl, refl, omega (arith, left .ensures .0 .1)),
+      (
+        λ numbers bytes x.
+            let w = gone .ensures .1 numbers bytes x in
+            let stay =
+            stay-ahead (x .book) (a .s .visits) (a .b) (visit (a .visits .now) (a .b)) (x .paths) (omega (arith, seen, c .before .before .before .before .before .before .before .if1 .left)) in
+            let level : length (x .paths) ≡ a .t .queued = omega (arith, stands-length (x .stands), queue-length (a .t .queued) (a .order .now)) in
+            let many : left .result ≡ length (ahead (keyOf (x .book)) (a .b) (x .paths)) =
+            sym (queue-length (left .result) (left .last .0)) ∙ ap length (left .ensures .0 .2) ∙ stands-length (w .1) in
+            let slots : a .s .paths - left .result ≡ a .s .paths - a .t .queued + gone .result =
+            omega (arith, sides-length (keyOf (x .book)) (a .b) (x .paths), w .0) in
+            (rw (stay .0) many, rw (stay .1) (ap (λ n. a .t .outrun + n) (w .0)), rw (stay .0, slots, left .ensures .0 .2) (w .1)),
+        left .ensures .1 (t .pre .1 .1 .1),
+      ),
     )
 
 pub outrun-spec : {M : Type 1} → statement M
