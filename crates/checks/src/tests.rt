@@ -1,23 +1,35 @@
 // Checks of what a decoding call is lent.
 ghost use mathlib.Core.Path.{_≡_};
 ghost use Prim.Native.Nat.{_≤_};
+ghost use lib.Dec.{leb};
+ghost use lib.IntN.{natAbs};
 ghost use Rattle.machine.specs.Calls.{valuesOk};
 ghost use Rattle.checks.specs.Checks.{lengthsFit};
 use crate::Lengths;
 
-// Whether every value lies in -2,047 to 2,047.
+// Whether a value lies in -2,047 to 2,047.
+fn value_ok(v: i16) -> bool
+    ensures { λ r. ⌜ r ≡ leb (natAbs v) 2047 ⌝ }
+{
+    if v < -2047 || 2047 < v {
+        return false;
+    }
+    true
+}
+
+// Whether every value does. No early return, so that the compiler tests several at once.
 pub fn values_ok(values: &[i16]) -> bool
     ensures { λ r. ⌜ r ≡ valuesOk (now (values .entry)) ⌝ }
 {
+    let mut faults: u16 = 0;
     let mut i: usize = 0;
     while i < values.len() {
-        let v = values[i];
-        if v < -2047 || 2047 < v {
-            return false;
+        if !value_ok(values[i]) {
+            faults = 1;
         }
         i += 1;
     }
-    true
+    faults == 0
 }
 
 // Whether the lengths are right for a book with n, k and so many blocks, and the settings L and D.
