@@ -7,7 +7,7 @@ ghost use Rattle.machine.specs.Queue as Q;
 ghost use Rattle.outer.specs.Search.{Scratch};
 ghost use Rattle.reader.specs.Reader as R;
 ghost use Rattle.reader.specs.Paths.{keyOf};
-ghost use Rattle.order.specs.Entries.{queueOf};
+ghost use Rattle.order.specs.Entries.{queueOf, Rising};
 ghost use Rattle.standing.specs.Seen.{memory, Lent};
 ghost use Rattle.standing.specs.Standing.{Stands};
 ghost use Rattle.words.specs.Kept.{KeptIs};
@@ -52,6 +52,7 @@ fn second(
     requires { ⌜ Scratch (now words) (now sets) (now sums) × (2 ≤ s .paths) × (t .queued + 1 ≤ s .paths) × (t .next < 32768) × (t .crowded < 65536) ⌝ }
     requires { ⌜ Seconding (s .m) (s .paths) (memory (now rows) (now holders) (now numbers) (now bytes)) e (queueOf (now order) (t .queued))
         (queueOf (now vacant) (s .paths - (t .queued + 1))) (now kinds) (now terms) last kept ⌝ }
+    requires { ⌜ Rising (now order) (t .queued) ⌝ }
     ensures { λ _. ⌜ Lent (s .m) (s .paths) (memory (now (rows .exit)) (now (holders .exit)) (now (numbers .exit)) (now (bytes .entry)))
         × (length (now (order .exit)) ≡ 256) × (length (now (vacant .exit)) ≡ 256) × Scratch (now (words .exit)) (now (sets .exit)) (now (sums .exit)) ⌝ }
     ensures { λ r. ⌜ (r .extractions ≡ t .extractions) × (r .outrun ≡ t .outrun) × (r .queued + 1 ≤ s .paths) ⌝ }
@@ -61,6 +62,7 @@ fn second(
         (r .queued ≡ length (k .queue)) × (r .next ≡ k .next) × (r .crowded ≡ t .crowded + length (k .crowded))
         × Stands (c .hand .book) (s .paths) (memory (now (rows .exit)) (now (holders .exit)) (now (numbers .exit)) (now (bytes .entry))) (e ∷ queueOf (now (order .exit)) (r .queued))
         (queueOf (now (vacant .exit)) (s .paths - (r .queued + 1))) (k .arrays) (c .hand .taken ∷ k .queue))) ⌝ }
+    ensures { λ r. ⌜ Rising (now (order .exit)) (r .queued) ⌝ }
 {
     let blocks = blocks_of(e);
     if blocks == 0 {
@@ -108,6 +110,7 @@ fn third(
 ) -> Kept
     requires { ⌜ Lent m paths (memory (now rows) (now holders) (now numbers) (now bytes)) × (length (now order) ≡ 256) × (queued + 1 ≤ paths) × Scratch (now words) (now sets) (now sums) ⌝ }
     requires { ⌜ ((vs : List ℕ) × Thirding m paths (memory (now rows) (now holders) (now numbers) (now bytes)) e (queueOf (now order) queued) vs (now kinds) (now terms) last at) ⌝ }
+    requires { ⌜ Rising (now order) queued ⌝ }
     ensures { λ _. ⌜ Lent m paths (memory (now (rows .exit)) (now (holders .exit)) (now (numbers .exit)) (now (bytes .exit)))
         × (length (now (order .exit)) ≡ 256) × Scratch (now (words .exit)) (now (sets .exit)) (now (sums .exit)) ⌝ }
     ensures { λ r. ⌜ ((vs : List ℕ) (c : Thirding m paths (memory (now (rows .entry)) (now (holders .entry)) (now (numbers .entry)) (now (bytes .entry))) e (queueOf (now (order .entry)) queued) vs (now (kinds .entry)) (now (terms .entry)) last at)
@@ -115,6 +118,7 @@ fn third(
         Stands (h .book) paths (memory (now (rows .exit)) (now (holders .exit)) (now (numbers .exit)) (now (bytes .exit))) (queueOf (now (order .exit)) (suc queued)) vs
         (k .arrays) (Q.insert (keyOf (h .book)) (k .path) (h .rest))
         × KeptIs (h .book) m (now (rows .exit)) (now (numbers .exit)) r)) ⌝ }
+    ensures { λ _. ⌜ Rising (now (order .exit)) (suc queued) ⌝ }
 {
     calculate(rows, holders, numbers, bytes, m, paths, e, last, at);
     let slot = slot_of(e);
@@ -169,6 +173,7 @@ pub fn extract(
     requires { ⌜ ((b : ℕ) → getD (now visits) b 0 < 65536) ⌝ }
     requires { ⌜ Extracting (s .m) (s .paths) (memory (now rows) (now holders) (now numbers) (now bytes)) e (queueOf (now order) (t .queued))
         (queueOf (now vacant) (s .paths - (t .queued + 1))) (now kinds) (now terms) last at kept ⌝ }
+    requires { ⌜ Rising (now order) (t .queued) ⌝ }
     ensures { λ _. ⌜ Lent (s .m) (s .paths) (memory (now (rows .exit)) (now (holders .exit)) (now (numbers .exit)) (now (bytes .exit)))
         × (length (now (order .exit)) ≡ 256) × (length (now (vacant .exit)) ≡ 256) × (length (now (visits .exit)) ≡ 512) × Scratch (now (words .exit)) (now (sets .exit)) (now (sums .exit)) ⌝ }
     ensures { λ r. ⌜ (r .tally .extractions ≡ t .extractions) × (r .tally .queued ≤ s .paths) ⌝ }
@@ -180,6 +185,7 @@ pub fn extract(
         × Stands (c .hand .book) (s .paths) (memory (now (rows .exit)) (now (holders .exit)) (now (numbers .exit)) (now (bytes .exit))) (queueOf (now (order .exit)) (r .tally .queued))
         (queueOf (now (vacant .exit)) (s .paths - r .tally .queued)) (k .state .arrays) (k .state .queue)
         × KeptIs (c .hand .book) (s .m) (now (rows .exit)) (now (numbers .exit)) (r .kept))) ⌝ }
+    ensures { λ r. ⌜ Rising (now (order .exit)) (r .tally .queued) ⌝ }
 {
     let m = s.m;
     let paths = s.paths;

@@ -8,7 +8,7 @@ use native.Mathlib.Omega.{arith}
 use borrow.Author.Needs.{needs}
 use lib.ListN.{length}
 use Rattle.reader.specs.Reader.{copy}
-use Rattle.order.specs.Entries.{queueOf}
+use Rattle.order.specs.Entries.{queueOf, Rising}
 use Rattle.standing.specs.Seen.{Memory, memory}
 use Rattle.standing.specs.Standing.{Stands}
 use Rattle.words.specs.Kept.{KeptIs}
@@ -28,14 +28,14 @@ Extract s =
     (a .kinds .now) (a .terms .now) (a .last) (a .at) (a .kept)
 
 own : (s : tie.Start) → Extract s
-own s = s .pre .1 .1 .1
+own s = s .pre .1 .1 .1 .0
 
 second-requires : tie.Need-second-requires
 second-requires c κs =
     let s = c .before .before .before .before .before .before .before .before .before .before in
     let p = s .pre .0 in
     let q = s .pre .1 .0 in
-    ((p .0, p .1, p .2), ((q .0, q .1, q .2, q .3, q .4), extract-seconding (own s)))
+    ((p .0, p .1, p .2), ((q .0, q .1, q .2, q .3, q .4), (extract-seconding (own s), s .pre .1 .1 .1 .1)))
 
 -- after the copy, for any state
 abbrev start : tie.After-second → tie.Start
@@ -55,14 +55,14 @@ copied : (c : tie.After-second) (o : Extract (start c)) → let a = start c .arg
     let k = copy (d .hand .book) (a .s .paths) (d .hand .arrays) (d .hand .taken) (d .hand .rest) (a .t .next) (d .hand .taken .blocks) in
     (c .second .result .queued ≡ length (k .queue)) × (c .second .result .next ≡ k .next) × (c .second .result .crowded ≡ a .t .crowded + length (k .crowded))
     × Stands (d .hand .book) (a .s .paths) (at-second c) (a .e ∷ entries c) (vacants c) (k .arrays) (d .hand .taken ∷ k .queue)
-copied c o = c .second .ensures .1 .1 (extract-seconding o)
+copied c o = c .second .ensures .1 .1 .0 (extract-seconding o)
 
 third-requires : tie.Need-third-requires
 third-requires c κs =
     let t = c .before .before .before .before .before .before .before .before .before in
     let a = start t .args in
     let f = t .second .ensures in
-    ((f .0 .0, f .0 .1, f .1 .0 .2, f .0 .3), (vacants t, extract-thirding (own (start t)) (a .t .next) (a .t .crowded) (copied t (own (start t)))))
+    ((f .0 .0, f .0 .1, f .1 .0 .2, f .0 .3), ((vacants t, extract-thirding (own (start t)) (a .t .next) (a .t .crowded) (copied t (own (start t)))), f .1 .1 .1))
 
 -- after the move, for any state
 abbrev seconded : tie.After-third → tie.After-second
@@ -79,7 +79,7 @@ moved c o =
     let a = start t .args in
     let one : suc (t .second .result .queued) ≡ t .second .result .queued + 1 = omega arith in
     subst (λ (i : ℕ). MovedTo o (a .t .next) (a .t .crowded) (copied t o) (at-third c) (queueOf (c .third .last .1 .1 .0) i)) one
-    (c .third .ensures .1 (vacants t) (extract-thirding o (a .t .next) (a .t .crowded) (copied t o)) .0)
+    (c .third .ensures .1 .0 (vacants t) (extract-thirding o (a .t .next) (a .t .crowded) (copied t o)) .0)
 
 -- the word kept, for any state
 kept : (c : tie.After-third) (o : Extract (start (seconded c))) → let a = start (seconded c) .args in
@@ -87,7 +87,7 @@ kept : (c : tie.After-third) (o : Extract (start (seconded c))) → let a = star
 kept c o =
     let t = seconded c in
     let a = start t .args in
-    extract-kept o (a .t .next) (a .t .crowded) (copied t o) (c .third .ensures .1 (vacants t) (extract-thirding o (a .t .next) (a .t .crowded) (copied t o)) .1)
+    extract-kept o (a .t .next) (a .t .crowded) (copied t o) (c .third .ensures .1 .0 (vacants t) (extract-thirding o (a .t .next) (a .t .crowded) (copied t o)) .1)
 
 add-x : tie.Need-add-x
 add-x c = search needs
@@ -126,12 +126,15 @@ returns c =
       ),
       (
         (f .0 .5 ∙ t .second .ensures .1 .0 .0, f .0 .7),
-        λ o.
-            let q = extract-queued o (a .t .next) (a .t .crowded) (copied t o) (moved u o) in
-            let k =
-            extract-done o (a .t .next) (a .t .crowded) (copied t o) (moved u o) (a .s .visits) (a .visits .now) (t .second .result .outrun) b (c .before .blocks-of .ensures)
-            (f .1 (u .third .last .1 .1 .1 .0) (u .third .last .1 .1 .1 .1 .0) q) in
-            (k .0, f .0 .4 ∙ k .1, f .0 .3 ∙ k .2, f .0 .6 ∙ k .3, omega (arith, k .4, t .second .ensures .1 .0 .1), k .5, kept u o),
+        (
+          λ o.
+              let q = extract-queued o (a .t .next) (a .t .crowded) (copied t o) (moved u o) in
+              let k =
+              extract-done o (a .t .next) (a .t .crowded) (copied t o) (moved u o) (a .s .visits) (a .visits .now) (t .second .result .outrun) b (c .before .blocks-of .ensures)
+              (f .1 .0 (u .third .last .1 .1 .1 .0) (u .third .last .1 .1 .1 .1 .0) q) in
+              (k .0, f .0 .4 ∙ k .1, f .0 .3 ∙ k .2, f .0 .6 ∙ k .3, omega (arith, k .4, t .second .ensures .1 .0 .1), k .5, kept u o),
+          f .1 .1,
+        ),
       ),
     )
 
@@ -143,6 +146,7 @@ outrun-requires c κs =
     let s = start t in
     let a = s .args in
     let o = own s in
+    let one : suc (t .second .result .queued) ≡ t .second .result .queued + 1 = omega arith in
     let l = u .third .ensures .0 in (
       (l .0 .sizes, l .1, t .second .ensures .0 .2, s .pre .0 .3, l .0 .deep),
       (
@@ -154,9 +158,12 @@ outrun-requires c κs =
           omega (arith, t .second .ensures .1 .0 .1, s .pre .1 .0 .5),
         ),
         (
-          u .third .last .1 .1 .1 .0,
-          u .third .last .1 .1 .1 .1 .0,
-          extract-queued o (a .t .next) (a .t .crowded) (copied t o) (moved u o),
+          (
+            u .third .last .1 .1 .1 .0,
+            u .third .last .1 .1 .1 .1 .0,
+            extract-queued o (a .t .next) (a .t .crowded) (copied t o) (moved u o),
+          ),
+          subst (Rising (u .third .last .1 .1 .0)) one (u .third .ensures .1 .1),
         ),
       ),
     )

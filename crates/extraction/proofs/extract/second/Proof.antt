@@ -22,9 +22,12 @@ returns c =
       (s .pre .0 .0, s .pre .0 .1, s .pre .0 .2, s .pre .1 .0 .0),
       (
         (refl, refl, s .pre .1 .0 .2),
-        λ o.
-            let k = second-none o (a .t .next) (a .t .crowded) none in
-            (sym (queue-length (a .t .queued) (a .order .now)) ∙ k .0, k .1, k .2, k .3),
+        (
+          λ o.
+              let k = second-none o (a .t .next) (a .t .crowded) none in
+              (sym (queue-length (a .t .queued) (a .order .now)) ∙ k .0, k .1, k .2, k .3),
+          s .pre .1 .1 .1,
+        ),
       ),
     )
 
@@ -39,7 +42,7 @@ copy-requires : tie.Need-copy-requires
 copy-requires c κs =
     let t = c .before .before .before .before .before .before .before .before in
     let s = start t in
-    (s .pre .0, (s .pre .1 .0, (_, some-blocks t .0, second-copying (s .pre .1 .1) (some-blocks t .1))))
+    (s .pre .0, (s .pre .1 .0, ((_, some-blocks t .0, second-copying (s .pre .1 .1 .0) (some-blocks t .1)), s .pre .1 .1 .1)))
 
 same-length : tie.Need-same-length
 same-length c = search needs
@@ -48,8 +51,16 @@ returns-2 : tie.Need-returns-2
 returns-2 c =
     let f = c .before .copy .ensures in
     let t = c .before .before .before .before .before .before .before .before .before .before in
-    let a = start t .args in
-    (f .0, (f .1 .0, λ o. second-done o (some-blocks t .1) (a .t .next) (a .t .crowded) (f .1 .1 _ (second-copying o (some-blocks t .1)) (some-blocks t .0))))
+    let a = start t .args in (
+      f .0,
+      (
+        f .1 .0,
+        (
+          λ o. second-done o (some-blocks t .1) (a .t .next) (a .t .crowded) (f .1 .1 .0 _ (second-copying o (some-blocks t .1)) (some-blocks t .0)),
+          f .1 .1 .1,
+        ),
+      ),
+    )
 
 pub second-spec : {M : Type 1} → statement M
 second-spec = tie.close (tie.spec blocks-of-requires returns copy-requires same-length returns-2)

@@ -69,8 +69,8 @@ Third s vs =
     let a = s .args in
     Thirding (a .m) (a .paths) (at-start s) (a .e) (queueOf (a .order .now) (a .queued)) vs (a .kinds .now) (a .terms .now) (a .last) (a .at)
 
-own : (s : tie.Start) → Third s (s .pre .1 .0)
-own s = s .pre .1 .1
+own : (s : tie.Start) → Third s (s .pre .1 .0 .0)
+own s = s .pre .1 .0 .1
 
 -- the memory once the values are there, and the slot
 abbrev made : tie.After-slot-of → tie.After-calculate
@@ -216,7 +216,7 @@ entry-requires c κs =
 insert-requires : tie.Need-insert-requires
 insert-requires c κs =
     let s = start (made (slotted (searched (written (c .before .before .before .before))))) in
-    (s .pre .0 .1, omega (arith, s .pre .0 .2, s .pre .0 .0 .many))
+    ((s .pre .0 .1, omega (arith, s .pre .0 .2, s .pre .0 .0 .many)), s .pre .1 .1)
 
 -- the score and the entry
 abbrev total : tie.After-score → ℕ
@@ -282,15 +282,18 @@ returns c =
           numbers = l .numbers;
           bytes = l .bytes;
         },
-        i .insert .ensures .0,
+        i .insert .ensures .0 .0,
         u .nearest-words .ensures .0,
       ),
-      λ vs o.
-          let st = values-there (made t) vs o in
-          let d = packed (i .before .before) in (
-            rw (i .insert .ensures .1) (third-queued o st (found-is u vs o) (score-is (i .before .before .before .before .before)) d (put-is p)),
-            third-kept o (l .deep) (at-made (made t) .rows) (at-made (made t) .numbers) (u .nearest-words .result) (third-found o st (found-is u vs o)) (two-found u vs o) (put-is p) d refl,
-          ),
+      (
+        λ vs o.
+            let st = values-there (made t) vs o in
+            let d = packed (i .before .before) in (
+              rw (i .insert .ensures .0 .1) (third-queued o st (found-is u vs o) (score-is (i .before .before .before .before .before)) d (put-is p)),
+              third-kept o (l .deep) (at-made (made t) .rows) (at-made (made t) .numbers) (u .nearest-words .result) (third-found o st (found-is u vs o)) (two-found u vs o) (put-is p) d refl,
+            ),
+        i .insert .ensures .1,
+      ),
     )
 
 pub third-spec : {M : Type 1} → statement M
