@@ -13,12 +13,13 @@ pub record TieOk (i : ℕ) (terms : List ℕ) : Type 0 where
   pub earlier : All (λ (t : ℕ). t < i) terms
   pub once : Distinct terms
 
+-- a kind at index i keeps the limits: only a tie has any
 unfoldable pub KindOk : ℕ → Kind → Type 0
 KindOk i free = Unit {0}
 KindOk i frozen = Unit {0}
 KindOk i (tied terms) = TieOk i terms
 
--- the kinds of the indices from i on
+-- so do the kinds of the indices from i on
 unfoldable pub KindsOk : ℕ → List Kind → Type 0
 KindsOk i [] = Unit {0}
 KindsOk i (k ∷ ks) = KindOk i k × KindsOk (suc i) ks

@@ -94,7 +94,7 @@ placed s byte =
     (cond (eqb byte 0x05) (filled && not reached)
     (begun && reached))))
 
--- Why a command that may stand here, with all its operands, is refused: 4, then 5, then 6. An index's count is above 0 and goes no further
+-- Why a command that may stand here, with all its operands, is refused: 4, then 5, then 6. A count is above 0 and goes no further
 -- than n; a tie names an earlier index, a term one that the tie does not name yet; at most 32 indices are tied; a block has j at most 5,
 -- starts at a multiple of its length, goes no further than n, has a bias in range and at most 8 free indices.
 unfoldable pub fault : Loading → Command → Option Refusal
@@ -116,6 +116,7 @@ fault s End = none
 unfoldable pub grown : Loading → List Kind → Loading
 grown s ks = record { m = s .m; kinds = s .kinds ++ ks; ties = s .ties; tying = false; blocks = s .blocks; covered = s .covered }
 
+-- what is loaded after a command that is not refused
 unfoldable pub next : Loading → Command → Loading
 next s (Length m) = record { m = m; kinds = []; ties = 0; tying = false; blocks = []; covered = 0 }
 next s (Free count) = grown s (replicate count free)

@@ -34,6 +34,7 @@ pub record Tables : Type 0 where
   pub biases : List ℤ
   pub frees : List ℕ
 
+-- the tables of a book
 unfoldable pub tablesOf : Book → Tables
 tablesOf B =
     let blocks = length (B .blocks) in

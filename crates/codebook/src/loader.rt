@@ -29,6 +29,7 @@ fn held(
     ensures { λ _. ⌜ Sized (tables kinds terms heights starts biases frees) ⌝ }
 {}
 
+// The same of arrays behind references.
 fn sized(
     kinds: &[u8; 512],
     terms: &[u32; 512],
@@ -42,6 +43,7 @@ fn sized(
     held(*kinds, *terms, *heights, *starts, *biases, *frees);
 }
 
+// The answer of a refusal: zeros beside it.
 fn refuse(r: Refusal) -> Sizes
     ensures { λ x. ⌜ x ≡ sizesOf (refused r) ⌝ }
 {

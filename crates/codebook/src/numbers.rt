@@ -1,9 +1,10 @@
-// The numbers of refusals and outcomes: document 01, "Refusal table".
+// The numbers of refusals and outcomes: document 01, "Refusal table". Relies on no other file; specs/Refusals.antt has the same numbers.
 use crate::Outcome;
 use crate::Refusal;
 ghost use mathlib.Core.Path.{_≡_};
 ghost use Rattle.codebook.specs.Refusals.{number, outcomeNumber};
 
+// A refusal's number.
 pub fn refusal_number(r: Refusal) -> u32
     ensures { λ x. ⌜ x ≡ number r ⌝ }
 {
@@ -22,7 +23,7 @@ pub fn refusal_number(r: Refusal) -> u32
     }
 }
 
-// 0, or the refusal's.
+// An outcome's number: 0, or the refusal's.
 pub fn outcome_number(o: Outcome) -> u32
     ensures { λ x. ⌜ x ≡ outcomeNumber o ⌝ }
 {

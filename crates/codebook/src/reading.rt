@@ -8,6 +8,7 @@ ghost use lib.ListN.{length, take, drop};
 ghost use Rattle.codebook.specs.Loading.{listed, width, bigEndian, signed, command};
 ghost use Rattle.codebook.specs.Progress.{readAt};
 
+// A byte, widened.
 fn wide(x: u8) -> u32
     ensures { λ r. ⌜ (r ≡ x) × (r < 256) ⌝ }
 {
@@ -47,6 +48,7 @@ fn signed_of(x: u32) -> i32
     -low - 1
 }
 
+// Whether a byte is a listed command byte.
 fn is_listed(byte: u8) -> bool
     ensures { λ r. ⌜ r ≡ listed byte ⌝ }
 {

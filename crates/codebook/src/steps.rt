@@ -146,6 +146,7 @@ fn index(
     tie(p, whole, i, kinds, terms)
 }
 
+// Whether a bias is in range.
 fn in_range(bias: i32) -> bool
     ensures { λ r. ⌜ r ≡ leb (natAbs bias) 1048576 ⌝ }
 {

@@ -1,4 +1,4 @@
-// What the loader's steps compute and store: powers of two, runs of codes, a set of ties cleared, free indices counted. Relies on no other
+// What the loader's steps compute and store: powers of two, runs of codes, sets of ties cleared, free indices counted. Relies on no other
 // file.
 
 ghost use mathlib.Core.Path.{_≡_};
@@ -6,6 +6,7 @@ ghost use Prim.Native.Nat.{_+_, _^_, _<_, _≤_};
 ghost use lib.ListN.{length, take, drop, replicate};
 ghost use Rattle.codebook.specs.Progress.{Extends, freeCodes};
 
+// 2^e.
 pub fn power(e: u32) -> u32
     requires { ⌜ e < 32 ⌝ }
     ensures { λ r. ⌜ r ≡ 2 ^ e ⌝ }

@@ -1,4 +1,5 @@
--- Bits tested, and fields of bits written and read, one bit more each time: what the loops of src/fields.rt do in one turn, and the calls of src/hook.rt. Assumes nothing.
+-- Bits tested, and fields of bits written and read, one bit more each time: what the loops of src/fields.rt do in one turn, and the calls of
+-- src/hook.rt. Assumes nothing.
 use mathlib.Core.Path.{_≡_, refl, sym, ap, ap₂, _∙_}
 use mathlib.Core.Bool.{true, false, _&&_}
 use mathlib.Core.List.{List, _++_}

@@ -1,4 +1,5 @@
--- Ties kept as parities (002, Figure 3): of each tie the sum modulo 2 of the named bits so far. No path keeps its bits. Assumes nothing.
+-- Ties kept as parities (002, Figure 3): of each tie the sum modulo 2 of the named bits so far, so that a path of the reader need not keep its
+-- bits. Assumes nothing.
 use mathlib.Core.Bool.{cond}
 use mathlib.Core.List.{List, [], _∷_}
 use Prim.Native.Nat.{ℕ, suc, _+_, _*_, _%_}
@@ -11,7 +12,7 @@ use Rattle.polar.specs.Bits.{toBits}
 abbrev pub Parities : Type 0
 Parities = ℕ → ℕ
 
--- how often a list names index k, and whether a kind does
+-- how often a list names index k, and how often a kind does
 unfoldable pub times : ℕ → List ℕ → ℕ
 times k [] = 0
 times k (i ∷ is) = cond (eqb i k) 1 0 + times k is
@@ -30,6 +31,7 @@ pub record Filling : Type 0 where
   pub bits : List ℕ
   pub parities : Parities
 
+-- a filling with bit b before its bits
 unfoldable pub push : ℕ → Filling → Filling
 push b f = record { bits = b ∷ f .bits; parities = f .parities }
 

@@ -1,4 +1,4 @@
--- One name that opens the definitions of all crates, for proofs that compute with them: `unfolding computing`. Assumes nothing.
+-- One name that opens the definitions of this crate and of those below it, for proofs that compute with them: `unfolding computing`. Assumes nothing.
 use mathlib.Core.List.{zipWith}
 use Rattle.laws.specs.Lists.{All, keep, sum}
 use Rattle.polar.specs.Bits.{addBits, number, toBits, fromBits}

@@ -37,7 +37,8 @@ pub record Input : Type 0 where
   pub T : ℕ
   pub values : List ℤ
 
--- what it is lent, with what each buffer holds: word and data, the workspace's numbers and bytes, and the walk
+-- what it is lent, with what each buffer holds: word and data, the workspace's numbers and bytes, and the walk (document 01's word): path
+-- number, blocks and score of each extraction
 pub record Lent : Type 0 where
   pub word : List ℕ
   pub bits : List ℕ
@@ -93,6 +94,7 @@ finalOf B ys (some p) =
       discrepancy = natAbs (R (B .m) ys (p .bits));
     }
 
+-- the counts of a run
 unfoldable pub countsOf : List Step → Final → Counts
 countsOf steps found =
     record {
@@ -102,6 +104,7 @@ countsOf steps found =
       discrepancy = found .discrepancy;
     }
 
+-- the counts where no run is made
 unfoldable pub noCounts : Counts
 noCounts = record { extractions = 0; crowded = 0; outrun = 0; discrepancy = 0 }
 
@@ -143,10 +146,12 @@ plainRan B c l r =
 unfoldable pub plainRefused : Refusal → Lent → Called Decoded
 plainRefused r l = record { answer = record { outcome = Refused r; counts = noCounts }; lent = l }
 
+-- on a loaded book: barred, or run
 unfoldable pub plainChecked : Book → Input → Lent → Option Refusal → Called Decoded
 plainChecked B c l (some r) = plainRefused r l
 plainChecked B c l none = plainRan B c l (runOf B (c .L) (c .D) (c .values))
 
+-- by what loading comes to, and the whole call
 unfoldable pub plainWith : Load → Input → Lent → Called Decoded
 plainWith (refused r) c l = plainRefused r l
 plainWith (loaded B) c l = plainChecked B c l (barred B c l true)
@@ -159,10 +164,12 @@ unfoldable pub hookOf : Bool → Final → RecordRead
 hookOf false found = notRead AboveLimit
 hookOf true found = recordRead (readRecord (found .bits))
 
+-- whether an outcome is success
 unfoldable pub isDone : Outcome → Bool
 isDone Done = true
 isDone (Refused r) = false
 
+-- the same steps as those of the plain call, with the record besides
 unfoldable pub hookRan : Book → Input → Lent → Run → Called HookDecoded
 hookRan B c l r =
     let found = finalOf B (c .values) (r .final) in

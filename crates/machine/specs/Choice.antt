@@ -4,7 +4,7 @@ use mathlib.Core.Option.{Option, none, some}
 use Prim.Native.Nat.{ℕ, zero, suc}
 
 module _ {A : Type 0} (ahead : A → A → Bool) where
-  -- of an element that may pass a test and one found before, the one ahead
+  -- of an element, if it passes a test, and one found before, if there is one, the one ahead
   unfoldable pub choose : Bool → A → Option A → Option A
   choose false x found = found
   choose true x none = some x

@@ -29,6 +29,7 @@ unfoldable pub scoreOf : Book → List ℤ → ℕ → List ℕ → ℤ
 scoreOf B ys zero u = pos 0
 scoreOf B ys (suc b) u = R (B .m) ys u -ℤ blockAt B b .bias
 
+-- the path with this number, so many blocks and the bits u
 unfoldable pub path : Book → List ℤ → ℕ → ℕ → List ℕ → Path
 path B ys number blocks u = record { number = number; blocks = blocks; bits = u; score = scoreOf B ys blocks u }
 
@@ -79,6 +80,7 @@ pub record State : Type 0 where
   pub next : ℕ
   pub visits : List ℕ
 
+-- an extraction: what the machine holds after it, and what it did
 pub record Extracted : Type 0 where
   pub state : State
   pub step : Step
@@ -109,6 +111,7 @@ pub record Run : Type 0 where
   pub steps : List Step
   pub final : Option Path
 
+-- a run with one extraction before it
 unfoldable pub after : Step → Run → Run
 after s r = record { steps = s ∷ r .steps; final = r .final }
 

@@ -1,5 +1,5 @@
--- The queue's order, its steps, and a run's record: document 01, "The queue". Over any kind of path that has a key, so that the plain
--- machine and the reader each use it for their own. Assumes nothing.
+-- The queue's order, its steps, and a run's record: document 01, "The queue", whose words are "crowded out", "outrun" and "visit". Over any
+-- kind of path that has a key, so that the plain machine and the reader each use it for their own. Assumes nothing.
 use mathlib.Core.Bool.{Bool, cond, not, _&&_, _||_}
 use mathlib.Core.List.{List, [], _∷_, map}
 use Prim.Native.Nat.{ℕ, suc, _-_}

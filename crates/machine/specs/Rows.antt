@@ -23,7 +23,7 @@ use Rattle.machine.specs.Words.{Ranked, nearest, nextAfter}
 use Rattle.machine.specs.Machine.{runOf}
 use Rattle.machine.specs.Calls.{Input, Lent, Called, plainCall, hookCall}
 
--- n, k, V and the number of the outcome that loading answers
+-- what loading answers, as numbers: the outcome's, n, k and V
 unfoldable pub shape : ℕ → ℕ → ℕ → ℕ → List ℕ
 shape outcome n k blocks = outcome ∷ n ∷ k ∷ blocks ∷ []
 
@@ -67,6 +67,7 @@ seenHook r =
       hook = r .answer .hook;
     }
 
+-- a row, by the kind of its claim
 pub data Row : Type 0 where
   -- Q(a,b) = r; P(v,a,b) = r; u·A = c for length 2^m
   isQ : ℤ → ℤ → ℤ → Row
@@ -84,13 +85,15 @@ pub data Row : Type 0 where
   reads : List ℕ → Option HookRecord → Row
   makesIn : List ℕ → HookRecord → List ℕ → ℕ → List ℕ → Row
   readsIn : List ℕ → List ℕ → ℕ → HookRecord → Row
-  -- a run's extractions; what a decoding call answers and writes; its answer alone; all that it leaves
+  -- a run's extractions; of the plain decoding call, what it answers and writes, its outcome's number alone, and all that it leaves; what the
+  -- hook call answers and writes
   walks : Input → List Step → Row
   decodes : Input → Lent → Seen → Row
   refuses : Input → Lent → ℕ → Row
   leaves : Input → Lent → Lent → Row
   hooks : Input → Lent → Seen → HookRecord → Row
 
+-- what a row claims
 unfoldable pub Holds : Row → Type 0
 Holds (isQ a b r) = Q a b ≡ r
 Holds (isP v a b r) = P v a b ≡ r

@@ -37,7 +37,7 @@ tie i = 0x03 ∷ 0 ∷ i ∷ []
 unfoldable pub term : ℕ → List ℕ
 term i = 0x04 ∷ 0 ∷ i ∷ []
 
--- a block with a small bias above 0 or not, with a bias a little below 0, and with any bias
+-- a block with a bias of 0 to 255, with one of -256 to -1 by its lowest byte, and with any bias by its four bytes
 unfoldable pub block : ℕ → ℕ → List ℕ
 block j bias = 0x05 ∷ j ∷ 0 ∷ 0 ∷ 0 ∷ bias ∷ []
 
@@ -47,6 +47,7 @@ blockBelow j low = 0x05 ∷ j ∷ 0xff ∷ 0xff ∷ 0xff ∷ low ∷ []
 unfoldable pub blockWith : ℕ → ℕ → ℕ → ℕ → ℕ → List ℕ
 blockWith j a b c d = 0x05 ∷ j ∷ a ∷ b ∷ c ∷ d ∷ []
 
+-- the end
 unfoldable pub end : List ℕ
 end = 0x7f ∷ []
 
@@ -93,6 +94,7 @@ hookValues =
     pos 44 ∷ pos 746 ∷ pos 719 ∷ pos 282 ∷ pos 563 ∷ pos 978 ∷ pos 606 ∷ negℤ (pos 12) ∷ negℤ (pos 64) ∷ pos 938 ∷ pos 1087 ∷ pos 1300
     ∷ pos 1343 ∷ pos 943 ∷ pos 202 ∷ pos 1320 ∷ []
 
+-- what a call is given
 unfoldable pub input : List ℕ → ℕ → ℕ → ℕ → List ℤ → Input
 input book L D T ys = record { book = book; L = L; D = D; T = T; values = ys }
 
@@ -122,6 +124,7 @@ recordRoom = room 32 32 384 256 17
 unfoldable pub repeatRoom : Lent
 repeatRoom = room 64 32 640 512 18
 
+-- the (16,10) hook at these settings
 unfoldable pub hookRun : ℕ → ℕ → ℕ → Input
 hookRun L D T = input hookBook L D T hookValues
 
@@ -131,6 +134,7 @@ plainly c = map (λ (b : ℕ). cond (eqb b 0) (pos 100) (negℤ (pos 100))) c
 
 -- ---- results
 
+-- an extraction, and the counts of a run
 unfoldable pub step : ℕ → ℕ → ℤ → List ℕ → List ℕ → Step
 step path blocks score crowded outrun = record { path = path; blocks = blocks; score = score; crowded = crowded; outrun = outrun }
 
@@ -145,10 +149,11 @@ gave n c ds = record { number = 0; counts = n; word = c; bits = ds }
 unfoldable pub keptBack : ℕ → Counts → Lent → Seen
 keptBack r n l = record { number = r; counts = n; word = l .word; bits = l .bits }
 
+-- a record
 unfoldable pub hook : ℕ → ℕ → ℕ → Status → HookRecord
 hook plant carcass side status = record { plant = plant; carcass = carcass; side = side; status = status }
 
--- records: one held for the laboratory, its bits, and its word in the record's book
+-- one held for the laboratory, its bits, and its word in the record's book
 unfoldable pub held : HookRecord
 held = hook 63 0xabcde 1 HeldForLaboratory
 
@@ -321,7 +326,7 @@ codecRows =
     ∷ readsData tiedBook (0 ∷ 0 ∷ 0 ∷ 3 ∷ []) (replicate 2 7) 9 (replicate 2 7)
     ∷ []
 
--- a record made and read; status 5 and a spare bit are 11; a field too large is 9; k not 32 is 7
+-- a record made and read; status 5 and a spare bit are 11; a field too large and a data byte over 1 are 9; a wrong length and k not 32 are 7
 unfoldable pub recordRows : List Row
 recordRows =
     makes held heldBits

@@ -13,6 +13,7 @@ use Rattle.codebook.specs.Book.{Book, startOf, blockAt, kindsOf}
 use Rattle.codebook.specs.Limits.{BlockOk, Valid}
 use Rattle.codebook.proofs.Blocks.{start-next}
 
+-- block b starts where a node of its height does, the next block where it ends, and it has a kind for each of its indices
 pub record Placed (B : Book) (b : ℕ) : Type 0 where
   pub small : B .m ≡ B .m - blockAt B b .j + blockAt B b .j
   pub starts : Starts (B .m - blockAt B b .j) (B .m) (startOf (B .blocks) b)

@@ -1,6 +1,6 @@
 -- The search of a block's words as its code goes: tables with an entry for each setting of the free bits, costs by half bytes, and the least
--- key among the settings. The contracts of `nearest` and `next_after` speak of specs/Words.antt; those of their parts speak of this. Assumes
--- nothing.
+-- key among the settings. The contracts of `nearest`, `nearest_pair` and `next_after` speak of specs/Words.antt; those of their parts speak of
+-- this. Assumes nothing.
 use mathlib.Core.Path.{_≡_}
 use mathlib.Core.Bool.{Bool, true, false}
 use mathlib.Core.List.{List, [], _∷_, _++_}
@@ -60,7 +60,8 @@ unfoldable pub entry : List ℕ → List ℕ → ℕ → ℕ → ℕ → ℕ →
 entry kinds terms start p zero w = record { word = 0; set = p }
 entry kinds terms start p (suc i) w = later (getD kinds (start + i) 0) (rowOf i) (getD terms (start + i) 0) (entry kinds terms start p i) w
 
--- the first entry of a short table, with n of its directions added, those after `from`, where the bits of w are 1: the last one's bit is lowest
+-- A short table holds the entry of setting 0 and then directions: what each free bit adds where it is 1. This is its first entry with n of its
+-- directions added, those after `from`, where the bits of w are 1: the last one's bit is lowest.
 unfoldable pub spread : List ℕ → ℕ → ℕ → ℕ → ℕ
 spread ds from zero w = getD ds 0 0
 spread ds from (suc n) w = bitXor (spread ds from n (w / 2)) (getD ds (from + suc n) 0 * (w % 2))
@@ -119,7 +120,7 @@ Small t runs = (k : ℕ) → k < 16 * runs → getD t k 0 ≤ 4192256
 
 -- ---- the least key
 
--- nearest first, equals by the smaller number
+-- a cost and a number as one key, in the order of words: nearest first, equals by the smaller number
 unfoldable pub keyOf : ℕ → ℕ → ℕ
 keyOf cost number = cost * 4294967296 + number
 
@@ -127,7 +128,7 @@ keyOf cost number = cost * 4294967296 + number
 unfoldable pub tried : ℕ → ℕ
 tried w = w
 
--- the lesser key of two settings
+-- whether setting a has a lesser key than setting b
 unfoldable pub lesser : (ℕ → ℕ) → ℕ → ℕ → Bool
 lesser key a b = ltb (key a) (key b)
 
@@ -164,6 +165,7 @@ twoLeast key bound n = twoOf key (leastFrom key bound n) (afterFirst key bound n
 
 -- ---- the answer
 
+-- the setting that is found, as a candidate; zeros for none
 unfoldable pub answer : (ℕ → Entry) → List ℤ → Option ℕ → Candidate
 answer e vs none = record { some = false; setting = 0; parities = 0; cost = 0; number = 0 }
 answer e vs (some w) = record { some = true; setting = w; parities = e w .set; cost = costOf (e w .word) vs; number = e w .word }

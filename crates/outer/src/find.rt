@@ -1,4 +1,5 @@
-// The nearest word of a block, and the next after one: the least key, cost before number, among all settings.
+// The nearest word of a block, and the next after one: the least key, cost before number, among all settings. Relies on short.rt and long.rt;
+// specs/Words.antt says what the words are, specs/Search.antt what a key is.
 ghost use mathlib.Core.Path.{_≡_};
 ghost use mathlib.Core.Option.{some};
 ghost use Prim.Native.Nat.{ℕ, _+_, _^_, _<_};

@@ -1,4 +1,5 @@
 // The search of a block of more than 8 positions: its words are listed, and one pass over their keys keeps the two least from the bound on.
+// Relies on costs.rt, least_two.rt, settings.rt and, for the parities, short.rt; specs/Long.antt says what is found.
 ghost use mathlib.Core.Path.{_≡_};
 ghost use Prim.Native.Nat.{_+_, _-_, _^_, _≤_, _<_};
 ghost use lib.ListN.{length, getD};

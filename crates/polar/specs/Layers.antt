@@ -1,5 +1,5 @@
--- Parts of the lent workspace, and what a loop leaves that writes one part from others: the contracts of the steps between heights. Assumes
--- nothing.
+-- Parts of the lent workspace, what a loop leaves that writes one part from others, and one stage of the transform in place: the contracts of
+-- the steps between heights and of the transform. Assumes nothing.
 use mathlib.Core.List.{List, _++_}
 use mathlib.Core.Logic.{_⊎_}
 use Prim.Native.Nat.{ℕ, zero, suc, _+_, _≤_}
@@ -23,7 +23,7 @@ pub record Clear {A : Type 0} (from k to n : ℕ) (l : List A) : Type 0 where
   pub room : to + n ≤ length l
   pub ahead : (to ≤ from) ⊎ (from + k ≤ to)
 
--- no magnitude is above M
+-- a value's magnitude is at most M
 abbrev pub Within : ℕ → ℤ → Type 0
 Within M y = natAbs y ≤ M
 

@@ -1,5 +1,5 @@
--- The values of a node: what a bit's value passes through, stopped at a block's length (002, IV; document 01's change request 8 words it
--- so). A node of height h has 2^h values; 002's layer is m - h. Assumes nothing.
+-- The values of a node: what a bit's value passes through, stopped at a block's length (002, IV). A node of height h has 2^h values; 002's
+-- layer is m - h. Assumes nothing.
 use mathlib.Core.Bool.{cond}
 use mathlib.Core.List.{List}
 use Prim.Native.Nat.{ℕ, zero, suc, _-_, _^_}

@@ -1,4 +1,4 @@
-// The transform in place, stage by stage.
+// The transform in place, stage by stage. Relies on layers.rt; specs/Transform.antt says what the transform is, specs/Layers.antt what a stage is.
 ghost use mathlib.Core.Path.{_≡_};
 ghost use Prim.Native.Nat.{_+_, _*_, _^_, _≤_};
 ghost use lib.ListN.{length};

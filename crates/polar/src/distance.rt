@@ -1,4 +1,4 @@
-// A word's discrepancy from soft values.
+// A word's discrepancy from soft values. Relies on values.rt; specs/Soft.antt says what it is.
 ghost use mathlib.Core.Path.{_≡_};
 ghost use Prim.Native.Nat.{_≤_};
 ghost use lib.ListN.{length};

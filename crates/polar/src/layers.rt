@@ -1,4 +1,5 @@
-// Steps between heights within the lent workspace: values go down by Q and P, sums of words go up.
+// Steps between heights within the lent workspace: values go down by Q and P, sums of words go up. Relies on values.rt; specs/Soft.antt says
+// what Q and P are, specs/Layers.antt what a part is.
 ghost use mathlib.Core.Path.{_≡_};
 ghost use Prim.Native.Nat.{_+_, _≤_};
 ghost use lib.ListN.{length, take, drop};

@@ -1,4 +1,5 @@
-// Soft values: hard decisions, magnitudes, Q and P, penalties. Positive favours 0.
+// Soft values: hard decisions, magnitudes, Q and P, penalties and costs. Positive favours 0. Relies on no other file; specs/Soft.antt says what
+// each is.
 ghost use mathlib.Core.Path.{_≡_};
 ghost use Prim.Native.Nat.{_<_, _+_, min};
 ghost use lib.IntN.{natAbs};

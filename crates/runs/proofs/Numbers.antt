@@ -92,6 +92,7 @@ copy-other x n (some c) h e = λ z. lt-irrefl n (omega arith)
 
 -- ---- the run
 
+-- the queued paths' numbers are below the next one, and distinct
 pub record Numbered (s : State) : Type 0 where
   pub below : All (λ (p : Path). p .number < s .next) (s .queue)
   pub distinct : Distinct (numbers keyOf (s .queue))

@@ -12,6 +12,7 @@ use Rattle.laws.proofs.Tests.{cond-case}
 use Rattle.codebook.specs.Book.{Book}
 use Rattle.machine.specs.Machine.{Path, State, Run, emptyPath, extract, run, after, stopped, runOf}
 
+-- the machine with this queue, next number and visits
 abbrev pub stateOf : List Path → ℕ → List ℕ → State
 stateOf qs n visits = record { queue = qs; next = n; visits = visits }
 
