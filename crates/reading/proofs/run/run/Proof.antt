@@ -1,6 +1,6 @@
 -- `reading::run::run` meets its contract. The loop's invariant: the workspace and the tables are as large as they were, and for every input the run
--- is under way (Going): what is left of it from here is the rest of the whole. Each turn is one extraction; the run's end is that of the whole.
--- Assumes nothing.
+-- is under way (Going): what is left of it from here is the rest of the whole; and the queued entries never fall. Each turn is one extraction; the
+-- run's end is that of the whole. Assumes nothing.
 use borrow.Author.Needs.{needs}
 use mathlib.Core.Path.{_≡_, refl, sym, ap, _∙_, subst}
 use mathlib.Core.List.{List}
@@ -14,7 +14,8 @@ use Rattle.machine.specs.Calls.{walked}
 use Rattle.outer.specs.Search.{Scratch}
 use Rattle.reader.specs.Arrays.{Arrays}
 use Rattle.reader.specs.Reader as R
-use Rattle.order.specs.Entries.{keyAt, queueOf}
+use Rattle.order.specs.Entries.{keyAt, queueOf, Rising}
+use Rattle.order.proofs.Queues.{rising-less, rising-none}
 use Rattle.heights.specs.Workspace.{Room}
 use Rattle.standing.specs.Seen.{Memory, memory, Lent}
 use Rattle.steps.specs.declared.Setting.{Setting}
@@ -49,6 +50,7 @@ Inv-loop s values kinds terms heights starts biases numbers₀ bytes₀ walk-pat
     × Runs s values kinds terms heights starts biases (arraysOf (s .m) numbers₀ bytes₀) (memory rows holders numbers bytes) order vacant visits t e
     walk-path₀ walk-blocks₀ walk-score₀ walk-path walk-blocks walk-score
     × Keeps s values kinds terms heights starts biases (memory rows holders numbers bytes) kept
+    × Rising order (t .queued)
 
 abbrev μ-loop : tie.MeasureT-loop
 μ-loop s values kinds terms heights starts biases numbers₀ bytes₀ walk-path₀ walk-blocks₀ walk-score₀ m paths blocks rows₀ holders₀ order₀ vacant₀ visits₀ words₀ sets₀ sums₀ t₀ e₀ kept₀ numbers bytes walk-path walk-blocks walk-score rows holders order vacant visits words sets sums t e kept =
@@ -138,6 +140,7 @@ loop-holds o =
           (a .walk-path .now) (a .walk-blocks .now) (a .walk-score .now) (omega (arith, p .2)) (p .3) (b .begin .ensures .0) (b .begin .ensures .2)
           (v .fill-vacant .ensures .1) (c .entry .ensures) (root-now c),
       λ r. run-nothing r _ _ (o .nothing .result) (ap (λ (i : ℕ). keyAt i .blocks) (o .nothing .ensures) ∙ ap (λ (k : Key). k .blocks) (c .entry .ensures .key)),
+      rising-none _,
     )
 
 -- ---- a turn
@@ -239,7 +242,7 @@ extract-requires c κs =
     let i = y .loop .inv .0 in
     let l = limits y in (
       (i .0, i .1, i .2, i .3),
-      ((i .4, began y .pre .0 .2, going-room (going y), l .1, l .2, l .3), (l .4, extracting u (input (began y)))),
+      ((i .4, began y .pre .0 .2, going-room (going y), l .1, l .2, l .3), (l .4, (extracting u (input (began y)), y .loop .inv .4))),
     )
 
 -- once a path was extracted: where both blocks were read, and where the turn began
@@ -261,7 +264,7 @@ queued-some : (c : tie.After-extract Inv-loop μ-loop) → 1 ≤ c .extract .res
 queued-some c =
     let y = before-it c in
     let r = input (began y) in
-    run-some r (going y) (began y .pre .0 .2) (began y .pre .0 .3) (found y r) (more (opened (read c))) (c .extract .result .tally) (c .extract .ensures .1 .1 (extracting (read c) r) .0)
+    run-some r (going y) (began y .pre .0 .2) (began y .pre .0 .3) (found y r) (more (opened (read c))) (c .extract .result .tally) (c .extract .ensures .1 .1 .0 (extracting (read c) r) .0)
 
 sub-left : tie.Need-sub-left Inv-loop μ-loop
 sub-left c = omega (arith, queued-some (c .before .before .before .before .before .before))
@@ -300,12 +303,13 @@ loop-again c =
         omega (arith, i .4, w .walk-score .given),
       ),
       λ r.
-          let made = o .1 .1 (extracting (read x) r) in
+          let made = o .1 .1 .0 (extracting (read x) r) in
           run-turn r (y .loop .inv .2 r) (s .pre .0 .2) (s .pre .0 .3) (found y r) (more (opened (read x))) (x .extract .result .tally)
           (memory (l .0) (l .1 .0) (l .1 .1 .1 .1 .1 .0) (l .1 .1 .1 .1 .1 .1 .0)) (l .1 .1 .0) (l .1 .1 .1 .0) (l .1 .1 .1 .1 .0)
           (made .0, made .1, made .2, made .3, made .4, made .5) (o .1 .0 .0) (s .pre .1 .1 .1 .0)
           (record { path-set = n .note .ensures .0; blocks-set = n .note .ensures .1; score-set = n .note .ensures .2 }),
-      λ r. o .1 .1 (extracting (read x) r) .6,
+      λ r. o .1 .1 .0 (extracting (read x) r) .6,
+      rising-less (l .1 .1 .0) (x .extract .result .tally .queued) _ (o .1 .1 .1) (omega arith),
     )
 
 -- ---- the end
