@@ -16,3 +16,4 @@ pub mod Nearest
 pub mod LeastKey
 pub mod Bytes
 pub mod Picks
+pub mod Pairs

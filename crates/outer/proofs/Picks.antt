@@ -1,7 +1,7 @@
 -- What the tables of a short block give: the least key of 32 bits is that of the setting that the scan by keys of 64 bits finds, and the
 -- setting is read off the key. By the order of the keys, and for 8 free indices by the settings of bytes. Assumes nothing.
 use mathlib.Core.Path.{_≡_, refl, sym, ap, ap₂, _∙_, subst}
-use mathlib.Core.Bool.{true, false}
+use mathlib.Core.Bool.{false}
 use mathlib.Core.List.{List}
 use mathlib.Core.Logic.{_⊎_, inl, inr}
 use mathlib.Core.Option.{Option, none, some}
@@ -15,7 +15,7 @@ use Rattle.laws.specs.Lists.{All}
 use Rattle.laws.proofs.Tests.{lt-or}
 use Rattle.polar.specs.Layers.{Within}
 use Rattle.outer.specs.Search.{Entry, spread, costOf, keyOf, keyAt, lesser, leastFrom, answer}
-use Rattle.outer.specs.Short.{leastKey, byteKey, byteRows, backRows, Keyed}
+use Rattle.outer.specs.Short.{leastKey, byteKey, byteRows, backRows, Keyed, wordWith}
 use Rattle.outer.proofs.Sums.{cost-bound}
 use Rattle.outer.proofs.Least.{mapped, least-like, least-same, Chosen, least-chosen, least-moved}
 use Rattle.outer.proofs.LeastKey.{key-same, keyOr, key-found}
@@ -132,19 +132,19 @@ module _ (free : ℕ) (keys halves sets : List ℕ) (e : ℕ → Entry) (vs : Li
         go none p = refl
         go (some w) p = absurd (omega (arith, k-small w))
 
-    pub an-answer : (key setting parities : ℕ) → key ≡ keyOr k o → (key ≡ 4294967295 → ⊥) → ((w : ℕ) → Chosen k b (2 ^ free) (some w) → key ≡ k w → setting ≡ w) → parities ≡ spread sets 0 free setting
-        → record { some = true; setting = setting; parities = parities; cost = key / 256; number = key % 256 } ≡ answer e vs o
-    unfolding answer
-    an-answer key setting parities q z f p = go o q o-chosen
+    pub an-answer : (key setting : ℕ) → key ≡ keyOr k o → (key ≡ 4294967295 → ⊥) → ((w : ℕ) → Chosen k b (2 ^ free) (some w) → key ≡ k w → setting ≡ w)
+        → wordWith sets free setting key ≡ answer e vs o
+    unfolding answer wordWith
+    an-answer key setting q z f = go o q o-chosen
       where
         go : (r : Option ℕ) → key ≡ keyOr k r → Chosen k b (2 ^ free) r
-            → record { some = true; setting = setting; parities = parities; cost = key / 256; number = key % 256 } ≡ answer e vs r
+            → wordWith sets free setting key ≡ answer e vs r
         go none i c = absurd (z i)
         go (some w) i c =
             let s : setting ≡ w = f w c i in
             let n : key % 256 ≡ e w .word = omega (arith, k-is w, h .bytes w) in
             let t : key / 256 ≡ costOf (e w .word) vs = omega (arith, k-is w, h .bytes w) in
-            let r : parities ≡ e w .set = p ∙ ap (spread sets 0 free) s ∙ h .spans w in
+            let r : spread sets 0 free setting ≡ e w .set = ap (spread sets 0 free) s ∙ h .spans w in
             rw (n, t, r, s)
 
     -- ---- by what the code tests

@@ -1,13 +1,14 @@
 -- The search of a block of at most 8 positions as its code goes: a word's key is 256 times its cost and its number, the sum of the keys of its
 -- two half bytes; the least key from a bound on; for 8 free indices, where every byte is a word, the setting by the byte. Assumes nothing.
 use mathlib.Core.Path.{_≡_}
-use mathlib.Core.Bool.{cond}
+use mathlib.Core.Bool.{true, cond}
 use mathlib.Core.List.{List, [], _∷_}
 use Prim.Native.Nat.{ℕ, zero, suc, _+_, _*_, _/_, _%_, _^_, _≤_, _<_, min}
 use lib.Dec.{ltb}
 use lib.IntN.{ℤ}
 use lib.ListN.{length, getD}
 use Rattle.polar.specs.Layers.{part}
+use Rattle.outer.specs.declared.Candidate.{Candidate}
 use Rattle.outer.specs.Search.{Entry, spread, costOf}
 
 -- a key that is not below the bound; else the greatest number, which is no key
@@ -46,3 +47,7 @@ pub record Keyed (free : ℕ) (keys halves sets : List ℕ) (e : ℕ → Entry) 
   pub spans : (w : ℕ) → spread sets 0 free w ≡ e w .set
   pub some : free < 8 → (w : ℕ) → w < 2 ^ free → getD keys w 0 ≡ byteKey halves (e w .word)
   pub all : 8 ≤ free → (w : ℕ) → e w .word ≡ spread byteRows 0 8 w
+
+-- the word of a setting, with its key
+unfoldable pub wordWith : List ℕ → ℕ → ℕ → ℕ → Candidate
+wordWith sets free setting key = record { some = true; setting = setting; parities = spread sets 0 free setting; cost = key / 256; number = key % 256 }

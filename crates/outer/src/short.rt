@@ -8,7 +8,7 @@ ghost use lib.ListN.{length, getD};
 ghost use Rattle.laws.specs.Lists.{All};
 ghost use Rattle.polar.specs.Layers.{part, Within};
 ghost use Rattle.outer.specs.Search.{Entry, settings, entry, spread, costOf, keyOf, keyAt, leastFrom, answer, found, foundPair, Walkable};
-ghost use Rattle.outer.specs.Short.{kept, leastKey, byteKey, Halves, backRows, Keyed};
+ghost use Rattle.outer.specs.Short.{kept, leastKey, byteKey, Halves, backRows, Keyed, wordWith};
 use crate::Candidate;
 use crate::Pair;
 use crate::costs::half_byte;
@@ -77,15 +77,15 @@ pub fn lesser(x: u32, y: u32) -> u32
     if x < y { x } else { y }
 }
 
-// The least of the first `count` keys that are not below a bound.
-fn least_key(keys: &[u32; 256], count: usize, bound: u32) -> u32
-    requires { ⌜ count ≤ 256 ⌝ }
-    ensures { λ r. ⌜ r ≡ leastKey (λ w. getD (now (keys .entry)) w 0) bound count ⌝ }
+// The least of the `count` keys from `at` on that are not below a bound.
+fn least_key(keys: &[u32; 256], at: usize, count: usize, bound: u32) -> u32
+    requires { ⌜ at + count ≤ 256 ⌝ }
+    ensures { λ r. ⌜ r ≡ leastKey (λ w. getD (now (keys .entry)) (at + w) 0) bound count ⌝ }
 {
     let mut best: u32 = 4294967295;
     let mut w: usize = 0;
     while w < count {
-        best = lesser(from(keys[w], bound), best);
+        best = lesser(from(keys[at + w], bound), best);
         w += 1;
     }
     best
@@ -101,7 +101,7 @@ fn least_row(halves: &[u32; 256], side: usize, add: u32, low: u32, bound: u32) -
     if bound <= low + add {
         return low + add;
     }
-    let key = least_key(halves, side, bound - add);
+    let key = least_key(halves, 0, side, bound - add);
     if key == 4294967295 {
         return key;
     }
@@ -114,7 +114,7 @@ fn least_byte(halves: &[u32; 256], side: usize, bound: u32) -> u32
     requires { ⌜ (side ≡ 16) × ((k : ℕ) → k < 32 → getD (now halves) k 0 ≤ 1073217776) ⌝ }
     ensures { λ r. ⌜ r ≡ leastKey (byteKey (now (halves .entry))) bound 256 ⌝ }
 {
-    let low = least_key(halves, side, 0);
+    let low = least_key(halves, 0, side, 0);
     let mut best: u32 = 4294967295;
     let mut h: usize = 0;
     while h < side {
@@ -230,7 +230,7 @@ fn least_word(keys: &[u32; 256], halves: &[u32; 256], free: usize, bound: u32) -
         × (8 ≤ free → r ≡ leastKey (byteKey (now (halves .entry))) bound 256) ⌝ }
 {
     if free < 8 {
-        return least_key(keys, power(free as u32), bound);
+        return least_key(keys, 0, power(free as u32), bound);
     }
     least_byte(halves, free + free, bound)
 }
@@ -245,6 +245,20 @@ fn setting_with(keys: &[u32; 256], free: usize, key: u32) -> u32
         return place(keys, power(free as u32), key);
     }
     setting_of(key % 256)
+}
+
+// The word of a setting, by its key.
+fn word_with(steps: &[u32; 9], free: usize, setting: u32, key: u32) -> Candidate
+    requires { ⌜ free ≤ 8 ⌝ }
+    ensures { λ r. ⌜ r ≡ wordWith (now (steps .entry)) free setting key ⌝ }
+{
+    Candidate {
+        some: true,
+        setting,
+        parities: spread_at(steps, free, setting),
+        cost: key / 256,
+        number: key % 256,
+    }
 }
 
 // The word of least key from a bound on, by the tables.
@@ -270,14 +284,7 @@ fn pick_short(
             number: 0,
         };
     }
-    let setting = setting_with(keys, free, key);
-    Candidate {
-        some: true,
-        setting,
-        parities: spread_at(steps, free, setting),
-        cost: key / 256,
-        number: key % 256,
-    }
+    word_with(steps, free, setting_with(keys, free, key), key)
 }
 
 // The word of least key from a bound on, of a block of n positions.
@@ -314,6 +321,32 @@ pub fn search_short(
     pick_short(words, halves, &steps, free, bound)
 }
 
+// The word of this key, where all 8 indices are free.
+fn byte_with(steps: &[u32; 9], key: u32) -> Candidate
+    ensures { λ r. ⌜ r ≡ wordWith (now (steps .entry)) 8 (spread backRows 0 8 (key % 256)) key ⌝ }
+{
+    word_with(steps, 8, setting_of(key % 256), key)
+}
+
+// The word of least key where all 8 indices are free, and the one of least key after it: the first has the least key of each half, the second
+// the next key of one half, which there is, since two keys differ. The number of half bytes is passed, as to `least_byte`.
+fn pair_bytes(halves: &[u32; 256], steps: &[u32; 9], side: usize) -> Pair
+    requires { ⌜ (side ≡ 16) × ((k : ℕ) → k < 32 → getD (now halves) k 0 ≤ 1073217776) × (getD (now halves) 0 0 ≡ getD (now halves) 1 0 → ⊥)
+        × (getD (now halves) 16 0 ≡ getD (now halves) 17 0 → ⊥) ⌝ }
+    ensures { λ r. ⌜ ((keys : List ℕ) (e : ℕ → Entry) (vs : List ℤ) → All (Within 1048064) vs
+        → Keyed 8 keys (now (halves .entry)) (now (steps .entry)) e vs → (r .first ≡ answer e vs (leastFrom (keyAt e vs) 0 256))
+        × (r .second ≡ answer e vs (leastFrom (keyAt e vs) (keyOf (r .first .cost) (r .first .number) + 1) 256))) ⌝ }
+{
+    let low = least_key(halves, 0, side, 0);
+    let high = least_key(halves, 16, side, 0);
+    let low2 = least_key(halves, 0, side, low + 1);
+    let high2 = least_key(halves, 16, side, high + 1);
+    Pair {
+        first: byte_with(steps, low + high),
+        second: byte_with(steps, lesser(low2 + high, low + high2)),
+    }
+}
+
 // The word of least key of a block of n positions, and the one of least key after it.
 pub fn pair_short(
     numbers: &[i32],
@@ -344,6 +377,9 @@ pub fn pair_short(
         halves,
         &mut steps,
     );
+    if free >= 8 {
+        return pair_bytes(halves, &steps, free + free);
+    }
     let first = pick_short(words, halves, &steps, free, 0);
     let second = pick_short(words, halves, &steps, free, after(first.cost, first.number));
     Pair { first, second }

@@ -4,7 +4,7 @@ use Prim.Native.Nat.{_+_, _-_, _*_, _≤_, min}
 use native.Mathlib.Omega.{arith}
 use lib.ListN.{getD}
 use Rattle.outer.specs.Short.{leastKey, byteKey}
-use Rattle.outer.proofs.LeastKey.{key-same, key-runs}
+use Rattle.outer.proofs.LeastKey.{key-same, key-first, key-runs}
 use Rattle.outer.proofs.Bytes.{row-key}
 use Rattle.outer.proofs.short.least_byte.Statement.{statement}
 use Rattle.outer.proofs.short.least_byte.Tie as tie
@@ -34,7 +34,7 @@ element-copy-out-least-row c = omega (arith, c .before .before .before .pre .0)
 least-row-requires : tie.Need-least-row-requires Inv-loop μ-loop
 least-row-requires c κs =
     let s = c .before .before .before .before in
-    (s .pre .0, s .pre .1, s .pre .1 _ (omega (arith, s .pre .0)), c .before .before .before .least-key .ensures)
+    (s .pre .0, s .pre .1, s .pre .1 _ (omega (arith, s .pre .0)), c .before .before .before .least-key .ensures ∙ key-first (s .args .halves .now) 0 (s .args .side))
 
 lesser-requires : tie.Need-lesser-requires Inv-loop μ-loop
 lesser-requires c κs = tt

@@ -1,6 +1,6 @@
--- `outer::short::least_key` meets its contract. The loop's invariant: the least of the first w keys. Assumes nothing.
+-- `outer::short::least_key` meets its contract. The loop's invariant: the least of the first w of the keys. Assumes nothing.
 use mathlib.Core.Path.{_≡_, refl, ap, ap₂, _∙_}
-use Prim.Native.Nat.{_-_, _≤_, min}
+use Prim.Native.Nat.{_+_, _-_, _≤_, min}
 use native.Mathlib.Omega.{arith}
 use lib.ListN.{getD}
 use Rattle.outer.specs.Short.{leastKey}
@@ -9,14 +9,17 @@ use Rattle.outer.proofs.short.least_key.Statement.{statement}
 use Rattle.outer.proofs.short.least_key.Tie as tie
 
 abbrev Inv-loop : tie.InvT-loop
-Inv-loop keys count bound best₀ w₀ best w = (w ≤ count) × (best ≡ leastKey (λ i. getD keys i 0) bound w)
+Inv-loop keys at count bound best₀ w₀ best w = (w ≤ count) × (best ≡ leastKey (λ i. getD keys (at + i) 0) bound w)
 
 abbrev μ-loop : tie.MeasureT-loop
-μ-loop keys count bound best₀ w₀ best w = count - w
+μ-loop keys at count bound best₀ w₀ best w = count - w
 
 loop-holds : tie.Need-loop-holds Inv-loop μ-loop
 unfolding leastKey
 loop-holds c = (omega arith, refl)
+
+add-from : tie.Need-add-from Inv-loop μ-loop
+add-from c = omega arith
 
 mul-from : tie.Need-mul-from Inv-loop μ-loop
 mul-from c = omega arith
@@ -40,14 +43,14 @@ loop-again : tie.Need-loop-again Inv-loop μ-loop
 loop-again c =
     let a = c .before .before .before .before .before .args in
     let x = c .before .before .before .before .loop in
-    (omega arith, c .lesser .ensures ∙ ap₂ min (c .before .from .ensures) (x .inv .1) ∙ key-more (λ i. getD (a .keys .now) i 0) (a .bound) (x .w))
+    (omega arith, c .lesser .ensures ∙ ap₂ min (c .before .from .ensures) (x .inv .1) ∙ key-more (λ i. getD (a .keys .now) (a .at + i) 0) (a .bound) (x .w))
 
 returns : tie.Need-returns Inv-loop μ-loop
 returns c =
     let a = c .before .before .args in
     let x = c .before .loop in
     let e : x .w ≡ a .count = omega arith in
-    x .inv .1 ∙ ap (leastKey (λ i. getD (a .keys .now) i 0) (a .bound)) e
+    x .inv .1 ∙ ap (leastKey (λ i. getD (a .keys .now) (a .at + i) 0) (a .bound)) e
 
 pub least-key-spec : {M : Type 1} → statement M
 least-key-spec =
@@ -56,6 +59,7 @@ least-key-spec =
     Inv-loop
     μ-loop
     loop-holds
+    add-from
     mul-from
     element-copy-out-from
     from-requires

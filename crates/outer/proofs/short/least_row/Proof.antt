@@ -5,7 +5,7 @@ use native.Mathlib.Omega.{arith}
 use lib.ListN.{getD}
 use borrow.Author.Needs.{needs}
 use Rattle.outer.specs.Short.{leastKey}
-use Rattle.outer.proofs.LeastKey.{key-le, key-least, key-small, lifted, lifted-key, lifted-none, key-lifted, lifted-all}
+use Rattle.outer.proofs.LeastKey.{key-first, key-le, key-least, key-small, lifted, lifted-key, lifted-none, key-lifted, lifted-all}
 use Rattle.outer.proofs.short.least_row.Statement.{statement}
 use Rattle.outer.proofs.short.least_row.Tie as tie
 
@@ -29,7 +29,9 @@ low-small c = omega (arith, low-is c, key-least (low-key c) 16 0 (omega arith), 
 -- the least from the bound on
 key-is : (c : tie.After-least-key) → let s = c .before .before in c .least-key .result ≡ leastKey (low-key s) (s .args .bound - s .args .add) 16
 unfolding low-key
-key-is c = let s = c .before .before in c .least-key .ensures ∙ ap (leastKey (low-key s) (s .args .bound - s .args .add)) (s .pre .0)
+key-is c =
+    let s = c .before .before in
+    c .least-key .ensures ∙ key-first (s .args .halves .now) (s .args .bound - s .args .add) (s .args .side) ∙ ap (leastKey (low-key s) (s .args .bound - s .args .add)) (s .pre .0)
 
 add-if1 : tie.Need-add-if1
 add-if1 c = omega (arith, low-small c, c .pre .2)

@@ -6,6 +6,7 @@ use lib.ListN.{getD}
 use lib.Pow.{pow-mono}
 use borrow.Author.Needs.{needs}
 use Rattle.outer.specs.Short.{leastKey}
+use Rattle.outer.proofs.LeastKey.{key-first}
 use Rattle.outer.proofs.short.least_word.Statement.{statement}
 use Rattle.outer.proofs.short.least_word.Tie as tie
 
@@ -25,7 +26,7 @@ least-key-requires c κs =
 returns : tie.Need-returns
 returns c =
     let a = c .before .before .before .args in
-    (λ _. c .least-key .ensures ∙ ap (leastKey (λ w. getD (a .keys .now) w 0) (a .bound)) (c .before .power .ensures), λ l. absurd (omega arith))
+    (λ _. c .least-key .ensures ∙ key-first (a .keys .now) (a .bound) (c .before .power .result) ∙ ap (leastKey (λ w. getD (a .keys .now) w 0) (a .bound)) (c .before .power .ensures), λ l. absurd (omega arith))
 
 add-least-byte : tie.Need-add-least-byte
 add-least-byte c = search needs

@@ -1,4 +1,5 @@
 -- `outer::short::pick_short` meets its contract: the least key is that of the word to find, and gives its setting. Assumes nothing.
+use mathlib.Core.Path.{_∙_}
 use native.Mathlib.Omega.{arith}
 use borrow.Author.Needs.{needs}
 use Rattle.outer.proofs.Picks.{no-answer, an-answer, picked-key, picked-setting}
@@ -22,8 +23,8 @@ returns c = λ e vs small h.
 setting-with-requires : tie.Need-setting-with-requires
 setting-with-requires c κs = search needs
 
-spread-at-requires : tie.Need-spread-at-requires
-spread-at-requires c κs = search needs
+word-with-requires : tie.Need-word-with-requires
+word-with-requires c κs = search needs
 
 returns-2 : tie.Need-returns-2
 returns-2 c = λ e vs small h.
@@ -31,11 +32,11 @@ returns-2 c = λ e vs small h.
     let b = c .before .before .before .before .narrow in
     let w = c .before .before .before .least-word in
     let s = c .before .setting-with in
-    an-answer (a .free) (a .keys .now) (a .halves .now) (a .steps .now) e vs small h (a .bound) (b .result) (b .ensures) (w .result) (s .result) (c .spread-at .result)
+    c .word-with .ensures
+    ∙ an-answer (a .free) (a .keys .now) (a .halves .now) (a .steps .now) e vs small h (a .bound) (b .result) (b .ensures) (w .result) (s .result)
     (picked-key (a .free) (a .keys .now) (a .halves .now) (a .steps .now) e vs small h (a .bound) (b .result) (b .ensures) (w .result) (w .ensures .0) (w .ensures .1))
     (λ q. omega (arith, c .before .before .if1 .left))
     (picked-setting (a .free) (a .keys .now) (a .halves .now) (a .steps .now) e vs small h (a .bound) (b .result) (b .ensures) (w .result) (s .result) (s .ensures .0) (s .ensures .1))
-    (c .spread-at .ensures)
 
 pub pick-short-spec : {M : Type 1} → statement M
 pick-short-spec =
@@ -45,5 +46,5 @@ pick-short-spec =
     least-word-requires
     returns
     setting-with-requires
-    spread-at-requires
+    word-with-requires
     returns-2)
