@@ -1,4 +1,4 @@
-// Step 4: the visit is counted, and at the L-th the paths with as many blocks or fewer are removed.
+// Step 4: the visit to block b is counted, and at the L-th the queued paths with b blocks or fewer are removed.
 ghost use mathlib.Core.Path.{_≡_};
 ghost use mathlib.Core.List.{List};
 ghost use Prim.Native.Nat.{ℕ, _+_, _-_, _≤_, _<_};

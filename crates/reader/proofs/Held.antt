@@ -69,6 +69,7 @@ arrays-held n h ps = omega (arith, held-most n (map (λ (p : Path). p .ids h) ps
 
 -- ---- ids within N
 
+-- each id is that of one of the N arrays, or 0
 abbrev pub Within : ℕ → (ℕ → ℕ) → Type 0
 Within N ids = (h : ℕ) → ids h ≤ N
 

@@ -221,7 +221,7 @@ unfolding putVals
 descend-top others d m t v h l =
     descend-keeps others (λ w. w .ids h ≡ v .ids h) d m t v (λ k x w b e. upd-other (w .ids) k (writes others k w) h (λ z. omega arith) ∙ e) refl
 
--- nor at the turn, where it writes to an array that the path holds alone (the P line)
+-- nor at the turn, where it writes, by P, to an array that the path holds alone
 pub descend-takes-below : (others : List (ℕ → ℕ)) (d m t : ℕ) (v : View) (h : ℕ) → 0 < t → t < 2 ^ m → turn m t ≤ h →
     Alone others (turn m t) (v .ids) → descend others d m t v .ids h ≡ v .ids h
 unfolding descend putVals

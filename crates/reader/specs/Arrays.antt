@@ -75,7 +75,8 @@ putSums others h x v =
 unfoldable pub takeArray : List (ℕ → ℕ) → ℕ → View → View
 takeArray others h v = record { arrays = v .arrays; ids = upd (v .ids) h (writes others h v) }
 
--- take the array where the word of a block of height j will go; the block's own values go along, since the next word is found from them
+-- take the array where the word of a block of height j will go; where it is of the block's own height, the block's values go along, since the next
+-- word is found from them
 unfoldable pub claim : List (ℕ → ℕ) → ℕ → ℕ → View → View
 claim others j h v = cond (eqb h j) (putVals others h (valsOf v h) v) (takeArray others h v)
 

@@ -11,8 +11,9 @@ use Rattle.outer.specs.Blocks.{Bits}
 use Rattle.reader.specs.Arrays.{Arrays, valsOf, sumsOf}
 use Rattle.reader.specs.Paths.{Path, place, viewOf}
 
--- a path with last block b: it has arrays from the block's height up to the root; the block's own values, and those above the place of its word,
--- are within range; the sums that its word will be joined with are bits
+-- a path with last block b: it has arrays from the block's height up to the root; the block's own values are within range, and those of the height
+-- above the place of its word within half of it, since P may double them; the sums that its word will be joined with are bits; its total is within
+-- range, and its parities are bits
 pub record Fit (B : Book) (A : Arrays) (p : Path) (b : ℕ) : Type 0 where
   pub within : b < length (B .blocks)
   pub has : (h : ℕ) → blockAt B b .j ≤ h → h ≤ B .m → 1 ≤ p .ids h

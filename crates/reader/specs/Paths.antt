@@ -27,6 +27,7 @@ unfoldable pub scoreOf : Book → Path → ℕ → ℤ
 scoreOf B p zero = pos 0
 scoreOf B p (suc b) = negℤ (pos (p .spent + p .cost)) -ℤ blockAt B b .bias
 
+-- what the queue goes by
 unfoldable pub keyOf : Book → Path → Key
 keyOf B p = record { score = scoreOf B p (p .blocks); blocks = p .blocks; number = p .number }
 
@@ -60,5 +61,6 @@ place B b = turn (suc (B .m)) (startOf (B .blocks) b + 2 ^ (blockAt B b .j))
 abbrev pub idsOf : List Path → List (ℕ → ℕ)
 idsOf ps = map (λ (p : Path). p .ids) ps
 
+-- what a path has in view: the arrays, by its ids
 abbrev pub viewOf : Arrays → Path → View
 viewOf A p = record { arrays = A; ids = p .ids }

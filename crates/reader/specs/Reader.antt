@@ -22,7 +22,7 @@ pub record Cut : Type 0 where
   pub crowded : List ℕ
 
 -- A copy of p, numbered n, with the word x in its last block b. The queue is cut first. The copy holds p's arrays, and then takes one of its
--- own where its word will go; what p sees there goes with it, since the copy needs the block's values for its own next word.
+-- own where its word will go; where that is of the block's own height, the block's values go along, since the copy finds its own next word from them.
 unfoldable pub copyWith : Book → ℕ → Arrays → Path → ℕ → List Path → ℕ → Option Word → Cut
 copyWith B D A p b qs n none = record { arrays = A; queue = qs; next = n; crowded = [] }
 copyWith B D A p b qs n (some x) =
@@ -61,6 +61,7 @@ commit B others p (suc b) v =
     let h = place B b in
     putSums others h (joined (sumsOf v) j (h - j) (lastWord B p b)) v
 
+-- the path with its next block, and the arrays then
 pub record Moved : Type 0 where
   pub arrays : Arrays
   pub path : Path
@@ -95,6 +96,7 @@ move B A p qs =
 
 -- ---- step 4
 
+-- after the L-th visit to block b, the queued paths that stay, and those outrun
 unfoldable pub staying : Book → ℕ → ℕ → List ℕ → List Path → List Path
 staying B L b visits qs = cond (eqb (getD visits b 0) L) (ahead (keyOf B) b qs) qs
 
@@ -110,6 +112,7 @@ pub record State : Type 0 where
   pub next : ℕ
   pub visits : List ℕ
 
+-- what the reader holds after an extraction, and what the extraction was
 pub record Extracted : Type 0 where
   pub state : State
   pub step : Step
@@ -139,6 +142,7 @@ pub record Run : Type 0 where
   pub steps : List Step
   pub final : Option Final
 
+-- a run with one extraction before it
 unfoldable pub after : Step → Run → Run
 after s r = record { steps = s ∷ r .steps; final = r .final }
 

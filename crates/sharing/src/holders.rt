@@ -64,7 +64,7 @@ fn alone(id: usize, held: u16) -> bool
     id > 0 && held <= 1
 }
 
-// The path in a slot takes an array of a height: its own where no other path holds it, else the first free one. Returns its id.
+// The path in a slot takes an array of a height: its own, if it has one that no other path holds, else the first free one. Returns its id.
 pub fn take(
     rows: &mut [u32; 4096],
     holders: &mut [u16; 2570],

@@ -16,10 +16,11 @@ pub record Memory : Type 0 where
   pub numbers : List ℤ
   pub bytes : List ℕ
 
+-- memory with these four
 unfoldable pub memory : List ℕ → List ℕ → List ℤ → List ℕ → Memory
 memory rows holders numbers bytes = record { rows = rows; holders = holders; numbers = numbers; bytes = bytes }
 
--- they are large enough for N arrays of each height up to m
+-- the tables and the workspace are large enough for N arrays of each height up to m
 pub record Lent (m N : ℕ) (x : Memory) : Type 0 where
   pub deep : m ≤ 9
   pub many : N ≤ 256

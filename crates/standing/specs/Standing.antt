@@ -21,7 +21,7 @@ unfoldable pub cell : List ℕ → ℕ → ℕ → ℕ
 cell rows s f = getD rows (s * 16 + f) 0
 
 -- The row of slot s holds p, but for what the queue goes by: its ids by height, then what it spent before its last block, the cost of that block,
--- the number of its word, and the sets of the parities before and after it.
+-- the number of its word, and the sets of the parities before and after it. The setting itself is not kept.
 pub record Row (B : Book) (rows : List ℕ) (s : ℕ) (p : Path) : Type 0 where
   pub ids : HasIds (B .m) rows s (p .ids)
   pub spent : cell rows s 10 ≡ p .spent

@@ -1,4 +1,5 @@
-// A run's first state: path 0 alone in the queue, the other slots vacant, the received values at the root; and a block read off the tables.
+// A run's first state: path 0 holds array 1, the other slots are vacant, the received values are at the root. And what each extraction begins with:
+// a block read off the tables, and an entry of the walk written.
 ghost use mathlib.Core.Path.{_≡_};
 ghost use mathlib.Core.List.{List};
 ghost use Prim.Native.Nat.{ℕ, suc, _+_, _*_, _^_, _≤_, _<_};

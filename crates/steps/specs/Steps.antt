@@ -32,7 +32,7 @@ pub record BlockIs (B : Book) (b : ℕ) (x : Block) : Type 0 where
   pub bias : x .bias ≡ blockAt B b .bias
   pub word : x .place ≡ place B b
 
--- the tables are the book's
+-- the book keeps the limits, and the tables of kinds and terms are the book's
 pub record Booked (B : Book) (kinds terms : List ℕ) : Type 0 where
   pub valid : Valid B
   pub tabled : Tabled (B .kinds) kinds terms
@@ -85,7 +85,7 @@ pub record Moving (m N : ℕ) (x : Memory) (e : ℕ) (es vs : List ℕ) (last at
 
 -- ---- the visit
 
--- all paths are queued
+-- no path is in hand: es are queued and vs vacant, for some book of depth m, arrays, and paths
 pub record Queued (m N : ℕ) (x : Memory) (es vs : List ℕ) : Type 0 where
   pub book : Book
   pub arrays : Arrays

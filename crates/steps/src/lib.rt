@@ -1,4 +1,5 @@
-// The copy of the path in hand, on the memory that stands for the reader's state. specs/ says what each step of an extraction needs.
+// Step 2, the queue's cut and the copy of the path in hand, on the memory that stands for the reader's state. specs/ says what each step of an
+// extraction needs.
 pub mod copies;
 pub mod crowding;
 

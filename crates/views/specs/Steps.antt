@@ -29,7 +29,7 @@ pub record Turning (h : ℕ) (v : View) : Type 0 where
 unfoldable pub turnedOver : ℕ → List (ℕ → ℕ) → View → View
 turnedOver h others v = let ys = valsOf v (suc h) in putVals others h (Ps (sumsOf v h) (take (2 ^ h) ys) (drop (2 ^ h) ys)) v
 
--- the sums of the heights from j up to h are there, and are bits
+-- the sums of the heights from j on, below h, are there, and are bits
 unfoldable pub Joinable : ℕ → ℕ → View → Type 0
 Joinable j h v = (k : ℕ) → j ≤ k → k < h → (1 ≤ v .ids k) × All Bit (sumsOf v k)
 

@@ -108,7 +108,7 @@ pub fn turn_over(
     second_half(numbers, bytes, m, most, h, from, word, to);
 }
 
-// The word of 2^j bits at the end of the 2^h bytes at `at`, joined with the slot's sums of the heights from j up to h.
+// The word of 2^j bits at the end of height h of array `id`, joined there with the slot's sums of the heights from j on, below h.
 fn join(
     rows: &[u32; 4096],
     bytes: &mut [u8],
@@ -163,7 +163,7 @@ pub fn commit(
     join(rows, bytes, m, most, slot, j, h, to);
 }
 
-// An array of height h for the word of a block of height j; the block's own values go along.
+// Takes an array of height h for the word of a block of height j; where h is j, the block's own values go along.
 pub fn claim(
     rows: &mut [u32; 4096],
     holders: &mut [u16; 2570],
