@@ -4,10 +4,10 @@ use mathlib.Core.Path.{_≡_, refl, sym, ap, ap₂, _∙_}
 use mathlib.Core.List.{List, [], _∷_}
 use mathlib.Core.Logic.{_⊎_, inl, inr}
 use Prim.Native.Nat.{ℕ, zero, suc, _+_, _-_, _*_, _/_, _≤_, _<_}
-use native.Mathlib.Nat.{zero-add, suc-add}
+use native.Mathlib.Nat.{zero-add}
 use native.Mathlib.Numerals.{add-one}
 use native.Mathlib.Omega.{arith}
-use lib.ListN.{length, getD, set, take, drop, length-set}
+use lib.ListN.{length, getD, set, take, length-set}
 use lib.Seq.{getD-set-same, getD-set-other}
 use borrow.Author.Tests.{lt-ltb, le-ltb}
 use Rattle.laws.specs.Lists.{keep}
@@ -46,12 +46,6 @@ pub queue-length : (n : ℕ) (l : List ℕ) → length (queueOf l n) ≡ n
 unfolding queueOf
 queue-length zero l = refl
 queue-length (suc n) l = ap suc (queue-length n l)
-
--- behind the first k paths stand those of the entries below
-pub queue-drop : (k n : ℕ) (l : List ℕ) → drop k (queueOf l (k + n)) ≡ queueOf l n
-unfolding queueOf
-queue-drop zero n l = ap (queueOf l) (zero-add n)
-queue-drop (suc k) n l = ap (λ i. drop (suc k) (queueOf l i)) (suc-add k n) ∙ queue-drop k n l
 
 -- fewer entries rise too
 pub rising-less : (l : List ℕ) (n m : ℕ) → Rising l n → m ≤ n → Rising l m

@@ -1,5 +1,5 @@
 pub mod Words
+pub mod Blocks
 pub mod Search
 pub mod Short
 pub mod Long
-pub mod Blocks

@@ -61,18 +61,6 @@ pub fn add_sums(bytes: &mut [u8], low: usize, high: usize, to: usize, n: usize)
     }
 }
 
-// The n bytes at `from`, copied to `to`.
-pub fn copy_sums(bytes: &mut [u8], from: usize, to: usize, n: usize)
-    requires { ⌜ Clear from n to n (now bytes) ⌝ }
-    ensures { λ _. ⌜ now (bytes .exit) ≡ overAt to (part from n (now (bytes .entry))) (now (bytes .entry)) ⌝ }
-{
-    let mut i: usize = 0;
-    while i < n {
-        bytes[to + i] = bytes[from + i];
-        i += 1;
-    }
-}
-
 // The n values at `from`, copied to `to`.
 pub fn copy_values(numbers: &mut [i32], from: usize, to: usize, n: usize)
     requires { ⌜ Clear from n to n (now numbers) ⌝ }
