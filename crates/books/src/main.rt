@@ -23,6 +23,7 @@ enum Verdict {
     Faulty,
 }
 
+// The loader's word on these bytes.
 fn judged(book: &[u8]) -> Verdict {
     let x = load(book);
     let outcome = x.outcome;

@@ -1,6 +1,6 @@
--- What each C function answers, and what its lent slices then hold: the numbers of document 01's refusal table, 0 for success. A shape and a
--- record are written with every answer, zeros on a refusal; but one that is lent at another length is refused as 7, where 7 stands in the
--- table's order, and keeps what it held. Assumes nothing.
+-- What the C functions of load, test and records answer, and what their lent slices then hold: the numbers of document 01's refusal table, 0
+-- for success. A shape and a record are written with every answer, zeros on a refusal; but one that is lent at another length is refused as
+-- 7, where 7 stands in the table's order, and keeps what it held. Assumes nothing.
 use mathlib.Core.Bool.{cond}
 use mathlib.Core.List.{List, [], _∷_}
 use mathlib.Core.Option.{Option, none, some}
@@ -49,6 +49,7 @@ unfoldable pub noStatus : Load → List ℕ → Wrote
 noStatus (refused r) ds = kept r ds
 noStatus (loaded B) ds = cond (holdsRecord B ds) (kept BadValue ds) (kept Mismatch ds)
 
+-- make record: the record's own call where the number is that of a status
 unfoldable pub makeRecordWrote : List ℕ → ℕ → ℕ → ℕ → Option Status → List ℕ → Wrote
 makeRecordWrote book plant carcass side none ds = noStatus (load book) ds
 makeRecordWrote book plant carcass side (some s) ds =

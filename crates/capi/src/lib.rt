@@ -58,6 +58,7 @@ pub extern "C" fn saddlemint_encode(book: &[u8], bits: &[u8], word: &mut [u8]) -
     outcome_number(encode(book, bits, word))
 }
 
+// The number of a test's answer; "not in the code" is no refusal.
 fn tested_number(t: Tested) -> u32
     ensures { λ r. ⌜ r ≡ testedNumber t ⌝ }
 {

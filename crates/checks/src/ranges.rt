@@ -1,4 +1,4 @@
-// The settings of a decoding call: how often a block is visited (L), how many paths are alive (D), and the limit of the discrepancy (T).
+// The settings of a decoding call: how often a block may be visited (L), how many paths may be alive (D), and the limit of the discrepancy (T).
 ghost use mathlib.Core.Path.{_≡_};
 ghost use Rattle.checks.specs.Checks.{checkedAs};
 use crate::Checked;

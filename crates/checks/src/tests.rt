@@ -1,4 +1,4 @@
-// Checks of what a decoding call is lent.
+// Tests of what a decoding call is given and lent: the values and the lengths.
 ghost use mathlib.Core.Path.{_≡_};
 ghost use Prim.Native.Nat.{_≤_};
 ghost use lib.Dec.{leb};

@@ -40,11 +40,13 @@ pub record Attempted : Type 0 where
 unfoldable pub answerOf : ℕ → Run → Final → Decoded
 answerOf limit r f = record { outcome = cond (leb (f .discrepancy) limit) Done (Refused AboveLimit); counts = countsOf (r .steps) f }
 
+-- an attempt that made this run: judged by the limit, word and data not yet handed out
 unfoldable pub ranOf : Book → Input → Lent → Run → Attempted
 ranOf B c l r =
     let f = finalOf B (c .values) (r .final) in
     record { answer = answerOf (c .T) r f; found = f; lent = afterRun B c l (r .steps) f false }
 
+-- an attempt that made no run: counts of 0, nothing found, every buffer as it was
 unfoldable pub noRun : Refusal → Lent → Attempted
 noRun r l =
     record {
@@ -53,14 +55,17 @@ noRun r l =
       lent = l;
     }
 
+-- the attempt with a good book, by what bars it: a refusal, or nothing and then the machine's run
 unfoldable pub unbarred : Book → Input → Lent → Option Refusal → Attempted
 unbarred B c l (some r) = noRun r l
 unbarred B c l none = ranOf B c l (runOf B (c .L) (c .D) (c .values))
 
+-- the attempt by what loading comes to; hook says which call it is for
 unfoldable pub attemptWith : Bool → Load → Input → Lent → Attempted
 attemptWith hook (refused r) c l = noRun r l
 attemptWith hook (loaded B) c l = unbarred B c l (barred B c l (fitsFor hook B))
 
+-- the attempt of a call
 unfoldable pub attempted : Bool → Input → Lent → Attempted
 attempted hook c l = attemptWith hook (load (c .book)) c l
 

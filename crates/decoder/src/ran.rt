@@ -1,4 +1,5 @@
-// A call's run, on exactly the part of the workspace that document 01 states, which is zero afterwards. Relies on the crates reading and checks.
+// A call's run, on exactly the part of the workspace that document 01 states, which is zero afterwards. Relies on the crates reading, heights
+// and checks.
 use checks::buffers::clear_bytes;
 use checks::buffers::clear_numbers;
 use checks::buffers::hand_out;

@@ -1,4 +1,4 @@
-// One input from its bytes to its listing. Relies on input.rt, lines.rt, codebook::load and decoder::decode.
+// One input from its bytes to its listing. Relies on input.rt, lines.rt, text::bytes, codebook::load and decoder::decode.
 use crate::input::Cut;
 use crate::input::book_length;
 use crate::input::read_values;

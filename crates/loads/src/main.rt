@@ -1,5 +1,5 @@
 // Replays recorded load cases: reads a stream of operations on standard input (reference/README.md has its format), and prints for each case what
-// the load call answers. The output is held to what the independent reference printed. Relies on codebook::load.
+// the load call answers. The output is held to what the independent reference printed. Relies on codebook::load and text::bytes.
 use codebook::Shape;
 use libc::STDIN_FILENO;
 use libc::STDOUT_FILENO;
@@ -43,6 +43,7 @@ fn copy_book(s: &[u8], from: usize, count: usize, book: &mut [u8]) -> usize
     from + count
 }
 
+// One byte of the book changed.
 fn patch(book: &mut [u8], at: usize, value: u8) {
     if book.len() <= at {
         return;
@@ -74,6 +75,7 @@ fn load_case(case: u64, book: &[u8], count: usize) {
     }
 }
 
+// The operations of the stream, one after another.
 fn replay(s: &[u8], book: &mut [u8]) {
     let mut case: u64 = 0;
     let mut at: usize = 0;

@@ -26,32 +26,36 @@ use Rattle.screen.specs.Records.{nthRecord, recorded}
 
 -- ---- the records of a run
 
--- the machine's extractions in a call: none where it makes no run
+-- the machine's extractions with a good book, by what bars the call: none where something does
 unfoldable pub stepsUnbarred : Book → Input → Option Refusal → List Step
 stepsUnbarred B c (some r) = []
 stepsUnbarred B c none = runOf B (c .L) (c .D) (c .values) .steps
 
+-- the same by what loading comes to
 unfoldable pub stepsWith : Bool → Load → Input → Lent → List Step
 stepsWith hook (refused r) c l = []
 stepsWith hook (loaded B) c l = stepsUnbarred B c (barred B c l (fitsFor hook B))
 
+-- the machine's extractions in a call: none where it makes no run
 unfoldable pub stepsOf : Bool → Input → Lent → List Step
 stepsOf hook c l = stepsWith hook (load (c .book)) c l
 
 -- ---- the calls
 
--- whether so many records are too few, where neither the book nor a setting is at fault before
+-- whether so many records are too few, by what loading comes to
 unfoldable pub fewWith : Load → Input → ℕ → Bool
 fewWith (refused r) c room = false
 fewWith (loaded B) c room = settingsOk c && ltb room (walkNeeded B c)
 
+-- whether so many records are too few, where neither the book nor a setting is at fault before
 unfoldable pub few : Input → ℕ → Bool
 few c room = fewWith (load (c .book)) c room
 
--- the call with room for so many records: 7 where they are too few, else the call
+-- the plain call with room for so many records: 7 where they are too few, else the call
 unfoldable pub plainWithin : Input → Lent → ℕ → Called Decoded
 plainWithin c l room = cond (few c room) (plainRefused Mismatch l) (plainCall c l)
 
+-- the hook call, likewise
 unfoldable pub hookWithin : Input → Lent → ℕ → Called HookDecoded
 hookWithin c l room = cond (few c room) (hookRefused Mismatch l) (hookCall c l)
 

@@ -33,6 +33,7 @@ fn few(book: &[u8], visits: u32, paths: u32, limit: u32, room: usize) -> bool
     room < visits as usize * x.blocks as usize + 1
 }
 
+// The counts of a call that makes no run.
 fn no_counts() -> Counts
     ensures { λ r. ⌜ r ≡ noCounts ⌝ }
 {

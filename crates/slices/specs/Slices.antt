@@ -21,11 +21,12 @@ countsSlice x = x .extractions ∷ x .crowded ∷ x .outrun ∷ x .discrepancy �
 unfoldable pub recordSlice : HookRecord → List ℕ
 recordSlice h = h .plant ∷ h .carcass ∷ h .side ∷ statusNumber (h .status) ∷ []
 
--- the number where counts or record have a wrong length: the book's fault, then 8, then 7
+-- the number where counts or record have a wrong length, by what loading comes to: the book's fault, then 8, then 7
 unfoldable pub misfitWith : Load → Input → ℕ
 misfitWith (refused r) c = number r
 misfitWith (loaded B) c = cond (settingsOk c) (number Mismatch) (number BadSetting)
 
+-- that number of a call
 unfoldable pub misfitNumber : Input → ℕ
 misfitNumber c = misfitWith (load (c .book)) c
 
@@ -36,6 +37,7 @@ pub record Answered : Type 0 where
   pub counts : List ℕ
   pub hook : List ℕ
 
+-- the answer there: that number, and every buffer and slice as it was
 unfoldable pub misfit : Input → Lent → List ℕ → List ℕ → Answered
 misfit c l counts hook = record { number = misfitNumber c; lent = l; counts = counts; hook = hook }
 

@@ -1,5 +1,5 @@
 // The decoding calls with a number as the answer, and counts and record in lent slices: what C calls, but for the names. Relies on the crates decoder,
-// checks and codebook; specs/Slices.antt says what each answers and leaves.
+// checks, codec and codebook; specs/Slices.antt says what each answers and leaves.
 use checks::Checked;
 use checks::Settings;
 use codebook::Outcome;

@@ -1,4 +1,4 @@
-// Printing what a decoding call answers and leaves in the lent buffers. Relies on stream.rt, buffers.rt, text.rt and records.rt.
+// Printing what a decoding call answers and leaves in the lent buffers. Relies on stream.rt, buffers.rt, lines.rt and records.rt.
 use crate::buffers::sum_bytes;
 use crate::buffers::sum_numbers;
 use crate::buffers::sum_values;

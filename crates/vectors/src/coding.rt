@@ -1,4 +1,4 @@
-// The cases of encode, test and read data. Each reads its fields from the stream. Relies on stream.rt, buffers.rt, text.rt and the crate codec.
+// The cases of encode, test and read data. Each reads its fields from the stream. Relies on stream.rt, buffers.rt, lines.rt and the crate codec.
 use crate::buffers::fill_bytes;
 use crate::buffers::lend_bytes;
 use crate::buffers::sum_bytes;

@@ -76,7 +76,7 @@ fn any_case(
     }
 }
 
-// Up to 100,000 operations.
+// The operations of the stream, up to 100,000.
 fn replay(
     book: &mut [u8],
     numbers: &mut [i32],

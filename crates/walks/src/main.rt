@@ -40,6 +40,7 @@ fn copy_input(s: &[u8], from: usize, count: usize, input: &mut [u8]) -> usize
     i
 }
 
+// One byte of the input changed.
 fn patch(input: &mut [u8], at: usize, value: u8) {
     if at < input.len() {
         input[at] = value;
@@ -62,6 +63,7 @@ fn pad(input: &mut [u8], size: usize, count: usize, value: u8) -> usize
     size + i
 }
 
+// A case: its number, and the listing of the input's first bytes.
 fn print_case(case: u64, input: &[u8], count: usize) {
     print_words(b"case ");
     print_number(case);
@@ -92,6 +94,7 @@ fn change(s: &[u8], at: usize, size: usize, input: &mut [u8]) -> Place
     Place { at: s.len(), size }
 }
 
+// The operations of the stream, one after another.
 fn replay(s: &[u8], input: &mut [u8]) {
     let mut case: u64 = 0;
     let mut p = Place { at: 0, size: 0 };
