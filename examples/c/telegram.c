@@ -1,6 +1,6 @@
 /*
  * Decodes a telegram and shows its record: the hook call as a reader's firmware would make it, with every refusal told apart. Then the same
- * telegram with a lower limit (faint), with a value out of range, and with a workspace one entry short.
+ * telegram with a lower limit (faint), with a value out of range, with a workspace one entry short, and with a limit out of range.
  */
 #include <stdio.h>
 #include <string.h>
