@@ -31,6 +31,9 @@ add-two c = omega arith
 two-requires : tie.Need-two-requires Inv-loop μ-loop
 two-requires c κs = search needs
 
+cast-load-case : tie.Need-cast-load-case Inv-loop μ-loop
+cast-load-case c = omega (arith, c .two .ensures .1)
+
 load-case-requires : tie.Need-load-case-requires Inv-loop μ-loop
 load-case-requires c κs = search needs
 
@@ -70,6 +73,7 @@ replay-spec =
     add-case
     add-two
     two-requires
+    cast-load-case
     load-case-requires
     add-at
     loop-less
