@@ -18,7 +18,6 @@ use Rattle.polar.specs.Layers.{part, Within}
 use Rattle.machine.specs.Choice.{firstOf}
 use Rattle.outer.specs.declared.Candidate.{Candidate}
 use Rattle.outer.specs.declared.Pair.{Pair}
-use Rattle.outer.specs.declared.Two.{Two}
 
 -- ---- the words and parities of all settings
 
@@ -135,33 +134,6 @@ lesser key a b = ltb (key a) (key b)
 -- of the first n settings, the first with the least key from a bound on
 unfoldable pub leastFrom : (ℕ → ℕ) → ℕ → ℕ → Option ℕ
 leastFrom key bound n = firstOf (lesser key) (λ (w : ℕ). leb bound (key w)) tried n
-
--- the first with the least key above that of a setting, if there is one
-unfoldable pub above : (ℕ → ℕ) → ℕ → Option ℕ → Option ℕ
-above key n none = none
-above key n (some w) = leastFrom key (key w + 1) n
-
--- of the first n settings, the first with the least key after the first's
-unfoldable pub afterFirst : (ℕ → ℕ) → ℕ → ℕ → Option ℕ
-afterFirst key bound n = above key n (leastFrom key bound n)
-
--- the key of what is found; the greatest number of 64 bits for none
-unfoldable pub foundKey : (ℕ → ℕ) → Option ℕ → ℕ
-foundKey key none = 18446744073709551615
-foundKey key (some w) = key w
-
--- its setting; 0 for none
-unfoldable pub foundSetting : Option ℕ → ℕ
-foundSetting none = 0
-foundSetting (some w) = w
-
--- two that are found, as the pass keeps them
-unfoldable pub twoOf : (ℕ → ℕ) → Option ℕ → Option ℕ → Two
-twoOf key o p = record { first = foundKey key o; second = foundKey key p; at = foundSetting o; next = foundSetting p }
-
--- of the first n settings, the two with the least keys from a bound on
-unfoldable pub twoLeast : (ℕ → ℕ) → ℕ → ℕ → Two
-twoLeast key bound n = twoOf key (leastFrom key bound n) (afterFirst key bound n)
 
 -- ---- the answer
 

@@ -21,8 +21,8 @@ use heights::arrays::place;
 use order::entries::slot_of;
 use outer::Candidate;
 use outer::Pair;
-use outer::find::nearest_pair;
-use outer::find::next_after;
+use search::find::nearest_pair;
+use search::find::next_after;
 
 // A block: its first index, its height, its bias, and the height where its word goes.
 pub struct Block {

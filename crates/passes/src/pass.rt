@@ -1,0 +1,234 @@
+// The search of a block of more than 8 positions: its words are listed, and one pass over their keys keeps the two least from the bound on.
+// Relies on costs.rt, least_two.rt, settings.rt and, for the parities, short.rt; specs/Long.antt says what is found.
+ghost use mathlib.Core.Path.{_≡_};
+ghost use Prim.Native.Nat.{_+_, _-_, _^_, _≤_, _<_};
+ghost use lib.ListN.{length, getD};
+ghost use Rattle.laws.specs.Lists.{All};
+ghost use Rattle.polar.specs.Layers.{part, Within};
+ghost use Rattle.outer.specs.Search.{picked, Fours, Small, found, foundPair, Walkable};
+ghost use Rattle.passes.specs.Pass.{twoLeast, Turned, summedKey, chosen, foundTwo};
+use outer::Candidate;
+use outer::Pair;
+use crate::Two;
+use tables::costs::cost_of;
+use tables::costs::prepare;
+use crate::least_two::among;
+use crate::least_two::none;
+use tables::settings::double_all;
+use tables::settings::walk;
+use short::short::spread_at;
+
+// The word of n ones.
+fn ones(n: usize) -> u32
+    requires { ⌜ n ≤ 32 ⌝ }
+    ensures { λ r. ⌜ r ≡ 2 ^ n - 1 ⌝ }
+{
+    let all: u64 = 1 << n;
+    (all - 1) as u32
+}
+
+// The sum of the costs of the first two words, where the last of at least 4 directions is the word of n ones; else the greatest number.
+fn turned(
+    words: &[u32; 256],
+    sums: &[u32; 128],
+    runs: usize,
+    steps: &[u32; 9],
+    free: usize,
+    n: usize,
+) -> u32
+    requires { ⌜ Fours runs × Small (now sums) runs × (free ≤ 8) × (n ≤ 32) ⌝ }
+    ensures { λ r. ⌜ ((r ≡ 4294967295 → ⊥) → (0 < free) × (getD (now (steps .entry)) free 0 ≡ 2 ^ n - 1)
+        × (r ≡ picked (now (sums .entry)) 0 runs (getD (now (words .entry)) 0 0) + picked (now (sums .entry)) 0 runs (getD (now (words .entry)) 1 0))) ⌝ }
+{
+    if free < 4 {
+        return 4294967295;
+    }
+    if steps[free] != ones(n) {
+        return 4294967295;
+    }
+    cost_of(sums, runs, words[0]) + cost_of(sums, runs, words[1])
+}
+
+// The two least keys from the bound on, of the first `count` words.
+fn two_each(words: &[u32; 256], count: usize, sums: &[u32; 128], runs: usize, bound: u64) -> Two
+    requires { ⌜ (count ≤ 256) × Fours runs × Small (now sums) runs ⌝ }
+    ensures { λ r. ⌜ r ≡ twoLeast (summedKey (now (sums .entry)) runs (now (words .entry))) bound count ⌝ }
+{
+    let mut two = none();
+    let mut w: usize = 0;
+    while w < count {
+        let word = words[w];
+        two = among(two, bound, cost_of(sums, runs, word), word, w);
+        w += 1;
+    }
+    two
+}
+
+// The same, where the costs of each two words from an even setting on have one sum: each second cost is what is left of it.
+fn two_turned(
+    words: &[u32; 256],
+    count: usize,
+    sums: &[u32; 128],
+    runs: usize,
+    total: u32,
+    bound: u64,
+) -> Two
+    requires { ⌜ (count ≤ 256) × Fours runs × Small (now sums) runs × (total < 4294967295) × Turned (now sums) runs (now words) count total ⌝ }
+    ensures { λ r. ⌜ r ≡ twoLeast (summedKey (now (sums .entry)) runs (now (words .entry))) bound count ⌝ }
+{
+    let mut two = none();
+    let mut w: usize = 0;
+    while w < count {
+        let word = words[w];
+        let other = words[w + 1];
+        let cost = cost_of(sums, runs, word);
+        two = among(two, bound, cost, word, w);
+        two = among(two, bound, total - cost, other, w + 1);
+        w += 2;
+    }
+    two
+}
+
+// The same, two words a turn unless the sum is the greatest number.
+fn pass(
+    words: &[u32; 256],
+    count: usize,
+    sums: &[u32; 128],
+    runs: usize,
+    total: u32,
+    bound: u64,
+) -> Two
+    requires { ⌜ (count ≤ 256) × Fours runs × Small (now sums) runs
+        × ((total ≡ 4294967295 → ⊥) → Turned (now sums) runs (now words) count total) ⌝ }
+    ensures { λ r. ⌜ r ≡ twoLeast (summedKey (now (sums .entry)) runs (now (words .entry))) bound count ⌝ }
+{
+    if total == 4294967295 {
+        return two_each(words, count, sums, runs, bound);
+    }
+    two_turned(words, count, sums, runs, total, bound)
+}
+
+// The word with a key, as a candidate; none for the greatest number.
+fn candidate(key: u64, at: usize, steps: &[u32; 9], free: usize) -> Candidate
+    requires { ⌜ (at < 256) × (free ≤ 8) ⌝ }
+    ensures { λ r. ⌜ r ≡ chosen (now (steps .entry)) free key at ⌝ }
+{
+    if key == 18446744073709551615 {
+        return Candidate {
+            some: false,
+            setting: 0,
+            parities: 0,
+            cost: 0,
+            number: 0,
+        };
+    }
+    Candidate {
+        some: true,
+        setting: at as u32,
+        parities: spread_at(steps, free, at as u32),
+        cost: (key / 4294967296) as u32,
+        number: (key % 4294967296) as u32,
+    }
+}
+
+// The word of least key from a bound on, of a block of n positions, and the one of least key after it.
+fn find_two(
+    numbers: &[i32],
+    at: usize,
+    kinds: &[u8; 512],
+    terms: &[u32; 512],
+    start: usize,
+    n: usize,
+    parities: u32,
+    bound: u64,
+    words: &mut [u32; 256],
+    sums: &mut [u32; 128],
+) -> Pair
+    requires { ⌜ (length (now words) ≡ 256) × (length (now sums) ≡ 128) × Walkable (now kinds) start n
+        × (at + n ≤ length (now numbers)) × All (Within 1048064) (part at n (now numbers)) ⌝ }
+    ensures { λ r. ⌜ (length (now (words .exit)) ≡ 256) × (length (now (sums .exit)) ≡ 128)
+        × (r ≡ foundTwo (now (kinds .entry)) (now (terms .entry)) start parities n (part at n (now (numbers .entry))) bound) ⌝ }
+{
+    let mut word_steps: [u32; 9] = [0; 9];
+    let mut steps: [u32; 9] = [0; 9];
+    let free = walk(
+        kinds,
+        terms,
+        start,
+        n,
+        parities,
+        &mut word_steps,
+        &mut steps,
+    );
+    let count = double_all(words, &word_steps, free);
+    let runs = prepare(numbers, at, n, sums);
+    let total = turned(words, sums, runs, &word_steps, free, n);
+    let two = pass(words, count, sums, runs, total, bound);
+    let first = candidate(two.first, two.at, &steps, free);
+    let second = candidate(two.second, two.next, &steps, free);
+    Pair { first, second }
+}
+
+// The word of least key from a bound on, of a block of n positions.
+pub fn search_long(
+    numbers: &[i32],
+    at: usize,
+    kinds: &[u8; 512],
+    terms: &[u32; 512],
+    start: usize,
+    n: usize,
+    parities: u32,
+    bound: u64,
+    words: &mut [u32; 256],
+    sums: &mut [u32; 128],
+) -> Candidate
+    requires { ⌜ (length (now words) ≡ 256) × (length (now sums) ≡ 128) × Walkable (now kinds) start n
+        × (at + n ≤ length (now numbers)) × All (Within 1048064) (part at n (now numbers)) ⌝ }
+    ensures { λ r. ⌜ (length (now (words .exit)) ≡ 256) × (length (now (sums .exit)) ≡ 128)
+        × (r ≡ found (now (kinds .entry)) (now (terms .entry)) start parities n (part at n (now (numbers .entry))) bound) ⌝ }
+{
+    let two = find_two(
+        numbers,
+        at,
+        kinds,
+        terms,
+        start,
+        n,
+        parities,
+        bound,
+        words,
+        sums,
+    );
+    two.first
+}
+
+// The word of least key of a block of n positions, and the one of least key after it.
+pub fn pair_long(
+    numbers: &[i32],
+    at: usize,
+    kinds: &[u8; 512],
+    terms: &[u32; 512],
+    start: usize,
+    n: usize,
+    parities: u32,
+    words: &mut [u32; 256],
+    sums: &mut [u32; 128],
+) -> Pair
+    requires { ⌜ (length (now words) ≡ 256) × (length (now sums) ≡ 128) × Walkable (now kinds) start n
+        × (at + n ≤ length (now numbers)) × All (Within 1048064) (part at n (now numbers)) ⌝ }
+    ensures { λ r. ⌜ (length (now (words .exit)) ≡ 256) × (length (now (sums .exit)) ≡ 128)
+        × (r ≡ foundPair (now (kinds .entry)) (now (terms .entry)) start parities n (part at n (now (numbers .entry)))) ⌝ }
+{
+    find_two(
+        numbers,
+        at,
+        kinds,
+        terms,
+        start,
+        n,
+        parities,
+        0,
+        words,
+        sums,
+    )
+}

@@ -1,0 +1,208 @@
+// The nearest word of a block, and the next after one: the least key, cost before number, among all settings. Relies on short.rt and long.rt;
+// specs/Words.antt says what the words are, specs/Search.antt what a key is.
+ghost use mathlib.Core.Path.{_≡_};
+ghost use mathlib.Core.Option.{some};
+ghost use Prim.Native.Nat.{ℕ, _+_, _^_, _<_};
+ghost use Rattle.polar.specs.Layers.{part};
+ghost use Rattle.outer.specs.Search.{keyOf, found, foundPair, Scratch, Searchable};
+ghost use Rattle.codebook.specs.Book.{Book};
+ghost use Rattle.codec.specs.Ties.{Parities};
+ghost use Rattle.outer.specs.Words.{Word, nearest, nextAfter};
+ghost use Rattle.outer.specs.Blocks.{paritySet, Bits, BlockTabled, candidateOf};
+use outer::Candidate;
+use outer::Pair;
+use passes::pass::pair_long;
+use passes::pass::search_long;
+use short::short::pair_short;
+use short::short::power;
+use short::short::search_short;
+
+// The least bound above the key of a cost and a number.
+pub fn after(cost: u32, number: u32) -> u64
+    requires { ⌜ cost < 4294967295 ⌝ }
+    ensures { λ r. ⌜ r ≡ keyOf cost number + 1 ⌝ }
+{
+    key(cost, number) + 1
+}
+
+// The word of least key from a bound on.
+fn search(
+    numbers: &[i32],
+    at: usize,
+    kinds: &[u8; 512],
+    terms: &[u32; 512],
+    start: usize,
+    j: u32,
+    parities: u32,
+    bound: u64,
+    words: &mut [u32; 256],
+    sets: &mut [u32; 256],
+    sums: &mut [u32; 128],
+) -> Candidate
+    requires { ⌜ Searchable (now numbers) at (now kinds) start j ⌝ }
+    requires { ⌜ Scratch (now words) (now sets) (now sums) ⌝ }
+    ensures { λ _. ⌜ Scratch (now (words .exit)) (now (sets .exit)) (now (sums .exit)) ⌝ }
+    ensures { λ r. ⌜ r ≡ found (now (kinds .entry)) (now (terms .entry)) start parities (2 ^ j) (part at (2 ^ j) (now (numbers .entry))) bound ⌝ }
+{
+    let n = power(j);
+    if n <= 8 {
+        return search_short(
+            numbers,
+            at,
+            kinds,
+            terms,
+            start,
+            n,
+            parities,
+            bound,
+            words,
+            sets,
+        );
+    }
+    search_long(
+        numbers,
+        at,
+        kinds,
+        terms,
+        start,
+        n,
+        parities,
+        bound,
+        words,
+        sums,
+    )
+}
+
+// The nearest word of a block: of all settings of its free bits, after the given parities, the least cost, equals by the smaller number. The
+// tables are scratch.
+pub fn nearest(
+    numbers: &[i32],
+    at: usize,
+    kinds: &[u8; 512],
+    terms: &[u32; 512],
+    start: usize,
+    j: u32,
+    parities: u32,
+    words: &mut [u32; 256],
+    sets: &mut [u32; 256],
+    sums: &mut [u32; 128],
+) -> Candidate
+    requires { ⌜ Searchable (now numbers) at (now kinds) start j ⌝ }
+    requires { ⌜ Scratch (now words) (now sets) (now sums) ⌝ }
+    ensures { λ _. ⌜ Scratch (now (words .exit)) (now (sets .exit)) (now (sums .exit)) ⌝ }
+    ensures { λ r. ⌜ ((B : Book) (b : ℕ) (x : Parities) → BlockTabled B b (now (kinds .entry)) (now (terms .entry)) start j
+        → Bits x → parities ≡ paritySet B x → r ≡ candidateOf B (nearest B (part at (2 ^ j) (now (numbers .entry))) x b)) ⌝ }
+{
+    search(
+        numbers,
+        at,
+        kinds,
+        terms,
+        start,
+        j,
+        parities,
+        0,
+        words,
+        sets,
+        sums,
+    )
+}
+
+// The word of least key, and the one of least key after it.
+fn search_pair(
+    numbers: &[i32],
+    at: usize,
+    kinds: &[u8; 512],
+    terms: &[u32; 512],
+    start: usize,
+    j: u32,
+    parities: u32,
+    words: &mut [u32; 256],
+    sets: &mut [u32; 256],
+    sums: &mut [u32; 128],
+) -> Pair
+    requires { ⌜ Searchable (now numbers) at (now kinds) start j ⌝ }
+    requires { ⌜ Scratch (now words) (now sets) (now sums) ⌝ }
+    ensures { λ _. ⌜ Scratch (now (words .exit)) (now (sets .exit)) (now (sums .exit)) ⌝ }
+    ensures { λ r. ⌜ r ≡ foundPair (now (kinds .entry)) (now (terms .entry)) start parities (2 ^ j) (part at (2 ^ j) (now (numbers .entry))) ⌝ }
+{
+    let n = power(j);
+    if n <= 8 {
+        return pair_short(numbers, at, kinds, terms, start, n, parities, words, sets);
+    }
+    pair_long(numbers, at, kinds, terms, start, n, parities, words, sums)
+}
+
+// The nearest word of a block, and the next after it, from one filling of the tables.
+pub fn nearest_pair(
+    numbers: &[i32],
+    at: usize,
+    kinds: &[u8; 512],
+    terms: &[u32; 512],
+    start: usize,
+    j: u32,
+    parities: u32,
+    words: &mut [u32; 256],
+    sets: &mut [u32; 256],
+    sums: &mut [u32; 128],
+) -> Pair
+    requires { ⌜ Searchable (now numbers) at (now kinds) start j ⌝ }
+    requires { ⌜ Scratch (now words) (now sets) (now sums) ⌝ }
+    ensures { λ _. ⌜ Scratch (now (words .exit)) (now (sets .exit)) (now (sums .exit)) ⌝ }
+    ensures { λ r. ⌜ ((B : Book) (b : ℕ) (x : Parities) → BlockTabled B b (now (kinds .entry)) (now (terms .entry)) start j
+        → Bits x → parities ≡ paritySet B x
+        → (r .first ≡ candidateOf B (nearest B (part at (2 ^ j) (now (numbers .entry))) x b))
+        × ((w : Word) → nearest B (part at (2 ^ j) (now (numbers .entry))) x b ≡ some w
+        → r .second ≡ candidateOf B (nextAfter w B (part at (2 ^ j) (now (numbers .entry))) x b))) ⌝ }
+{
+    search_pair(
+        numbers,
+        at,
+        kinds,
+        terms,
+        start,
+        j,
+        parities,
+        words,
+        sets,
+        sums,
+    )
+}
+
+// The next word of a block after the one with this cost and number.
+pub fn next_after(
+    numbers: &[i32],
+    at: usize,
+    kinds: &[u8; 512],
+    terms: &[u32; 512],
+    start: usize,
+    j: u32,
+    parities: u32,
+    cost: u32,
+    number: u32,
+    words: &mut [u32; 256],
+    sets: &mut [u32; 256],
+    sums: &mut [u32; 128],
+) -> Candidate
+    requires { ⌜ Searchable (now numbers) at (now kinds) start j ⌝ }
+    requires { ⌜ Scratch (now words) (now sets) (now sums) ⌝ }
+    requires { ⌜ cost < 4294967295 ⌝ }
+    ensures { λ _. ⌜ Scratch (now (words .exit)) (now (sets .exit)) (now (sums .exit)) ⌝ }
+    ensures { λ r. ⌜ ((B : Book) (b : ℕ) (x : Parities) (own : Word) → BlockTabled B b (now (kinds .entry)) (now (terms .entry)) start j
+        → Bits x → parities ≡ paritySet B x → own .cost ≡ cost → own .number ≡ number
+        → r ≡ candidateOf B (nextAfter own B (part at (2 ^ j) (now (numbers .entry))) x b)) ⌝ }
+{
+    search(
+        numbers,
+        at,
+        kinds,
+        terms,
+        start,
+        j,
+        parities,
+        after(cost, number),
+        words,
+        sets,
+        sums,
+    )
+}

@@ -1,0 +1,2 @@
+// The nearest word of a block, and the next after one.
+pub mod find;

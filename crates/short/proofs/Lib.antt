@@ -1,0 +1,4 @@
+pub mod Bytes
+pub mod LeastKey
+pub mod Picks
+pub mod Pairs

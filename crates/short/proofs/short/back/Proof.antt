@@ -1,0 +1,12 @@
+-- `short::short::back` meets its contract: the literal. Assumes nothing.
+use mathlib.Core.Path.{refl}
+use Rattle.short.specs.Short.{backRows}
+use Rattle.short.proofs.short.back.Statement.{statement}
+use Rattle.short.proofs.short.back.Tie as tie
+
+returns : tie.Need-returns
+unfolding backRows
+returns c = refl
+
+pub back-spec : {M : Type 1} → statement M
+back-spec = tie.close (tie.spec returns)

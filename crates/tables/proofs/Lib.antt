@@ -1,0 +1,4 @@
+pub mod Xor
+pub mod Spread
+pub mod Advance
+pub mod Bounds
