@@ -7,16 +7,16 @@ ghost use Rattle.laws.specs.Lists.{All};
 ghost use Rattle.polar.specs.Layers.{part, Within};
 ghost use Rattle.outer.specs.Search.{picked, Fours, Small, found, foundPair, Walkable};
 ghost use Rattle.passes.specs.Pass.{twoLeast, Turned, summedKey, chosen, foundTwo};
-use outer::Candidate;
-use outer::Pair;
 use crate::Two;
-use tables::costs::cost_of;
-use tables::costs::prepare;
 use crate::least_two::among;
 use crate::least_two::none;
+use outer::Candidate;
+use outer::Pair;
+use short::short::spread_at;
+use tables::costs::cost_of;
+use tables::costs::prepare;
 use tables::settings::double_all;
 use tables::settings::walk;
-use short::short::spread_at;
 
 // The word of n ones.
 fn ones(n: usize) -> u32

@@ -1,24 +1,34 @@
-// The nearest word of a block, and the next after one: the least key, cost before number, among all settings. Relies on short.rt and long.rt;
-// specs/Words.antt says what the words are, specs/Search.antt what a key is.
+// The nearest word of a block, and the next after one: the least key, cost before number, among all settings. A block of 8 positions with all indices
+// free, or all but the first, has a search of its own. Relies on the crates tables, passes and short; outer/specs/Words says what the words are,
+// outer/specs/Search what a key is.
 ghost use mathlib.Core.Path.{_≡_};
 ghost use mathlib.Core.Option.{some};
-ghost use Prim.Native.Nat.{ℕ, _+_, _^_, _<_};
+ghost use Prim.Native.Nat.{ℕ, _+_, _^_, _≤_, _<_};
 ghost use Rattle.polar.specs.Layers.{part};
-ghost use Rattle.outer.specs.Search.{keyOf, found, foundPair, Scratch, Searchable};
 ghost use Rattle.codebook.specs.Book.{Book};
 ghost use Rattle.codec.specs.Ties.{Parities};
+ghost use Rattle.outer.specs.Search.{keyOf, found, foundPair, Scratch, Searchable};
 ghost use Rattle.outer.specs.Words.{Word, nearest, nextAfter};
 ghost use Rattle.outer.specs.Blocks.{paritySet, Bits, BlockTabled, candidateOf};
 use outer::Candidate;
 use outer::Pair;
-use passes::pass::pair_long;
-use passes::pass::search_long;
-use short::short::pair_short;
-use short::short::power;
-use short::short::search_short;
+use passes::least_two::key;
+use passes::pass::find_two;
+use short::bytes::search_bytes;
+use short::flips::pair_checked;
+use short::flips::pair_free;
+use tables::settings::walk;
+
+// 2 to the power j.
+fn power(j: u32) -> usize
+    requires { ⌜ j ≤ 8 ⌝ }
+    ensures { λ r. ⌜ r ≡ 2 ^ j ⌝ }
+{
+    1 << j
+}
 
 // The least bound above the key of a cost and a number.
-pub fn after(cost: u32, number: u32) -> u64
+fn after(cost: u32, number: u32) -> u64
     requires { ⌜ cost < 4294967295 ⌝ }
     ensures { λ r. ⌜ r ≡ keyOf cost number + 1 ⌝ }
 {
@@ -45,32 +55,14 @@ fn search(
     ensures { λ r. ⌜ r ≡ found (now (kinds .entry)) (now (terms .entry)) start parities (2 ^ j) (part at (2 ^ j) (now (numbers .entry))) bound ⌝ }
 {
     let n = power(j);
-    if n <= 8 {
-        return search_short(
-            numbers,
-            at,
-            kinds,
-            terms,
-            start,
-            n,
-            parities,
-            bound,
-            words,
-            sets,
-        );
+    let mut steps: [u32; 9] = [0; 9];
+    let mut ties: [u32; 9] = [0; 9];
+    let free = walk(kinds, terms, start, n, parities, &mut steps, &mut ties);
+    if n == 8 && free >= 8 {
+        return search_bytes(numbers, at, &ties, free, bound, sets);
     }
-    search_long(
-        numbers,
-        at,
-        kinds,
-        terms,
-        start,
-        n,
-        parities,
-        bound,
-        words,
-        sums,
-    )
+    let two = find_two(numbers, at, n, bound, &steps, &ties, free, words, sums);
+    two.first
 }
 
 // The nearest word of a block: of all settings of its free bits, after the given parities, the least cost, equals by the smaller number. The
@@ -127,10 +119,16 @@ fn search_pair(
     ensures { λ r. ⌜ r ≡ foundPair (now (kinds .entry)) (now (terms .entry)) start parities (2 ^ j) (part at (2 ^ j) (now (numbers .entry))) ⌝ }
 {
     let n = power(j);
-    if n <= 8 {
-        return pair_short(numbers, at, kinds, terms, start, n, parities, words, sets);
+    let mut steps: [u32; 9] = [0; 9];
+    let mut ties: [u32; 9] = [0; 9];
+    let free = walk(kinds, terms, start, n, parities, &mut steps, &mut ties);
+    if n == 8 && free >= 8 {
+        return pair_free(numbers, at, &ties);
     }
-    pair_long(numbers, at, kinds, terms, start, n, parities, words, sums)
+    if n == 8 && free == 7 && kinds[start] != 0 {
+        return pair_checked(numbers, at, &ties, steps[0]);
+    }
+    find_two(numbers, at, n, 0, &steps, &ties, free, words, sums)
 }
 
 // The nearest word of a block, and the next after it, from one filling of the tables.

@@ -1,4 +1,5 @@
-pub mod Bytes
+pub mod Octets
 pub mod LeastKey
-pub mod Picks
-pub mod Pairs
+pub mod Leads
+pub mod Weights
+pub mod Answers

@@ -1,5 +1,5 @@
--- The search of a block of at most 8 positions as its code goes: a word's key is 256 times its cost and its number, the sum of the keys of its
--- two half bytes; the least key from a bound on; for 8 free indices, where every byte is a word, the setting by the byte. Assumes nothing.
+-- The search of a block of 8 positions whose words are all bytes, or all of one parity, as its code goes: a word's key is 256 times its cost and
+-- its number, the sum of the keys of its two half bytes; the least key from a bound on; the setting by the byte. Assumes nothing.
 use mathlib.Core.Path.{_≡_}
 use mathlib.Core.Bool.{true, cond}
 use mathlib.Core.List.{List, [], _∷_}
@@ -38,15 +38,11 @@ byteRows = 0 ∷ 0x01 ∷ 0x03 ∷ 0x05 ∷ 0x0f ∷ 0x11 ∷ 0x33 ∷ 0x55 ∷ 
 unfoldable pub backRows : List ℕ
 backRows = 0 ∷ 0xff ∷ 0xaa ∷ 0xcc ∷ 0x88 ∷ 0xf0 ∷ 0xa0 ∷ 0xc0 ∷ 0x80 ∷ []
 
--- the tables of a short block: with `free` directions, the sets by directions, the keys of half bytes, and the keys of all settings unless
--- all 8 indices are free
-pub record Keyed (free : ℕ) (keys halves sets : List ℕ) (e : ℕ → Entry) (vs : List ℤ) : Type 0 where
-  pub few : free ≤ 8
-  pub halved : Halves halves vs
-  pub bytes : (w : ℕ) → e w .word < 256
+-- the words of the first `count` settings are bytes in the order of the settings of 8 free indices, from one of these on, with the sets by
+-- directions: all 256 from 0 on where 8 are free, 128 from 0 or 128 on where all but the first are
+pub record Octets (from count free : ℕ) (sets : List ℕ) (e : ℕ → Entry) : Type 0 where
+  pub words : (w : ℕ) → w < count → e w .word ≡ spread byteRows 0 8 (from + w)
   pub spans : (w : ℕ) → spread sets 0 free w ≡ e w .set
-  pub some : free < 8 → (w : ℕ) → w < 2 ^ free → getD keys w 0 ≡ byteKey halves (e w .word)
-  pub all : 8 ≤ free → (w : ℕ) → e w .word ≡ spread byteRows 0 8 w
 
 -- the word of a setting, with its key
 unfoldable pub wordWith : List ℕ → ℕ → ℕ → ℕ → Candidate
