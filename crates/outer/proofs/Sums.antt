@@ -99,6 +99,17 @@ split w (a ∷ b ∷ c ∷ d ∷ l) = omega (arith, first w a, second w b, third
     rest : (w : ℕ) → w / 2 / 2 / 2 / 2 ≡ w / 16
     rest w = omega arith
 
+-- a half byte's cost by those of two pairs of bits
+pub two-pairs : (w : ℕ) (a b c d : ℤ) → costOf (w % 4) (a ∷ b ∷ []) + costOf (w / 4) (c ∷ d ∷ []) ≡ costOf w (a ∷ b ∷ c ∷ d ∷ [])
+unfolding costOf
+two-pairs w a b c d =
+    let e : w % 4 % 2 ≡ w % 2 = omega arith in
+    let h : w / 4 ≡ w / 2 / 2 = omega arith in
+    let l : w % 4 ≡ w % 2 + 2 * (w / 2 % 2) = omega arith in
+    let k : w % 4 / 2 ≡ w / 2 % 2 = omega arith in
+    let m : w / 2 % 2 % 2 ≡ w / 2 % 2 = omega arith in
+    omega (arith, ap (λ x. cost x a) e, ap (λ x. cost (x % 2) b) k, ap (λ x. cost x b) m, ap (λ x. cost (x % 2) c) h, ap (λ x. cost (x / 2 % 2) d) h)
+
 -- ---- the table
 
 pub picked-costs : {t : List ℕ} {runs : ℕ} {vs : List ℤ} → Costs t runs vs → (w : ℕ) → picked t 0 runs w ≡ costOf w vs

@@ -33,15 +33,29 @@ pub fn half_byte(v: usize, s0: i32, s1: i32, s2: i32, s3: i32) -> u32
     cost(bit(v), s0) + cost(bit(v / 2), s1) + cost(bit(v / 4), s2) + cost(bit(v / 8), s3)
 }
 
+// The costs of the four pairs of bits at two values.
+pub fn pairs(s0: i32, s1: i32) -> [u32; 4]
+    requires { ⌜ Within 1048064 s0 × Within 1048064 s1 ⌝ }
+    ensures { λ r. ⌜ ((v : ℕ) → v < 4 → (getD r v 0 ≡ costOf v (s0 ∷ s1 ∷ [])) × (getD r v 0 ≤ 2096128)) ⌝ }
+{
+    let z0 = cost(0, s0);
+    let o0 = cost(1, s0);
+    let z1 = cost(0, s1);
+    let o1 = cost(1, s1);
+    [z0 + z1, o0 + z1, z0 + o1, o0 + o1]
+}
+
 // The costs of all half bytes at four values, from `to` on.
 fn run(sums: &mut [u32; 128], to: usize, s0: i32, s1: i32, s2: i32, s3: i32)
     requires { ⌜ (Within 1048064 s0 × Within 1048064 s1 × Within 1048064 s2 × Within 1048064 s3) × (length (now sums) ≡ 128) × (to + 16 ≤ 128) ⌝ }
     ensures { λ _. ⌜ (length (now (sums .exit)) ≡ 128) × ((k : ℕ) → k < to → getD (now (sums .exit)) k 0 ≡ getD (now (sums .entry)) k 0)
         × ((v : ℕ) → v < 16 → getD (now (sums .exit)) (to + v) 0 ≡ costOf v (s0 ∷ s1 ∷ s2 ∷ s3 ∷ [])) ⌝ }
 {
+    let low = pairs(s0, s1);
+    let high = pairs(s2, s3);
     let mut v: usize = 0;
     while v < 16 {
-        sums[to + v] = half_byte(v, s0, s1, s2, s3);
+        sums[to + v] = low[v % 4] + high[v / 4];
         v += 1;
     }
 }
