@@ -5,7 +5,7 @@ ghost use Prim.Native.Nat.{ℕ, _+_, _-_, _^_, _≤_, _<_};
 ghost use lib.ListN.{length, getD};
 ghost use Rattle.laws.specs.Lists.{All};
 ghost use Rattle.polar.specs.Layers.{part, Within};
-ghost use Rattle.outer.specs.Search.{Entry, Spans, picked, Fours, Small, leastFrom, answer, keyAt};
+ghost use Rattle.outer.specs.Search.{Entry, Spans, picked, Runs, Small, leastFrom, answer, keyAt};
 ghost use Rattle.passes.specs.Pass.{afterFirst, twoLeast, Turned, summedKey, chosen};
 use crate::Two;
 use crate::least_two::among;
@@ -35,7 +35,7 @@ fn turned(
     free: usize,
     n: usize,
 ) -> u32
-    requires { ⌜ Fours runs × Small (now sums) runs × (free ≤ 8) × (n ≤ 32) ⌝ }
+    requires { ⌜ Runs runs × Small (now sums) runs × (free ≤ 8) × (n ≤ 32) ⌝ }
     ensures { λ r. ⌜ ((r ≡ 4294967295 → ⊥) → (0 < free) × (getD (now (steps .entry)) free 0 ≡ 2 ^ n - 1)
         × (r ≡ picked (now (sums .entry)) 0 runs (getD (now (words .entry)) 0 0) + picked (now (sums .entry)) 0 runs (getD (now (words .entry)) 1 0))) ⌝ }
 {
@@ -50,7 +50,7 @@ fn turned(
 
 // The two least keys from the bound on, of the first `count` words.
 fn two_each(words: &[u32; 256], count: usize, sums: &[u32; 128], runs: usize, bound: u64) -> Two
-    requires { ⌜ (count ≤ 256) × Fours runs × Small (now sums) runs ⌝ }
+    requires { ⌜ (count ≤ 256) × Runs runs × Small (now sums) runs ⌝ }
     ensures { λ r. ⌜ r ≡ twoLeast (summedKey (now (sums .entry)) runs (now (words .entry))) bound count ⌝ }
 {
     let mut two = none();
@@ -72,7 +72,7 @@ fn two_turned(
     total: u32,
     bound: u64,
 ) -> Two
-    requires { ⌜ (count ≤ 256) × Fours runs × Small (now sums) runs × (total < 4294967295) × Turned (now sums) runs (now words) count total ⌝ }
+    requires { ⌜ (count ≤ 256) × Runs runs × Small (now sums) runs × (total < 4294967295) × Turned (now sums) runs (now words) count total ⌝ }
     ensures { λ r. ⌜ r ≡ twoLeast (summedKey (now (sums .entry)) runs (now (words .entry))) bound count ⌝ }
 {
     let mut two = none();
@@ -97,7 +97,7 @@ fn pass(
     total: u32,
     bound: u64,
 ) -> Two
-    requires { ⌜ (count ≤ 256) × Fours runs × Small (now sums) runs
+    requires { ⌜ (count ≤ 256) × Runs runs × Small (now sums) runs
         × ((total ≡ 4294967295 → ⊥) → Turned (now sums) runs (now words) count total) ⌝ }
     ensures { λ r. ⌜ r ≡ twoLeast (summedKey (now (sums .entry)) runs (now (words .entry))) bound count ⌝ }
 {

@@ -7,7 +7,7 @@ ghost use lib.IntN.{pos};
 ghost use lib.ListN.{length, getD};
 ghost use Rattle.laws.specs.Lists.{All};
 ghost use Rattle.polar.specs.Layers.{part, Within};
-ghost use Rattle.outer.specs.Search.{costOf, picked, Fours, Costs, Small};
+ghost use Rattle.outer.specs.Search.{costOf, picked, Runs, Costs, Small};
 use polar::values::cost;
 
 // Value i of the n values at `at`, 0 past them.
@@ -60,11 +60,14 @@ fn run(sums: &mut [u32; 128], to: usize, s0: i32, s1: i32, s2: i32, s3: i32)
     }
 }
 
-// The number of runs for n values: 4 or 8.
+// The number of runs for n values: 2, 4 or 8.
 fn run_count(n: usize) -> usize
     requires { ⌜ n ≤ 32 ⌝ }
-    ensures { λ r. ⌜ Fours r × (n ≤ 4 * r) ⌝ }
+    ensures { λ r. ⌜ Runs r × (n ≤ 4 * r) ⌝ }
 {
+    if n <= 8 {
+        return 2;
+    }
     if n <= 16 {
         return 4;
     }
@@ -111,9 +114,12 @@ fn four(sums: &[u32; 128], p: usize, w: u32) -> u32
 
 // The cost of a word.
 pub fn cost_of(sums: &[u32; 128], runs: usize, word: u32) -> u32
-    requires { ⌜ Fours runs × Small (now sums) runs ⌝ }
+    requires { ⌜ Runs runs × Small (now sums) runs ⌝ }
     ensures { λ r. ⌜ (r ≡ picked (now (sums .entry)) 0 runs word) × (r ≤ 33538048) ⌝ }
 {
+    if runs == 2 {
+        return pick(sums, 0, word) + pick(sums, 1, word / 16);
+    }
     let low = four(sums, 0, word);
     if runs == 4 {
         return low;
