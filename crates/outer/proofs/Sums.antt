@@ -99,6 +99,17 @@ split w (a ∷ b ∷ c ∷ d ∷ l) = omega (arith, first w a, second w b, third
     rest : (w : ℕ) → w / 2 / 2 / 2 / 2 ≡ w / 16
     rest w = omega arith
 
+-- a half byte's cost by those of two pairs of bits
+pub two-pairs : (w : ℕ) (a b c d : ℤ) → costOf (w % 4) (a ∷ b ∷ []) + costOf (w / 4) (c ∷ d ∷ []) ≡ costOf w (a ∷ b ∷ c ∷ d ∷ [])
+unfolding costOf
+two-pairs w a b c d =
+    let e : w % 4 % 2 ≡ w % 2 = omega arith in
+    let h : w / 4 ≡ w / 2 / 2 = omega arith in
+    let l : w % 4 ≡ w % 2 + 2 * (w / 2 % 2) = omega arith in
+    let k : w % 4 / 2 ≡ w / 2 % 2 = omega arith in
+    let m : w / 2 % 2 % 2 ≡ w / 2 % 2 = omega arith in
+    omega (arith, ap (λ x. cost x a) e, ap (λ x. cost (x % 2) b) k, ap (λ x. cost x b) m, ap (λ x. cost (x % 2) c) h, ap (λ x. cost (x / 2 % 2) d) h)
+
 -- ---- the table
 
 pub picked-costs : {t : List ℕ} {runs : ℕ} {vs : List ℤ} → Costs t runs vs → (w : ℕ) → picked t 0 runs w ≡ costOf w vs
@@ -113,13 +124,13 @@ picked-costs {t} {runs} {vs} c w = from 0 runs w (omega arith)
         ∙ sym (split w (drop (4 * p) vs))
 
 -- the first p runs are there
-abbrev pub Runs : List ℕ → ℕ → List ℤ → Type 0
-Runs t p vs = (q v : ℕ) → q < p → v < 16 → getD t (16 * q + v) 0 ≡ costOf v (part (4 * q) 4 vs)
+abbrev pub Filled : List ℕ → ℕ → List ℤ → Type 0
+Filled t p vs = (q v : ℕ) → q < p → v < 16 → getD t (16 * q + v) 0 ≡ costOf v (part (4 * q) 4 vs)
 
 -- one more, by the values s0 to s3
-pub runs-more : (old new : List ℕ) (p : ℕ) (vs : List ℤ) {s0 s1 s2 s3 : ℤ} → Runs old p vs → ((k : ℕ) → k < p * 16 → getD new k 0 ≡ getD old k 0)
+pub runs-more : (old new : List ℕ) (p : ℕ) (vs : List ℤ) {s0 s1 s2 s3 : ℤ} → Filled old p vs → ((k : ℕ) → k < p * 16 → getD new k 0 ≡ getD old k 0)
     → ((v : ℕ) → v < 16 → getD new (p * 16 + v) 0 ≡ costOf v (s0 ∷ s1 ∷ s2 ∷ s3 ∷ []))
-    → s0 ≡ getD vs (p * 4) (pos 0) → s1 ≡ getD vs (p * 4 + 1) (pos 0) → s2 ≡ getD vs (p * 4 + 2) (pos 0) → s3 ≡ getD vs (p * 4 + 3) (pos 0) → Runs new (p + 1) vs
+    → s0 ≡ getD vs (p * 4) (pos 0) → s1 ≡ getD vs (p * 4 + 1) (pos 0) → s2 ≡ getD vs (p * 4 + 2) (pos 0) → s3 ≡ getD vs (p * 4 + 3) (pos 0) → Filled new (p + 1) vs
 runs-more old new p vs {s0} {s1} {s2} {s3} r same made e0 e1 e2 e3 q v l k = go (lt-or q p)
   where
     z : p * 4 ≡ p * 4 + 0
@@ -156,6 +167,10 @@ costs-small {t} {runs} {vs} c h k l =
 pub entry-small : (t : List ℕ) (n p w r : ℕ) → Small t n → p < n → r ≡ getD t (16 * p + w % 16) 0 → r ≤ 4192256
 unfolding Small
 entry-small t n p w r s h e = omega (arith, s (16 * p + w % 16) (omega arith))
+
+pub picked-two : (t : List ℕ) (w : ℕ) → picked t 0 2 w ≡ getD t (16 * 0 + w % 16) 0 + getD t (16 * 1 + w / 16 % 16) 0
+unfolding picked
+picked-two t w = omega arith
 
 pub picked-four : (t : List ℕ) (p w : ℕ) → picked t p 4 w
     ≡ getD t (16 * p + w % 16) 0 + getD t (16 * (p + 1) + w / 16 % 16) 0 + getD t (16 * (p + 2) + w / 16 / 16 % 16) 0 + getD t (16 * (p + 3) + w / 16 / 16 / 16 % 16) 0

@@ -101,15 +101,16 @@ unfoldable pub picked : List ℕ → ℕ → ℕ → ℕ → ℕ
 picked t p zero w = 0
 picked t p (suc k) w = getD t (16 * p + w % 16) 0 + picked t (suc p) k (w / 16)
 
--- a table has 4 runs or 8
-pub record Fours (runs : ℕ) : Type 0 where
+-- a table has 2 runs, 4 or 8
+pub record Runs (runs : ℕ) : Type 0 where
   pub some : 0 < runs
   pub few : runs ≤ 8
-  pub fours : runs % 4 ≡ 0
+  pub even : runs % 2 ≡ 0
+  pub power : runs ≡ 6 → ⊥
 
 -- a table has the costs of all half bytes at these values, in so many runs
 pub record Costs (t : List ℕ) (runs : ℕ) (vs : List ℤ) : Type 0 where
-  pub count : Fours runs
+  pub count : Runs runs
   pub all : length vs ≤ 4 * runs
   pub at : (p v : ℕ) → p < runs → v < 16 → getD t (16 * p + v) 0 ≡ costOf v (part (4 * p) 4 vs)
 

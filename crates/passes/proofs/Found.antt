@@ -1,6 +1,6 @@
--- What the pass over a long block's words finds are the words of least keys: its keys are those of the entries, and a key holds the cost and the
--- number of its word. Also for short blocks: a pair of words that are found. Assumes nothing.
-use mathlib.Core.Path.{_≡_, refl, ap, ap₂, _∙_}
+-- What the pass over a block's words finds are the words of least keys: its keys are those of the entries, and a key holds the cost and the
+-- number of its word. Assumes nothing.
+use mathlib.Core.Path.{_≡_, refl, ap, _∙_}
 use mathlib.Core.List.{List}
 use mathlib.Core.Option.{Option, none, some}
 use Prim.Native.Nat.{ℕ, zero, suc, _+_, _/_, _%_, _≤_, _<_}
@@ -11,11 +11,9 @@ use borrow.Author.Tests.{ne-eqb}
 use Rattle.laws.specs.Lists.{All, May}
 use Rattle.polar.specs.Layers.{Within}
 use Rattle.machine.specs.Choice.{firstOf}
-use Rattle.outer.specs.declared.Candidate.{Candidate}
-use Rattle.outer.specs.declared.Pair.{Pair}
 use Rattle.passes.specs.declared.Two.{Two}
-use Rattle.outer.specs.Search.{Entry, settings, entry, spread, Spans, costOf, picked, Costs, keyOf, leastFrom, answer, keyAt, found, foundPair}
-use Rattle.passes.specs.Pass.{above, afterFirst, foundKey, foundSetting, twoOf, twoLeast, summedKey, chosen, foundTwo}
+use Rattle.outer.specs.Search.{Entry, spread, Spans, costOf, picked, Costs, keyOf, leastFrom, answer, keyAt}
+use Rattle.passes.specs.Pass.{above, afterFirst, foundKey, foundSetting, twoOf, twoLeast, summedKey, chosen}
 use Rattle.outer.proofs.Sums.{cost-bound, picked-costs}
 use Rattle.outer.proofs.Least.{least-below, least-same, Chosen, least-chosen}
 use Rattle.passes.proofs.LeastTwo.{after-below, after-same}
@@ -58,48 +56,17 @@ module _ (words ds sets sums : List ℕ) (free count runs : ℕ) (e : ℕ → En
         × (chosen sets free (two .second) (two .next) ≡ answer e vs (afterFirst (keyAt e vs) bound count))
     answers = (first, second)
 
--- a cost that is found has room above it
-pub found-cost : (kinds terms : List ℕ) (start p n : ℕ) (vs : List ℤ) (bound : ℕ) → All (Within 1048064) vs → length vs ≤ 32 → found kinds terms start p n vs bound .cost < 4294967295
-unfolding found answer
-found-cost kinds terms start p n vs bound h l = go (leastFrom (keyAt (entry kinds terms start p n) vs) bound (settings kinds start n))
+-- the second word from the bound 0 on is the first after the first word's key
+pub after-answer : (e : ℕ → Entry) (vs : List ℤ) (n : ℕ)
+    → let a = answer e vs (leastFrom (keyAt e vs) 0 n) in
+    answer e vs (afterFirst (keyAt e vs) 0 n) ≡ answer e vs (leastFrom (keyAt e vs) (keyOf (a .cost) (a .number) + 1) n)
+unfolding afterFirst above answer keyAt leastFrom firstOf
+after-answer e vs n = go n (leastFrom k 0 n) (least-chosen k 0 n)
   where
-    go : (o : Option ℕ) → answer (entry kinds terms start p n) vs o .cost < 4294967295
-    go none = omega arith
-    go (some w) = omega (arith, cost-bound (entry kinds terms start p n w .word) vs h)
-
-abbrev both : Candidate → Candidate → Pair
-both a b = record { first = a; second = b }
-
--- the first word found, and the first from the bound after it on
-pub pair-found : (kinds terms : List ℕ) (start p n : ℕ) (vs : List ℤ) (a b : Candidate) (bound : ℕ) → a ≡ found kinds terms start p n vs 0 → bound ≡ keyOf (a .cost) (a .number) + 1
-    → b ≡ found kinds terms start p n vs bound → record { first = a; second = b } ≡ foundPair kinds terms start p n vs
-unfolding foundPair
-pair-found kinds terms start p n vs a b bound e m q =
-    ap₂ both e (q ∙ ap (found kinds terms start p n vs) (m ∙ ap (λ (c : Candidate). keyOf (c .cost) (c .number) + 1) e))
-
--- two words, as they are found
-pub two-found : (kinds terms : List ℕ) (start p n : ℕ) (vs : List ℤ) (bound count : ℕ) (a b : Candidate) → count ≡ settings kinds start n
-    → a ≡ answer (entry kinds terms start p n) vs (leastFrom (keyAt (entry kinds terms start p n) vs) bound count)
-    → b ≡ answer (entry kinds terms start p n) vs (afterFirst (keyAt (entry kinds terms start p n) vs) bound count)
-    → record { first = a; second = b } ≡ foundTwo kinds terms start p n vs bound
-unfolding foundTwo found
-two-found kinds terms start p n vs bound count a b m q r =
-    let e = entry kinds terms start p n in
-    ap₂ both (q ∙ ap (λ i. answer e vs (leastFrom (keyAt e vs) bound i)) m) (r ∙ ap (λ i. answer e vs (afterFirst (keyAt e vs) bound i)) m)
-
--- from the bound 0 on they are the pair
-pub two-pair : (kinds terms : List ℕ) (start p n : ℕ) (vs : List ℤ) → foundTwo kinds terms start p n vs 0 ≡ foundPair kinds terms start p n vs
-unfolding foundTwo foundPair found afterFirst above answer keyAt leastFrom firstOf
-two-pair kinds terms start p n vs = go (settings kinds start n) (leastFrom k 0 (settings kinds start n)) (least-chosen k 0 (settings kinds start n))
-  where
-    e : ℕ → Entry
-    e = entry kinds terms start p n
-
     k : ℕ → ℕ
     k = keyAt e vs
 
-    go : (m : ℕ) (o : Option ℕ) → Chosen k 0 m o
-        → both (answer e vs o) (answer e vs (above k m o)) ≡ both (answer e vs o) (answer e vs (leastFrom k (keyOf (answer e vs o .cost) (answer e vs o .number) + 1) m))
+    go : (m : ℕ) (o : Option ℕ) → Chosen k 0 m o → answer e vs (above k m o) ≡ answer e vs (leastFrom k (keyOf (answer e vs o .cost) (answer e vs o .number) + 1) m)
     go zero none h = refl
     go (suc m) none h = absurd (omega (arith, h 0 (omega arith)))
     go m (some w) h = refl

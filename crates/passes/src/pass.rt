@@ -1,22 +1,21 @@
-// The search of a block of more than 8 positions: its words are listed, and one pass over their keys keeps the two least from the bound on.
-// Relies on costs.rt, least_two.rt, settings.rt and, for the parities, short.rt; specs/Long.antt says what is found.
+// The search of a block's words, by the directions that were walked: all words are listed, and one pass over their keys keeps the two least from
+// the bound on. Relies on least_two.rt and, for the words and their costs, on crate tables; specs/Pass.antt says what is found.
 ghost use mathlib.Core.Path.{_≡_};
-ghost use Prim.Native.Nat.{_+_, _-_, _^_, _≤_, _<_};
+ghost use Prim.Native.Nat.{ℕ, _+_, _-_, _^_, _≤_, _<_};
 ghost use lib.ListN.{length, getD};
 ghost use Rattle.laws.specs.Lists.{All};
 ghost use Rattle.polar.specs.Layers.{part, Within};
-ghost use Rattle.outer.specs.Search.{picked, Fours, Small, found, foundPair, Walkable};
-ghost use Rattle.passes.specs.Pass.{twoLeast, Turned, summedKey, chosen, foundTwo};
+ghost use Rattle.outer.specs.Search.{Entry, Spans, picked, Runs, Small, leastFrom, answer, keyAt};
+ghost use Rattle.passes.specs.Pass.{afterFirst, twoLeast, Turned, summedKey, chosen};
 use crate::Two;
 use crate::least_two::among;
 use crate::least_two::none;
 use outer::Candidate;
 use outer::Pair;
-use short::short::spread_at;
 use tables::costs::cost_of;
 use tables::costs::prepare;
 use tables::settings::double_all;
-use tables::settings::walk;
+use tables::settings::spread_at;
 
 // The word of n ones.
 fn ones(n: usize) -> u32
@@ -36,7 +35,7 @@ fn turned(
     free: usize,
     n: usize,
 ) -> u32
-    requires { ⌜ Fours runs × Small (now sums) runs × (free ≤ 8) × (n ≤ 32) ⌝ }
+    requires { ⌜ Runs runs × Small (now sums) runs × (free ≤ 8) × (n ≤ 32) ⌝ }
     ensures { λ r. ⌜ ((r ≡ 4294967295 → ⊥) → (0 < free) × (getD (now (steps .entry)) free 0 ≡ 2 ^ n - 1)
         × (r ≡ picked (now (sums .entry)) 0 runs (getD (now (words .entry)) 0 0) + picked (now (sums .entry)) 0 runs (getD (now (words .entry)) 1 0))) ⌝ }
 {
@@ -51,7 +50,7 @@ fn turned(
 
 // The two least keys from the bound on, of the first `count` words.
 fn two_each(words: &[u32; 256], count: usize, sums: &[u32; 128], runs: usize, bound: u64) -> Two
-    requires { ⌜ (count ≤ 256) × Fours runs × Small (now sums) runs ⌝ }
+    requires { ⌜ (count ≤ 256) × Runs runs × Small (now sums) runs ⌝ }
     ensures { λ r. ⌜ r ≡ twoLeast (summedKey (now (sums .entry)) runs (now (words .entry))) bound count ⌝ }
 {
     let mut two = none();
@@ -73,7 +72,7 @@ fn two_turned(
     total: u32,
     bound: u64,
 ) -> Two
-    requires { ⌜ (count ≤ 256) × Fours runs × Small (now sums) runs × (total < 4294967295) × Turned (now sums) runs (now words) count total ⌝ }
+    requires { ⌜ (count ≤ 256) × Runs runs × Small (now sums) runs × (total < 4294967295) × Turned (now sums) runs (now words) count total ⌝ }
     ensures { λ r. ⌜ r ≡ twoLeast (summedKey (now (sums .entry)) runs (now (words .entry))) bound count ⌝ }
 {
     let mut two = none();
@@ -98,7 +97,7 @@ fn pass(
     total: u32,
     bound: u64,
 ) -> Two
-    requires { ⌜ (count ≤ 256) × Fours runs × Small (now sums) runs
+    requires { ⌜ (count ≤ 256) × Runs runs × Small (now sums) runs
         × ((total ≡ 4294967295 → ⊥) → Turned (now sums) runs (now words) count total) ⌝ }
     ensures { λ r. ⌜ r ≡ twoLeast (summedKey (now (sums .entry)) runs (now (words .entry))) bound count ⌝ }
 {
@@ -131,104 +130,29 @@ fn candidate(key: u64, at: usize, steps: &[u32; 9], free: usize) -> Candidate
     }
 }
 
-// The word of least key from a bound on, of a block of n positions, and the one of least key after it.
-fn find_two(
+// The word of least key from a bound on, of a block of n positions with these directions of its words and sets, and the one of least key after it.
+pub fn find_two(
     numbers: &[i32],
     at: usize,
-    kinds: &[u8; 512],
-    terms: &[u32; 512],
-    start: usize,
     n: usize,
-    parities: u32,
     bound: u64,
+    steps: &[u32; 9],
+    ties: &[u32; 9],
+    free: usize,
     words: &mut [u32; 256],
     sums: &mut [u32; 128],
 ) -> Pair
-    requires { ⌜ (length (now words) ≡ 256) × (length (now sums) ≡ 128) × Walkable (now kinds) start n
-        × (at + n ≤ length (now numbers)) × All (Within 1048064) (part at n (now numbers)) ⌝ }
-    ensures { λ r. ⌜ (length (now (words .exit)) ≡ 256) × (length (now (sums .exit)) ≡ 128)
-        × (r ≡ foundTwo (now (kinds .entry)) (now (terms .entry)) start parities n (part at n (now (numbers .entry))) bound) ⌝ }
+    requires { ⌜ (length (now words) ≡ 256) × (length (now sums) ≡ 128) × (free ≤ 8) × (n ≤ 32) × (at + n ≤ length (now numbers)) × All (Within 1048064) (part at n (now numbers)) ⌝ }
+    ensures { λ _. ⌜ (length (now (words .exit)) ≡ 256) × (length (now (sums .exit)) ≡ 128) ⌝ }
+    ensures { λ r. ⌜ ((e : ℕ → Entry) → Spans (now (steps .entry)) (now (ties .entry)) free e → ((w : ℕ) → e w .word < 4294967296)
+        → (let vs = part at n (now (numbers .entry)) in
+        (r .first ≡ answer e vs (leastFrom (keyAt e vs) bound (2 ^ free))) × (r .second ≡ answer e vs (afterFirst (keyAt e vs) bound (2 ^ free))))) ⌝ }
 {
-    let mut word_steps: [u32; 9] = [0; 9];
-    let mut steps: [u32; 9] = [0; 9];
-    let free = walk(
-        kinds,
-        terms,
-        start,
-        n,
-        parities,
-        &mut word_steps,
-        &mut steps,
-    );
-    let count = double_all(words, &word_steps, free);
+    let count = double_all(words, steps, free);
     let runs = prepare(numbers, at, n, sums);
-    let total = turned(words, sums, runs, &word_steps, free, n);
+    let total = turned(words, sums, runs, steps, free, n);
     let two = pass(words, count, sums, runs, total, bound);
-    let first = candidate(two.first, two.at, &steps, free);
-    let second = candidate(two.second, two.next, &steps, free);
+    let first = candidate(two.first, two.at, ties, free);
+    let second = candidate(two.second, two.next, ties, free);
     Pair { first, second }
-}
-
-// The word of least key from a bound on, of a block of n positions.
-pub fn search_long(
-    numbers: &[i32],
-    at: usize,
-    kinds: &[u8; 512],
-    terms: &[u32; 512],
-    start: usize,
-    n: usize,
-    parities: u32,
-    bound: u64,
-    words: &mut [u32; 256],
-    sums: &mut [u32; 128],
-) -> Candidate
-    requires { ⌜ (length (now words) ≡ 256) × (length (now sums) ≡ 128) × Walkable (now kinds) start n
-        × (at + n ≤ length (now numbers)) × All (Within 1048064) (part at n (now numbers)) ⌝ }
-    ensures { λ r. ⌜ (length (now (words .exit)) ≡ 256) × (length (now (sums .exit)) ≡ 128)
-        × (r ≡ found (now (kinds .entry)) (now (terms .entry)) start parities n (part at n (now (numbers .entry))) bound) ⌝ }
-{
-    let two = find_two(
-        numbers,
-        at,
-        kinds,
-        terms,
-        start,
-        n,
-        parities,
-        bound,
-        words,
-        sums,
-    );
-    two.first
-}
-
-// The word of least key of a block of n positions, and the one of least key after it.
-pub fn pair_long(
-    numbers: &[i32],
-    at: usize,
-    kinds: &[u8; 512],
-    terms: &[u32; 512],
-    start: usize,
-    n: usize,
-    parities: u32,
-    words: &mut [u32; 256],
-    sums: &mut [u32; 128],
-) -> Pair
-    requires { ⌜ (length (now words) ≡ 256) × (length (now sums) ≡ 128) × Walkable (now kinds) start n
-        × (at + n ≤ length (now numbers)) × All (Within 1048064) (part at n (now numbers)) ⌝ }
-    ensures { λ r. ⌜ (length (now (words .exit)) ≡ 256) × (length (now (sums .exit)) ≡ 128)
-        × (r ≡ foundPair (now (kinds .entry)) (now (terms .entry)) start parities n (part at n (now (numbers .entry)))) ⌝ }
-{
-    find_two(
-        numbers,
-        at,
-        kinds,
-        terms,
-        start,
-        n,
-        parities,
-        0,
-        words,
-        sums,
-    )
 }

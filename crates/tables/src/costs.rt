@@ -7,7 +7,7 @@ ghost use lib.IntN.{pos};
 ghost use lib.ListN.{length, getD};
 ghost use Rattle.laws.specs.Lists.{All};
 ghost use Rattle.polar.specs.Layers.{part, Within};
-ghost use Rattle.outer.specs.Search.{costOf, picked, Fours, Costs, Small};
+ghost use Rattle.outer.specs.Search.{costOf, picked, Runs, Costs, Small};
 use polar::values::cost;
 
 // Value i of the n values at `at`, 0 past them.
@@ -33,24 +33,41 @@ pub fn half_byte(v: usize, s0: i32, s1: i32, s2: i32, s3: i32) -> u32
     cost(bit(v), s0) + cost(bit(v / 2), s1) + cost(bit(v / 4), s2) + cost(bit(v / 8), s3)
 }
 
+// The costs of the four pairs of bits at two values.
+pub fn pairs(s0: i32, s1: i32) -> [u32; 4]
+    requires { ⌜ Within 1048064 s0 × Within 1048064 s1 ⌝ }
+    ensures { λ r. ⌜ ((v : ℕ) → v < 4 → (getD r v 0 ≡ costOf v (s0 ∷ s1 ∷ [])) × (getD r v 0 ≤ 2096128)) ⌝ }
+{
+    let z0 = cost(0, s0);
+    let o0 = cost(1, s0);
+    let z1 = cost(0, s1);
+    let o1 = cost(1, s1);
+    [z0 + z1, o0 + z1, z0 + o1, o0 + o1]
+}
+
 // The costs of all half bytes at four values, from `to` on.
 fn run(sums: &mut [u32; 128], to: usize, s0: i32, s1: i32, s2: i32, s3: i32)
     requires { ⌜ (Within 1048064 s0 × Within 1048064 s1 × Within 1048064 s2 × Within 1048064 s3) × (length (now sums) ≡ 128) × (to + 16 ≤ 128) ⌝ }
     ensures { λ _. ⌜ (length (now (sums .exit)) ≡ 128) × ((k : ℕ) → k < to → getD (now (sums .exit)) k 0 ≡ getD (now (sums .entry)) k 0)
         × ((v : ℕ) → v < 16 → getD (now (sums .exit)) (to + v) 0 ≡ costOf v (s0 ∷ s1 ∷ s2 ∷ s3 ∷ [])) ⌝ }
 {
+    let low = pairs(s0, s1);
+    let high = pairs(s2, s3);
     let mut v: usize = 0;
     while v < 16 {
-        sums[to + v] = half_byte(v, s0, s1, s2, s3);
+        sums[to + v] = low[v % 4] + high[v / 4];
         v += 1;
     }
 }
 
-// The number of runs for n values: 4 or 8.
+// The number of runs for n values: 2, 4 or 8.
 fn run_count(n: usize) -> usize
     requires { ⌜ n ≤ 32 ⌝ }
-    ensures { λ r. ⌜ Fours r × (n ≤ 4 * r) ⌝ }
+    ensures { λ r. ⌜ Runs r × (n ≤ 4 * r) ⌝ }
 {
+    if n <= 8 {
+        return 2;
+    }
     if n <= 16 {
         return 4;
     }
@@ -97,9 +114,12 @@ fn four(sums: &[u32; 128], p: usize, w: u32) -> u32
 
 // The cost of a word.
 pub fn cost_of(sums: &[u32; 128], runs: usize, word: u32) -> u32
-    requires { ⌜ Fours runs × Small (now sums) runs ⌝ }
+    requires { ⌜ Runs runs × Small (now sums) runs ⌝ }
     ensures { λ r. ⌜ (r ≡ picked (now (sums .entry)) 0 runs word) × (r ≤ 33538048) ⌝ }
 {
+    if runs == 2 {
+        return pick(sums, 0, word) + pick(sums, 1, word / 16);
+    }
     let low = four(sums, 0, word);
     if runs == 4 {
         return low;
