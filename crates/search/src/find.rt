@@ -58,8 +58,10 @@ fn search(
     let mut steps: [u32; 9] = [0; 9];
     let mut ties: [u32; 9] = [0; 9];
     let free = walk(kinds, terms, start, n, parities, &mut steps, &mut ties);
-    if n == 8 && free >= 8 {
-        return search_bytes(numbers, at, &ties, free, bound, sets);
+    if n == 8 {
+        if free >= 8 {
+            return search_bytes(numbers, at, &ties, free, bound, sets);
+        }
     }
     let two = find_two(numbers, at, n, bound, &steps, &ties, free, words, sums);
     two.first
@@ -122,11 +124,15 @@ fn search_pair(
     let mut steps: [u32; 9] = [0; 9];
     let mut ties: [u32; 9] = [0; 9];
     let free = walk(kinds, terms, start, n, parities, &mut steps, &mut ties);
-    if n == 8 && free >= 8 {
-        return pair_free(numbers, at, &ties);
-    }
-    if n == 8 && free == 7 && kinds[start] != 0 {
-        return pair_checked(numbers, at, &ties, steps[0]);
+    if n == 8 {
+        if free >= 8 {
+            return pair_free(numbers, at, &ties);
+        }
+        if free == 7 {
+            if kinds[start] != 0 {
+                return pair_checked(numbers, at, &ties, steps[0]);
+            }
+        }
     }
     find_two(numbers, at, n, 0, &steps, &ties, free, words, sums)
 }

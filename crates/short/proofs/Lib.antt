@@ -1,4 +1,5 @@
 pub mod Octets
+pub mod Classes
 pub mod LeastKey
 pub mod Leads
 pub mod Weights

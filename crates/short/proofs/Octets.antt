@@ -1,28 +1,22 @@
--- Words of at most 8 positions: their numbers are bytes, whose keys are sums of the keys of two half bytes; with 8 free indices every byte is
--- the word of one setting, which the rows of the matrix A give back: computed over all bytes. Assumes nothing.
-use mathlib.Core.Path.{_≡_, refl, sym, ap, ap₂, _∙_}
+-- Bytes: their keys are sums of the keys of two half bytes, and every byte is the word of one setting of 8 free indices, which the rows of the
+-- matrix A give back: computed over all bytes. Assumes nothing.
+use mathlib.Core.Path.{_≡_, ap, ap₂, _∙_}
 use mathlib.Core.Bool.{Bool, _&&_}
-use mathlib.Core.List.{List, [], _∷_, zipWith}
+use mathlib.Core.List.{List, [], _∷_}
 use mathlib.Core.Logic.{_⊎_, inl, inr}
-use Prim.Native.Nat.{ℕ, zero, suc, _+_, _-_, _*_, _/_, _%_, _^_, _≤_, _<_}
-use native.Mathlib.Nat.{two-pow-succ, mul-zero, mul-one}
+use Prim.Native.Nat.{ℕ, _+_, _-_, _*_, _/_, _%_, _≤_, _<_}
 use native.Mathlib.Omega.{arith}
-use lib.Bits.{bitXor, xor-lt}
 use lib.Dec.{T, ltb, eqb, eqb→eq, ltb→lt}
 use lib.IntN.{ℤ, pos}
 use lib.ListN.{length, getD, take, drop, length-drop}
-use lib.Pow.{pow-mono, pow-pos}
 use lib.Seq.{take-all}
 use Rattle.laws.specs.Lists.{All}
 use Rattle.laws.proofs.Tests.{and-left, and-right, lt-or}
-use Rattle.polar.specs.Bits.{addBits, number}
-use Rattle.polar.specs.Transform.{transform}
 use Rattle.polar.specs.Layers.{part, Within}
-use Rattle.outer.specs.Search.{unit, rowOf, Entry, put, later, grown, settings, entry, spread, costOf}
+use Rattle.outer.specs.Search.{spread, costOf}
 use Rattle.short.specs.Short.{byteKey, Halves, byteRows, backRows}
 use Rattle.outer.proofs.Rows.{every-at}
 use Rattle.outer.proofs.Sums.{split, part-costs, part-small}
-use Rattle.tables.proofs.Advance.{grown-free, grown-other}
 
 -- ---- keys
 
@@ -61,52 +55,6 @@ halves-made first t vs {s0} {s1} {s2} {s3} {s4} {s5} {s6} {s7} size h made same 
             let v : ℕ = k - 16 in
             let e : 16 + v ≡ k = omega arith in
             omega (arith, ap (λ i. getD t i 0) e, high v (omega arith), part-small v 4 vs h)
-
--- ---- 8 free indices
-
-module _ (kinds terms : List ℕ) (start : ℕ) where
-  settings-most : (i : ℕ) → settings kinds start i ≤ 2 ^ i
-  unfolding settings
-  settings-most zero = omega arith
-  settings-most (suc i) = go (settings-most i) (lt-or 0 (getD kinds (start + i) 0))
-    where
-      go : settings kinds start i ≤ 2 ^ i → (0 < getD kinds (start + i) 0) ⊎ (getD kinds (start + i) 0 ≤ 0) → grown (getD kinds (start + i) 0) (settings kinds start i) ≤ 2 ^ suc i
-      go ih (inl l) = omega (arith, grown-other (getD kinds (start + i) 0) (settings kinds start i) (λ e. omega arith), two-pow-succ i)
-      go ih (inr l) = omega (arith, grown-free (getD kinds (start + i) 0) (settings kinds start i) (omega arith), two-pow-succ i)
-
-  -- the most settings: all are free
-  all-free : (i : ℕ) → settings kinds start i ≡ 2 ^ i → (k : ℕ) → k < i → getD kinds (start + k) 0 ≡ 0
-  unfolding settings
-  all-free zero h k l = absurd (omega arith)
-  all-free (suc i) h k l = go (all-free i) (lt-or 0 (getD kinds (start + i) 0)) (lt-or k i)
-    where
-      go : (settings kinds start i ≡ 2 ^ i → (k : ℕ) → k < i → getD kinds (start + k) 0 ≡ 0) → (0 < getD kinds (start + i) 0) ⊎ (getD kinds (start + i) 0 ≤ 0)
-          → (k < i) ⊎ (i ≤ k) → getD kinds (start + k) 0 ≡ 0
-      go ih (inl c) m =
-          absurd (omega (arith, grown-other (getD kinds (start + i) 0) (settings kinds start i) (λ e. omega arith), settings-most i, two-pow-succ i, pow-pos i))
-      go ih (inr c) (inl m) = ih (omega (arith, grown-free (getD kinds (start + i) 0) (settings kinds start i) (omega arith), two-pow-succ i)) k m
-      go ih (inr c) (inr m) = let e : k ≡ i = omega arith in ap (λ n. getD kinds (start + n) 0) e ∙ omega arith
-
-  rows-at : (i : ℕ) → i < 8 → getD byteRows (0 + suc i) 0 ≡ rowOf i
-  unfolding rowOf unit transform number addBits zipWith byteRows
-  rows-at i h = eqb→eq (getD byteRows (0 + suc i) 0) (rowOf i) (every-at (λ (k : ℕ). eqb (getD byteRows (0 + suc k) 0) (rowOf k)) 8 tt i h)
-
-  entry-all : (p i : ℕ) → i ≤ 8 → ((k : ℕ) → k < i → getD kinds (start + k) 0 ≡ 0) → (w : ℕ) → entry kinds terms start p i w .word ≡ spread byteRows 0 i w
-  unfolding entry spread later put byteRows
-  entry-all p zero h f w = refl
-  entry-all p (suc i) h f w =
-      ap (λ c. later c (rowOf i) (getD terms (start + i) 0) (entry kinds terms start p i) w .word) (f i (omega arith))
-      ∙ ap₂ (λ x r. bitXor x (r * (w % 2))) (entry-all p i (omega arith) (λ k l. f k (omega arith)) (w / 2)) (sym (rows-at i h))
-
-  -- 256 settings of at most 8 indices
-  pub entry-bytes : (p n : ℕ) → n ≤ 8 → settings kinds start n ≡ 256 → (w : ℕ) → entry kinds terms start p n w .word ≡ spread byteRows 0 8 w
-  entry-bytes p n h e w = go (lt-or n 8)
-    where
-      go : (n < 8) ⊎ (8 ≤ n) → entry kinds terms start p n w .word ≡ spread byteRows 0 8 w
-      go (inl l) = let k : n ≤ 7 = omega arith in let m : 2 ^ n ≤ 2 ^ 7 = pow-mono k in absurd (omega (arith, settings-most n))
-      go (inr l) =
-          let q : n ≡ 8 = omega arith in
-          ap (λ i. entry kinds terms start p i w .word) q ∙ entry-all p 8 (omega arith) (all-free 8 (ap (settings kinds start) (sym q) ∙ e)) w
 
 -- ---- there and back
 

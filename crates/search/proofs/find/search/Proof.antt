@@ -1,48 +1,78 @@
--- `search::find::search` meets its contract, by what the search of short blocks and that of long ones ensure. Assumes nothing.
-use mathlib.Core.Path.{ap, _∙_}
+-- `search::find::search` meets its contract: the directions span the entries, and where all 8 indices are free every byte is a word. Assumes nothing.
+use mathlib.Core.Path.{_≡_, refl, sym, ap, _∙_}
+use Prim.Native.Nat.{ℕ, _^_, _≤_}
 use native.Mathlib.Omega.{arith}
 use borrow.Author.Needs.{needs}
-use Rattle.polar.specs.Layers.{part}
-use Rattle.outer.specs.Search.{found}
+use Rattle.outer.specs.Search.{settings, entry}
+use Rattle.tables.proofs.Advance.{few-free}
+use Rattle.tables.proofs.Bounds.{entry-word}
+use Rattle.search.proofs.Cases.{all-bytes, found-among}
 use Rattle.search.proofs.find.search.Statement.{statement}
 use Rattle.search.proofs.find.search.Tie as tie
 
 power-requires : tie.Need-power-requires
 power-requires c κs = search needs
 
-search-short-requires : tie.Need-search-short-requires
-search-short-requires c κs =
+walk-requires : tie.Need-walk-requires
+walk-requires c κs = (refl, refl, rw (c .before .before .power .ensures) (c .before .before .before .pre .0 .walk))
+
+-- no more than 8 indices are free
+few : (c : tie.After-walk) → c .walk .result ≤ 8
+few c =
     let s = c .before .before .before .before in
-    let e = c .before .before .before .power .ensures in
-    (s .pre .1 .words-size, s .pre .1 .sets-size, rw e (s .pre .0 .walk), omega arith, rw e (s .pre .0 .within), rw e (s .pre .0 .small))
+    few-free (c .walk .result) (omega (arith, c .walk .ensures .2, ap (settings (s .args .kinds .now) (s .args .start)) (c .before .before .before .power .ensures), s .pre .0 .walk .few))
+
+search-bytes-requires : tie.Need-search-bytes-requires
+search-bytes-requires c κs =
+    let s = c .before .before .before .before .before .before .before .before in
+    let e : 8 ≡ 2 ^ s .args .j = sym (c .before .before .before .if1 .taken) ∙ c .before .before .before .before .before .before .before .power .ensures in
+    (omega (arith, few (c .before .before .before .before), c .before .before .if2 .taken), s .pre .1 .sets-size, rw e (s .pre .0 .within), rw e (s .pre .0 .small))
 
 returns : tie.Need-returns
 returns c =
-    let s = c .before .before .before .before .before in
+    let s = c .before .before .before .before .before .before .before .before .before in
     let a = s .args in
-    let r = c .search-short in (
-      record { words-size = r .ensures .0; sets-size = r .ensures .1; sums-size = s .pre .1 .sums-size },
-      r .ensures .2
-          ∙ ap (λ m. found (a .kinds .now) (a .terms .now) (a .start) (a .parities) m (part (a .at) m (a .numbers .now)) (a .bound)) (c .before .before .before .before .power .ensures),
+    let w = c .before .before .before .before .before .walk in
+    let r = c .search-bytes in
+    let n = c .before .before .before .before .before .before .before .before .power .result in
+    let q : n ≡ 8 = c .before .before .before .before .if1 .taken in
+    let e : 8 ≡ 2 ^ a .j = sym q ∙ c .before .before .before .before .before .before .before .before .power .ensures in
+    let f : w .result ≡ 8 = omega (arith, few (c .before .before .before .before .before), c .before .before .before .if2 .taken) in
+    let m : 256 ≡ settings (a .kinds .now) (a .start) 8 = sym (ap (λ (i : ℕ). 2 ^ i) f) ∙ w .ensures .2 ∙ ap (settings (a .kinds .now) (a .start)) q in (
+      record { words-size = s .pre .1 .words-size; sets-size = r .ensures .0; sums-size = s .pre .1 .sums-size },
+      r .ensures .1 (entry (a .kinds .now) (a .terms .now) (a .start) (a .parities) 8)
+          (all-bytes (a .kinds .now) (a .terms .now) (a .start) (a .parities) n (w .result) _ _ q (w .ensures .2) (w .ensures .3) f)
+          ∙ found-among (a .kinds .now) (a .terms .now) (a .start) (a .parities) (a .at) (a .j) 8 256 (a .numbers .now) e m (a .bound),
     )
 
-search-long-requires : tie.Need-search-long-requires
-search-long-requires c κs =
-    let s = c .before .before .before .before in
-    let e = c .before .before .before .power .ensures in
-    (s .pre .1 .words-size, s .pre .1 .sums-size, rw e (s .pre .0 .walk), rw e (s .pre .0 .within), rw e (s .pre .0 .small))
+find-two-requires : tie.Need-find-two-requires
+find-two-requires c κs =
+    let s = c .before .before .before .before .before .before .before .before .before in
+    let e = c .before .before .before .before .before .before .before .before .power .ensures in
+    let w = c .before .before .before .before .before .walk in
+    (s .pre .1 .words-size, s .pre .1 .sums-size, few (c .before .before .before .before .before), rw e (s .pre .0 .walk .short), rw e (s .pre .0 .within), rw e (s .pre .0 .small))
 
 returns-2 : tie.Need-returns-2
 returns-2 c =
-    let s = c .before .before .before .before .before in
+    let s = c .before .before .before .before .before .before .before .before .before .before .before in
     let a = s .args in
-    let r = c .search-long in (
-      record { words-size = r .ensures .0; sets-size = s .pre .1 .sets-size; sums-size = r .ensures .1 },
-      r .ensures .2
-          ∙ ap (λ m. found (a .kinds .now) (a .terms .now) (a .start) (a .parities) m (part (a .at) m (a .numbers .now)) (a .bound)) (c .before .before .before .before .power .ensures),
+    let t = c .before .find-two in
+    let w = c .before .before .before .before .before .before .before .walk in
+    let p = c .before .before .before .before .before .before .before .before .before .before .power in
+    let x = entry (a .kinds .now) (a .terms .now) (a .start) (a .parities) (p .result) in
+    let short : p .result ≤ 32 = rw (p .ensures) (s .pre .0 .walk .short) in (
+      record { words-size = t .ensures .0 .0; sets-size = s .pre .1 .sets-size; sums-size = t .ensures .0 .1 },
+      t .ensures .1 x (w .ensures .3) (entry-word (a .kinds .now) (a .terms .now) (a .start) (a .parities) (p .result) short) .0
+          ∙ found-among (a .kinds .now) (a .terms .now) (a .start) (a .parities) (a .at) (a .j) (p .result) (2 ^ w .result) (a .numbers .now) (p .ensures) (w .ensures .2) (a .bound),
     )
 
 pub search-spec : {M : Type 1} → statement M
 search-spec =
     tie.close
-    (tie.spec power-requires search-short-requires returns search-long-requires returns-2)
+    (tie.spec
+    power-requires
+    walk-requires
+    search-bytes-requires
+    returns
+    find-two-requires
+    returns-2)
