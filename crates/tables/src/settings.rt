@@ -1,5 +1,5 @@
 // The words and the parities of all settings of a block's free bits. The entry of setting 0 and one direction for each free index are walked
-// through the indices; they are doubled to a table of all settings at the end. Relies on no other file; specs/Search.antt says what an entry is.
+// through the indices; they are doubled to a table of all settings at the end. Relies on no other file; outer/specs/Search.antt says what an entry is.
 ghost use mathlib.Core.Path.{_≡_};
 ghost use Prim.Native.Nat.{ℕ, _+_, _*_, _/_, _%_, _^_, _≤_, _<_};
 ghost use lib.Bits.{bitXor};

@@ -1,10 +1,16 @@
 -- `tables::costs::run` meets its contract. The loop's invariant: the first v sums of two pairs' costs are stored. Assumes nothing.
-use mathlib.Core.Path.{refl, ap₂, _∙_}
-use Prim.Native.Nat.{_+_, _-_, _/_, _%_, _≤_}
+use mathlib.Core.Path.{_≡_, refl, ap, ap₂, _∙_}
+use mathlib.Core.List.{[], _∷_}
+use Prim.Native.Nat.{ℕ, _+_, _-_, _/_, _%_, _≤_}
 use native.Mathlib.Omega.{arith}
+use lib.IntN.{ℤ, natAbs}
 use lib.ListN.{getD}
+use mir.Syntax.{w32}
+use mir.Val.{SFits}
 use mir.Facts.{toZ-ofZ}
+use Rattle.laws.proofs.Signed.{back}
 use Rattle.laws.proofs.Stores.{Stored, stored-none, stored-more}
+use Rattle.outer.specs.Search.{costOf}
 use Rattle.outer.proofs.Sums.{two-pairs}
 use Rattle.tables.proofs.costs.run.Statement.{statement}
 use Rattle.tables.proofs.costs.run.Tie as tie
@@ -15,17 +21,20 @@ Inv-loop sums₀ to s0 s1 s2 s3 low high v₀ sums v = (v ≤ 16) × Stored sums
 abbrev μ-loop : tie.MeasureT-loop
 μ-loop sums₀ to s0 s1 s2 s3 low high v₀ sums v = 16 - v
 
+-- values that fit read back
+back-costs : (v : ℕ) {a b c d : ℤ} → SFits w32 a → SFits w32 b → SFits w32 c → SFits w32 d
+    → costOf v (back a ∷ back b ∷ back c ∷ back d ∷ []) ≡ costOf v (a ∷ b ∷ c ∷ d ∷ [])
+back-costs v f g h i = rw (toZ-ofZ f, toZ-ofZ g, toZ-ofZ h, toZ-ofZ i)
+
 pairs-requires : tie.Need-pairs-requires Inv-loop μ-loop
 pairs-requires c κs =
     let f = c .fits in
-    let h = c .pre .0 in
-    (rw (toZ-ofZ (f .s0)) (h .0), rw (toZ-ofZ (f .s1)) (h .1))
+    (omega (arith, ap natAbs (toZ-ofZ (f .s0))), omega (arith, ap natAbs (toZ-ofZ (f .s1))))
 
 pairs-requires-2 : tie.Need-pairs-requires-2 Inv-loop μ-loop
 pairs-requires-2 c κs =
     let f = c .before .fits in
-    let h = c .before .pre .0 in
-    (rw (toZ-ofZ (f .s2)) (h .2), rw (toZ-ofZ (f .s3)) (h .3))
+    (omega (arith, ap natAbs (toZ-ofZ (f .s2))), omega (arith, ap natAbs (toZ-ofZ (f .s3))))
 
 loop-holds : tie.Need-loop-holds Inv-loop μ-loop
 loop-holds c = (omega arith, stored-none _ _ _)
@@ -80,7 +89,7 @@ returns c =
           x .inv .1 .done v (omega arith)
           ∙ ap₂ _+_ (p (v % 4) (omega arith) .0) (q (v / 4) (omega arith) .0)
           ∙ two-pairs v _ _ _ _
-          ∙ rw (toZ-ofZ (f .s0), toZ-ofZ (f .s1), toZ-ofZ (f .s2), toZ-ofZ (f .s3)),
+          ∙ back-costs v (f .s0) (f .s1) (f .s2) (f .s3),
     )
 
 pub run-spec : {M : Type 1} → statement M
