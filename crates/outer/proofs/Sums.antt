@@ -8,6 +8,8 @@ use native.Mathlib.Omega.{arith}
 use lib.IntN.{ℤ, pos, natAbs}
 use lib.ListN.{length, getD, take, drop, length-take, drop-of-length-le}
 use lib.Seq.{getD-drop, drop-drop}
+use mir.Syntax.{w32}
+use mir.Val.{SFits}
 use mir.Facts.{toZ-ofZ}
 use Rattle.laws.specs.Lists.{All}
 use Rattle.laws.proofs.Tests.{lt-or}
@@ -36,11 +38,6 @@ unfolding costOf All
 cost-bound w [] h = omega arith
 cost-bound w (v ∷ vs) h = omega (arith, cost-le (w % 2) v, h .0, cost-bound (w / 2) vs (h .1))
 
--- the cost of a half byte
-pub half-small : {r : ℕ} (v : ℕ) (a b c d : ℤ) → r ≡ costOf v (a ∷ b ∷ c ∷ d ∷ []) → Within 1048064 a → Within 1048064 b → Within 1048064 c → Within 1048064 d → r ≤ 4192256
-unfolding All
-half-small {r} v a b c d e ha hb hc hd = omega (arith, cost-bound v (a ∷ b ∷ c ∷ d ∷ []) (ha, (hb, (hc, (hd, tt)))))
-
 value-small : (vs : List ℤ) (i : ℕ) → All (Within 1048064) vs → natAbs (getD vs i (pos 0)) ≤ 1048064
 unfolding All
 value-small [] i h = omega arith
@@ -53,6 +50,11 @@ read-back {r} l i h e =
     let small : natAbs (getD l i (pos 0)) ≤ 1048064 = value-small l i h in
     let same : back r ≡ r = toZ-ofZ (abs-fits r (omega (arith, ap natAbs e))) in
     (same ∙ e, omega (arith, ap natAbs (same ∙ e)))
+
+-- four values that fit, read back
+pub back-costs : (v : ℕ) {a b c d : ℤ} → SFits w32 a → SFits w32 b → SFits w32 c → SFits w32 d
+    → costOf v (back a ∷ back b ∷ back c ∷ back d ∷ []) ≡ costOf v (a ∷ b ∷ c ∷ d ∷ [])
+back-costs v f g h i = rw (toZ-ofZ f, toZ-ofZ g, toZ-ofZ h, toZ-ofZ i)
 
 -- ---- four values
 

@@ -10,7 +10,7 @@ ghost use Rattle.polar.specs.Layers.{part, Within};
 ghost use Rattle.outer.specs.Search.{Entry, spread, costOf, keyOf, keyAt, leastFrom, answer};
 ghost use Rattle.short.specs.Short.{kept, leastKey, byteKey, Halves, backRows, Octets, wordWith};
 use outer::Candidate;
-use tables::costs::half_byte;
+use tables::costs::pairs;
 use tables::costs::value;
 use tables::settings::spread_at;
 
@@ -20,9 +20,11 @@ fn half_keys(halves: &mut [u32; 256], to: usize, step: u32, s0: i32, s1: i32, s2
     ensures { λ _. ⌜ (length (now (halves .exit)) ≡ 256) × ((k : ℕ) → k < to → getD (now (halves .exit)) k 0 ≡ getD (now (halves .entry)) k 0)
         × ((v : ℕ) → v < 16 → getD (now (halves .exit)) (to + v) 0 ≡ costOf v (s0 ∷ s1 ∷ s2 ∷ s3 ∷ []) * 256 + v * step) ⌝ }
 {
+    let low = pairs(s0, s1);
+    let high = pairs(s2, s3);
     let mut v: usize = 0;
     while v < 16 {
-        halves[to + v] = half_byte(v, s0, s1, s2, s3) * 256 + v as u32 * step;
+        halves[to + v] = (low[v % 4] + high[v / 4]) * 256 + v as u32 * step;
         v += 1;
     }
 }

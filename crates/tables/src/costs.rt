@@ -18,21 +18,6 @@ pub fn value(numbers: &[i32], at: usize, n: usize, i: usize) -> i32
     if i < n { numbers[at + i] } else { 0 }
 }
 
-// The lowest bit of v.
-fn bit(v: usize) -> u8
-    ensures { λ r. ⌜ r ≡ v % 2 ⌝ }
-{
-    (v % 2) as u8
-}
-
-// The cost of half byte v at four values.
-pub fn half_byte(v: usize, s0: i32, s1: i32, s2: i32, s3: i32) -> u32
-    requires { ⌜ Within 1048064 s0 × Within 1048064 s1 × Within 1048064 s2 × Within 1048064 s3 ⌝ }
-    ensures { λ r. ⌜ r ≡ costOf v (s0 ∷ s1 ∷ s2 ∷ s3 ∷ []) ⌝ }
-{
-    cost(bit(v), s0) + cost(bit(v / 2), s1) + cost(bit(v / 4), s2) + cost(bit(v / 8), s3)
-}
-
 // The costs of the four pairs of bits at two values.
 pub fn pairs(s0: i32, s1: i32) -> [u32; 4]
     requires { ⌜ Within 1048064 s0 × Within 1048064 s1 ⌝ }

@@ -1,17 +1,12 @@
 -- `tables::costs::run` meets its contract. The loop's invariant: the first v sums of two pairs' costs are stored. Assumes nothing.
-use mathlib.Core.Path.{_≡_, refl, ap, ap₂, _∙_}
-use mathlib.Core.List.{[], _∷_}
-use Prim.Native.Nat.{ℕ, _+_, _-_, _/_, _%_, _≤_}
+use mathlib.Core.Path.{refl, ap, ap₂, _∙_}
+use Prim.Native.Nat.{_+_, _-_, _/_, _%_, _≤_}
 use native.Mathlib.Omega.{arith}
-use lib.IntN.{ℤ, natAbs}
+use lib.IntN.{natAbs}
 use lib.ListN.{getD}
-use mir.Syntax.{w32}
-use mir.Val.{SFits}
 use mir.Facts.{toZ-ofZ}
-use Rattle.laws.proofs.Signed.{back}
 use Rattle.laws.proofs.Stores.{Stored, stored-none, stored-more}
-use Rattle.outer.specs.Search.{costOf}
-use Rattle.outer.proofs.Sums.{two-pairs}
+use Rattle.outer.proofs.Sums.{two-pairs, back-costs}
 use Rattle.tables.proofs.costs.run.Statement.{statement}
 use Rattle.tables.proofs.costs.run.Tie as tie
 
@@ -20,11 +15,6 @@ Inv-loop sums₀ to s0 s1 s2 s3 low high v₀ sums v = (v ≤ 16) × Stored sums
 
 abbrev μ-loop : tie.MeasureT-loop
 μ-loop sums₀ to s0 s1 s2 s3 low high v₀ sums v = 16 - v
-
--- values that fit read back
-back-costs : (v : ℕ) {a b c d : ℤ} → SFits w32 a → SFits w32 b → SFits w32 c → SFits w32 d
-    → costOf v (back a ∷ back b ∷ back c ∷ back d ∷ []) ≡ costOf v (a ∷ b ∷ c ∷ d ∷ [])
-back-costs v f g h i = rw (toZ-ofZ f, toZ-ofZ g, toZ-ofZ h, toZ-ofZ i)
 
 pairs-requires : tie.Need-pairs-requires Inv-loop μ-loop
 pairs-requires c κs =
