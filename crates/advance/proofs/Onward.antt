@@ -6,7 +6,7 @@ use mathlib.Core.List.{List, _∷_}
 use Prim.Native.Nat.{ℕ, zero, suc, _-_, _^_, _≤_, _<_}
 use native.Mathlib.Omega.{arith}
 use lib.ListN.{length}
-use Rattle.laws.proofs.Pairs.{Paired}
+use Rattle.laws.specs.Pairs.{Paired}
 use Rattle.codebook.specs.Book.{Book, startOf, blockAt}
 use Rattle.outer.proofs.Blocks.{Placed, placed}
 use Rattle.reader.specs.Arrays.{View, sumsOf, putSums, claim, descend, joined}

@@ -8,7 +8,7 @@ use native.Mathlib.Omega.{arith}
 use lib.ListN.{length}
 use lib.IntN.{ℤ, pos, negℤ, _-ℤ_}
 use Rattle.laws.specs.Lists.{All}
-use Rattle.laws.proofs.Pairs.{Paired}
+use Rattle.laws.specs.Pairs.{Paired}
 use Rattle.polar.specs.Bits.{number}
 use Rattle.polar.specs.Layers.{part, Within}
 use Rattle.codebook.specs.Book.{Book, blockAt}

@@ -6,7 +6,7 @@ use mathlib.Core.Option.{some}
 use Prim.Native.Nat.{ℕ, _+_, _*_, _^_, _<_}
 use lib.ListN.{length, replicate}
 use lib.IntN.{ℤ}
-use Rattle.laws.proofs.Pairs.{Paired}
+use Rattle.laws.specs.Pairs.{Paired}
 use Rattle.codebook.specs.Book.{Book}
 use Rattle.codebook.specs.Limits.{Valid}
 use Rattle.codebook.specs.Loading.{loaded, load}

@@ -7,7 +7,7 @@ use native.Mathlib.Omega.{arith}
 use lib.ListN.{length}
 use lib.IntN.{ℤ}
 use Rattle.laws.specs.Lists.{All}
-use Rattle.laws.proofs.Pairs.{Paired}
+use Rattle.laws.specs.Pairs.{Paired}
 use Rattle.polar.specs.Layers.{Within}
 use Rattle.codebook.specs.Book.{Book}
 use Rattle.codebook.specs.Limits.{Valid}

@@ -14,7 +14,7 @@ use Rattle.polar.specs.Bits.{number}
 use Rattle.polar.specs.Layers.{Within}
 use Rattle.codebook.specs.Book.{Book, startOf, blockAt}
 use Rattle.codebook.specs.Book as K
-use Rattle.laws.proofs.Pairs.{Paired}
+use Rattle.laws.specs.Pairs.{Paired}
 use Rattle.machine.specs.Queue.{roomFor, insert}
 use Rattle.outer.specs.declared.Candidate.{Candidate}
 use Rattle.outer.specs.Blocks.{candidateOf}
