@@ -13,7 +13,8 @@ use Rattle.codebook.specs.Loading.{loaded, load}
 use Rattle.codebook.proofs.Loaded.{loaded-valid}
 use Rattle.machine.specs.Machine as M
 use Rattle.machine.specs.Calls.{finalOf}
-use Rattle.runs.proofs.Ends.{Ended, run-ends}
+use Rattle.runs.specs.Runs.{Ended}
+use Rattle.runs.proofs.Ends.{run-ends}
 use Rattle.reader.specs.Arrays.{Arrays}
 use Rattle.reader.specs.Paths.{firstPath}
 use Rattle.reader.specs.Reader as R

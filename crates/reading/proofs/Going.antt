@@ -20,7 +20,8 @@ use Rattle.machine.specs.Queue.{Key, Step, Final}
 use Rattle.reader.specs.Arrays.{Arrays}
 use Rattle.reader.specs.Paths.{Path, scoreOf, keyOf, firstPath}
 use Rattle.reader.specs.Reader as R
-use Rattle.reader.proofs.Reached.{Reached, first-reached, extract-reached, reached-within}
+use Rattle.reader.specs.Reached.{Reached}
+use Rattle.reader.proofs.Reached.{first-reached, extract-reached, reached-within}
 use Rattle.order.specs.Entries.{keyAt, queueOf}
 use Rattle.order.proofs.Queues.{queue-first, queue-length}
 use Rattle.standing.specs.Seen.{Memory}
