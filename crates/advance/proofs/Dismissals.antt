@@ -7,7 +7,7 @@ use native.Mathlib.Numerals.{add-one}
 use native.Mathlib.Omega.{arith}
 use lib.ListN.{length, getD}
 use Rattle.laws.proofs.Lists.{length-none}
-use Rattle.laws.proofs.Pairs.{Paired}
+use Rattle.laws.specs.Pairs.{Paired}
 use Rattle.codebook.specs.Book.{Book}
 use Rattle.machine.specs.Queue.{Key, ahead, behind}
 use Rattle.reader.specs.Arrays.{Arrays}
@@ -98,7 +98,7 @@ module _ {B : Book} {N : ℕ} {x : Memory} {order vs : List ℕ} {A : Arrays} {p
 
   -- one with no more than b blocks goes
   pub passed-out : (holders′ : List ℕ) → N ≤ 256 → keyAt (getD order i 0) .blocks ≤ b →
-      LessBy (B .m) (x .rows) (slotAt (getD order i 0)) (x .holders) holders′ →
+      LessBy (B .m + 1) (x .rows) (slotAt (getD order i 0)) (x .holders) holders′ →
       Passed B N (memory (x .rows) holders′ (x .numbers) (x .bytes)) order (slotAt (getD order i 0) ∷ vs) A ps b n (i + 1) (gone + 1)
   unfolding queueOf
   passed-out holders′ top few less =

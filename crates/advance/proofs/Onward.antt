@@ -6,16 +6,15 @@ use mathlib.Core.List.{List, _∷_}
 use Prim.Native.Nat.{ℕ, zero, suc, _-_, _^_, _≤_, _<_}
 use native.Mathlib.Omega.{arith}
 use lib.ListN.{length}
-use Rattle.laws.proofs.Pairs.{Paired}
+use Rattle.laws.specs.Pairs.{Paired}
 use Rattle.codebook.specs.Book.{Book, startOf, blockAt}
 use Rattle.outer.proofs.Blocks.{Placed, placed}
-use Rattle.reader.specs.Arrays.{View, sumsOf, putSums, claim, descend, joined}
+use Rattle.reader.specs.Arrays.{View, sumsOf, putSums, claim, descend, joined, byP}
 use Rattle.reader.specs.Paths.{lastWord, place, idsOf, viewOf}
-use Rattle.reader.specs.Reader.{commit}
+use Rattle.reader.specs.Reader.{commit, downTo, nextView}
 use Rattle.reader.specs.Fit.{Fit, FitFirst, FitFor}
-use Rattle.reader.proofs.Good.{downTo}
-use Rattle.reader.proofs.Descent.{byP, turn-place, place-most}
-use Rattle.reader.proofs.Next.{last-bits, join-ready, turn-ready, down-ready, commit-word, next-view-first, next-view-later, claim-ready}
+use Rattle.reader.proofs.Descent.{turn-place, place-most}
+use Rattle.reader.proofs.Next.{last-bits, join-ready, turn-ready, down-ready, commit-word, down-first, down-later, claim-ready}
 use Rattle.order.specs.Entries.{slotAt}
 use Rattle.heights.specs.Workspace.{bitsOf}
 use Rattle.heights.proofs.Words.{bits-back}
@@ -24,7 +23,7 @@ use Rattle.standing.specs.Standing.{cell, Stands, InHand, withIds}
 use Rattle.standing.proofs.Views.{stands-seen, stands-view}
 use Rattle.views.specs.Steps.{Upper, Turning, Joinable, Claimable}
 use Rattle.words.specs.declared.Block.{Block}
-use Rattle.steps.specs.Steps.{BlockIs, nextView, Moving}
+use Rattle.steps.specs.Steps.{BlockIs, Moving}
 
 -- ---- what the path in hand sees
 
@@ -93,7 +92,7 @@ module _ {m N : ℕ} {x : Memory} {e : ℕ} {es vs : List ℕ} {last at : Block}
         subst (λ w. Seen m N s y o w)
         (ap (λ n. descend o (n - at .height) n 0 v) (sym (h .deep))
         ∙ ap (λ j. descend o (B .m - j) (B .m) 0 v) (c .next .height ∙ ap (λ b. blockAt B b .j) first-is)
-        ∙ sym (next-view-first B o (h .taken) v)
+        ∙ sym (down-first B o (h .arrays) (h .taken))
         ∙ ap (downTo B o (h .arrays) (h .taken)) (sym first-is))
         (t o v own-seen first-upper)
 
@@ -196,7 +195,7 @@ module _ {m N : ℕ} {x : Memory} {e : ℕ} {es vs : List ℕ} {last at : Block}
         subst (λ u. Seen m N s z o u)
         (ap₂ (λ a j. descend o (a - j) a 0 (byP o a (committed h))) (last-is .word) (c .next .height)
         ∙ ap (λ k. descend o (place B b - blockAt B k .j) (place B b) 0 (byP o (place B b) (commit B o (h .taken) k v))) (later .1)
-        ∙ sym (next-view-later B o (h .taken) v (c .valid) b more)
+        ∙ sym (down-later B o (h .arrays) (h .taken) (c .valid) b more)
         ∙ ap (downTo B o (h .arrays) (h .taken)) (sym (later .1)))
         (t o (byP o (last .place) (committed h)) seen turned-upper)
 
@@ -212,13 +211,13 @@ module _ {m N : ℕ} {x : Memory} {e : ℕ} {es vs : List ℕ} {last at : Block}
   -- the memory stands for the state with that view
   pub claimed-stands : (y z : Memory) → m ≤ 9 → Seen m N s y (away (c .hand)) (reached (c .hand)) →
       Turned m N s y z (Claimable (at .height) (at .place)) (λ others v. claim others (at .height) (at .place) v) → IdsOnly m s (x .rows) (z .rows) →
-      let v = nextView (c .hand .book) (c .hand .arrays) (c .hand .taken) (c .hand .rest) in
+      let v = nextView (c .hand .book) (away (c .hand)) (c .hand .arrays) (c .hand .taken) (c .hand .taken .blocks) in
       Stands (c .hand .book) N z (e ∷ es) vs (v .arrays) (withIds (c .hand .taken) (v .ids) ∷ c .hand .rest)
-  unfolding Turned nextView
+  unfolding Turned
   claimed-stands y z d seen t only =
       let h : InHand m N x e es vs = c .hand in
       let o : List (ℕ → ℕ) = away h in
-      let w : View = nextView (h .book) (h .arrays) (h .taken) (h .rest) in
+      let w : View = nextView (h .book) o (h .arrays) (h .taken) (h .taken .blocks) in
       let e′ : claim o (at .height) (at .place) (reached h) ≡ w = ap₂ (λ j k. claim o j k (reached h)) (c .next .height) (c .next .word) in
       let sees : Seen m N s z o w = subst (λ u. Seen m N s z o u) e′ (t o (reached h) seen reached-claimable) in
       stands-view (h .stands) (omega (arith, h .deep))

@@ -11,9 +11,8 @@ use borrow.Author.Tests.{lt-ltb, le-ltb, le-leb, lt-leb, eq-eqb, ne-eqb}
 use Rattle.laws.specs.Lists.{keep}
 use Rattle.laws.proofs.Tests.{lt-or}
 use Rattle.codebook.specs.Book.{Book}
-use Rattle.machine.specs.Queue.{Key, ahead, behind, visit}
+use Rattle.machine.specs.Queue.{Key, ahead, behind, staying, outrunBy, visit}
 use Rattle.reader.specs.Paths.{Path, keyOf}
-use Rattle.reader.specs.Reader.{staying, outrunBy}
 
 module _ {A : Type 0} (key : A → Key) (b : ℕ) where
   -- ---- one path more
@@ -57,10 +56,10 @@ unfolding visit
 visit-seen visits b h = getD-set-same visits b (suc (getD visits b 0)) 0 h
 
 module _ (B : Book) (L b : ℕ) (visits : List ℕ) (ps : List Path) where
-  pub stay-all : (getD visits b 0 ≡ L → ⊥) → (staying B L b visits ps ≡ ps) × (outrunBy B L b visits ps ≡ [])
+  pub stay-all : (getD visits b 0 ≡ L → ⊥) → (staying (keyOf B) L b visits ps ≡ ps) × (outrunBy (keyOf B) L b visits ps ≡ [])
   unfolding staying outrunBy
   stay-all h = rw (ne-eqb (getD visits b 0) L h) (refl, refl)
 
-  pub stay-ahead : getD visits b 0 ≡ L → (staying B L b visits ps ≡ ahead (keyOf B) b ps) × (outrunBy B L b visits ps ≡ behind (keyOf B) b ps)
+  pub stay-ahead : getD visits b 0 ≡ L → (staying (keyOf B) L b visits ps ≡ ahead (keyOf B) b ps) × (outrunBy (keyOf B) L b visits ps ≡ behind (keyOf B) b ps)
   unfolding staying outrunBy
   stay-ahead h = rw (eq-eqb (getD visits b 0) L h) (refl, refl)

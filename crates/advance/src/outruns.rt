@@ -4,9 +4,8 @@ ghost use mathlib.Core.List.{List};
 ghost use Prim.Native.Nat.{ℕ, _+_, _-_, _≤_, _<_};
 ghost use lib.IntN.{ℤ};
 ghost use lib.ListN.{length, getD};
-ghost use Rattle.machine.specs.Queue.{ahead, behind, visit};
+ghost use Rattle.machine.specs.Queue.{ahead, behind, staying, outrunBy, visit};
 ghost use Rattle.reader.specs.Paths.{keyOf};
-ghost use Rattle.reader.specs.Reader.{staying, outrunBy};
 ghost use Rattle.order.specs.Entries.{keyAt, queueOf, Rising};
 ghost use Rattle.sharing.specs.Sharing.{Sizes};
 ghost use Rattle.standing.specs.Seen.{memory};
@@ -74,9 +73,9 @@ pub fn outrun(
         × (r .queued ≤ s .paths) ⌝ }
     ensures { λ r. ⌜ ((numbers : List ℤ) (bytes : List ℕ)
         (c : Queued (s .m) (s .paths) (memory (now (rows .entry)) (now (holders .entry)) numbers bytes) (queueOf (now (order .entry)) (t .queued)) (queueOf (now (vacant .entry)) (s .paths - t .queued)))
-        → (let left = staying (c .book) (s .visits) b (visit (now (visits .entry)) b) (c .paths) in
+        → (let left = staying (keyOf (c .book)) (s .visits) b (visit (now (visits .entry)) b) (c .paths) in
         (r .queued ≡ length left)
-        × (r .outrun ≡ t .outrun + length (outrunBy (c .book) (s .visits) b (visit (now (visits .entry)) b) (c .paths)))
+        × (r .outrun ≡ t .outrun + length (outrunBy (keyOf (c .book)) (s .visits) b (visit (now (visits .entry)) b) (c .paths)))
         × Stands (c .book) (s .paths) (memory (now (rows .entry)) (now (holders .exit)) numbers bytes) (queueOf (now (order .exit)) (r .queued))
         (queueOf (now (vacant .exit)) (s .paths - r .queued)) (c .arrays) left)) ⌝ }
     ensures { λ r. ⌜ Rising (now (order .exit)) (r .queued) ⌝ }

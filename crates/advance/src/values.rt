@@ -2,10 +2,12 @@
 // taken.
 ghost use mathlib.Core.List.{List, _∷_};
 ghost use Prim.Native.Nat.{ℕ, _+_};
+ghost use Rattle.reader.specs.Paths.{idsOf};
+ghost use Rattle.reader.specs.Reader.{nextView};
 ghost use Rattle.order.specs.Entries.{slotAt};
 ghost use Rattle.standing.specs.Seen.{memory, Lent, IdsOnly};
 ghost use Rattle.standing.specs.Standing.{Stands, withIds};
-ghost use Rattle.steps.specs.Steps.{nextView, Moving};
+ghost use Rattle.steps.specs.Steps.{Moving};
 use order::entries::slot_of;
 use views::view::claim;
 use views::view::commit;
@@ -30,7 +32,7 @@ pub fn calculate(
     ensures { λ _. ⌜ Lent m paths (memory (now (rows .exit)) (now (holders .exit)) (now (numbers .exit)) (now (bytes .exit)))
         × IdsOnly m (slotAt e) (now (rows .entry)) (now (rows .exit)) ⌝ }
     ensures { λ _. ⌜ ((es vs : List ℕ) (c : Moving m paths (memory (now (rows .entry)) (now (holders .entry)) (now (numbers .entry)) (now (bytes .entry))) e es vs last at)
-        → (let v = nextView (c .hand .book) (c .hand .arrays) (c .hand .taken) (c .hand .rest) in
+        → (let v = nextView (c .hand .book) (idsOf (c .hand .rest)) (c .hand .arrays) (c .hand .taken) (c .hand .taken .blocks) in
         Stands (c .hand .book) paths (memory (now (rows .exit)) (now (holders .exit)) (now (numbers .exit)) (now (bytes .exit))) (e ∷ es) vs
         (v .arrays) (withIds (c .hand .taken) (v .ids) ∷ c .hand .rest))) ⌝ }
 {

@@ -15,7 +15,8 @@ use Rattle.laws.proofs.Lists.{length-snoc}
 use Rattle.polar.specs.Bits.{Bit, toBits}
 use Rattle.codebook.specs.Book.{Book, Kind, free, frozen, tied, freeCount, startOf, kindsOf, blockAt}
 use Rattle.codec.specs.Code.{parity, fill}
-use Rattle.codec.specs.Ties.{Parities, times, names, absorb, Filling, push, fillFrom, fillBlock}
+use Rattle.codec.specs.Ties.{Parities, times, names, sumAt, absorb, Filling, push, fillFrom, fillBlock}
+unfoldable pub use Rattle.codec.specs.Ties.{paritiesOf, filled}
 use Rattle.codec.proofs.Fill.{parity-bit}
 
 -- ---- one bit more
@@ -50,14 +51,6 @@ parity-snoc u b (i ∷ ts) =
     sum x y z p q r s f e g = omega arith
 
 -- ---- the parities of a path with the bits u
-
-sumAt : List ℕ → Kind → ℕ
-sumAt u free = 0
-sumAt u frozen = 0
-sumAt u (tied ts) = parity u ts
-
-pub paritiesOf : Book → List ℕ → Parities
-paritiesOf B u i = sumAt u (getD (B .kinds) i frozen)
 
 sum-bit : (u : List ℕ) (k : Kind) → Bit (sumAt u k)
 unfolding sumAt
@@ -142,10 +135,6 @@ fill-gives B u (tied ts ∷ ks) ds h =
     subst (λ (c : ℕ). Gives B u (fill (u ++ b ∷ []) ks ds) (push c (fillFrom B (absorb B (length u) c (paritiesOf B u)) (suc (length u)) ks ds)))
     (sym (tie-at B u ts (h .0)))
     (gives-more B u b ks ds _ (fill-gives B (u ++ b ∷ []) ks ds (rw (length-snoc u b) (h .1))))
-
--- bits u up to block b, then those of the w-th setting of its free bits
-abbrev pub filled : Book → List ℕ → ℕ → ℕ → List ℕ
-filled B u b w = fill u (kindsOf B b) (toBits (freeCount (kindsOf B b)) w)
 
 block-gives : (B : Book) (u : List ℕ) (b w : ℕ) → length u ≡ startOf (B .blocks) b → Gives B u (filled B u b w) (fillBlock B (paritiesOf B u) b w)
 unfolding fillBlock kindsOf

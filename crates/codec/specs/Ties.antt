@@ -7,6 +7,7 @@ use lib.ListN.{getD}
 use lib.Dec.{eqb}
 use Rattle.codebook.specs.Book.{Book, Kind, free, frozen, tied, freeCount, startOf, kindsOf}
 use Rattle.polar.specs.Bits.{toBits}
+use Rattle.codec.specs.Code.{parity, fill}
 
 -- for each index the parity of its tie, if it has one
 abbrev pub Parities : Type 0
@@ -21,6 +22,15 @@ unfoldable pub names : ℕ → Kind → ℕ
 names k free = 0
 names k frozen = 0
 names k (tied terms) = times k terms
+
+-- the parity of a kind, and those of a path, with the bits u
+unfoldable pub sumAt : List ℕ → Kind → ℕ
+sumAt u free = 0
+sumAt u frozen = 0
+sumAt u (tied terms) = parity u terms
+
+unfoldable pub paritiesOf : Book → List ℕ → Parities
+paritiesOf B u i = sumAt u (getD (B .kinds) i frozen)
 
 -- the parities once index k has bit b
 unfoldable pub absorb : Book → ℕ → ℕ → Parities → Parities
@@ -46,3 +56,7 @@ fillFrom B x k (tied terms ∷ ks) ds = push (x k) (fillFrom B (absorb B k (x k)
 -- the w-th setting of the free bits of block b, with the parities x before it
 unfoldable pub fillBlock : Book → Parities → ℕ → ℕ → Filling
 fillBlock B x b w = fillFrom B x (startOf (B .blocks) b) (kindsOf B b) (toBits (freeCount (kindsOf B b)) w)
+
+-- bits u up to block b, then those of the w-th setting of its free bits
+abbrev pub filled : Book → List ℕ → ℕ → ℕ → List ℕ
+filled B u b w = fill u (kindsOf B b) (toBits (freeCount (kindsOf B b)) w)

@@ -22,7 +22,8 @@ use Rattle.machine.specs.declared.Counts.{Counts}
 use Rattle.machine.specs.Queue.{Final}
 use Rattle.machine.specs.Machine as M
 use Rattle.machine.specs.Calls.{finalOf, countsOf}
-use Rattle.runs.proofs.Final.{Exact, run-exact}
+use Rattle.runs.specs.Runs.{Exact}
+use Rattle.runs.proofs.Final.{run-exact}
 use Rattle.heights.specs.Workspace.{Room}
 use Rattle.reading.specs.Running.{Running}
 use Rattle.decoder.specs.Attempt.{Ready, answerOf}
@@ -86,7 +87,7 @@ module _ {x : Sizes} {values : List ℤ} {kinds terms heights starts : List ℕ}
     abbrev pub found : Final
     found = finalOf (r .book) values (M.runOf (r .book) L D values .final)
 
-    pub exact : Exact (r .book) (r .tables .booked .valid) values found
+    pub exact : Exact (r .book) values found
     exact = run-exact (r .book) (r .tables .booked .valid) L D values visited (r .fits)
 
 -- ---- the limit

@@ -7,10 +7,10 @@ use native.Mathlib.Omega.{arith}
 use lib.ListN.{length, getD, length-map, length-set}
 use lib.IntN.{ℤ}
 use Rattle.codebook.specs.Book.{Book}
-use Rattle.machine.specs.Queue.{insert, numbers, visit}
+use Rattle.machine.specs.Queue.{insert, staying, outrunBy, numbers, visit}
 use Rattle.reader.specs.Arrays.{Arrays}
 use Rattle.reader.specs.Paths.{Path, keyOf, idsOf}
-use Rattle.reader.specs.Reader.{Cut, copy, Moved, move, staying, outrunBy, Extracted, extract}
+use Rattle.reader.specs.Reader.{Cut, copy, Moved, move, Extracted, extract}
 use Rattle.reader.proofs.Reached.{reached-fit}
 use Rattle.reader.proofs.Fit.{fit-copied}
 use Rattle.reader.proofs.Found.{MoveFound, copy-total, move-found-copied}
@@ -20,7 +20,7 @@ use Rattle.standing.specs.Standing.{Stands}
 use Rattle.words.specs.declared.Block.{Block}
 use Rattle.words.specs.declared.Kept.{Kept}
 use Rattle.words.specs.Kept.{KeptIs}
-use Rattle.steps.specs.Steps.{nextView, Queued}
+use Rattle.steps.specs.Steps.{Queued}
 use Rattle.extraction.specs.Extraction.{Seconding, Thirding, Extracting}
 use Rattle.extraction.proofs.Counts.{blocks-few}
 use Rattle.extraction.proofs.Seconds.{hand-blocks}
@@ -72,7 +72,7 @@ module _ {m N : ℕ} {x : Memory} {e : ℕ} {es vs kinds terms : List ℕ} {last
     -- ---- step 3
 
     pub extract-thirding : Thirding m N y e qs ws kinds terms last at
-    unfolding extract-seconding nextView
+    unfolding extract-seconding
     extract-thirding =
         let ok = c .booked .valid in
         let found : MoveFound book (idsOf (second .queue)) (second .arrays) path =
@@ -124,8 +124,8 @@ module _ {m N : ℕ} {x : Memory} {e : ℕ} {es vs kinds terms : List ℕ} {last
 
       pub extract-done : (L : ℕ) (visits : List ℕ) (gone b : ℕ) {left outrun : ℕ} {w : Memory} {es′ vs′ : List ℕ} → b ≡ keyAt e .blocks →
           (let o = extract-queued in
-          let stay = staying (o .book) L b (visit visits b) (o .paths) in
-          (left ≡ length stay) × (outrun ≡ gone + length (outrunBy (o .book) L b (visit visits b) (o .paths)))
+          let stay = staying (keyOf (o .book)) L b (visit visits b) (o .paths) in
+          (left ≡ length stay) × (outrun ≡ gone + length (outrunBy (keyOf (o .book)) L b (visit visits b) (o .paths)))
           × Stands (o .book) N w es′ vs′ (o .arrays) stay) →
           Comes (visit visits b) left gone outrun w es′ vs′ (extract book L N arrays path rest n visits)
       unfolding extract extract-seconding extract-thirding extract-queued numbers
@@ -133,11 +133,11 @@ module _ {m N : ℕ} {x : Memory} {e : ℕ} {es vs kinds terms : List ℕ} {last
           let o = extract-queued in
           let same : b ≡ path .blocks = q ∙ hand-blocks (c .hand) in
           let Left : ℕ → Type 0 = λ i.
-          let stay = staying book L i (visit visits i) (o .paths) in
-          (left ≡ length stay) × (outrun ≡ gone + length (outrunBy book L i (visit visits i) (o .paths)))
+          let stay = staying (keyOf book) L i (visit visits i) (o .paths) in
+          (left ≡ length stay) × (outrun ≡ gone + length (outrunBy (keyOf book) L i (visit visits i) (o .paths)))
           × Stands book N w es′ vs′ (third .arrays) stay in
           let k : Left (path .blocks) = subst Left same h in
-          let behind : List Path = outrunBy book L (path .blocks) (visit visits (path .blocks)) (o .paths) in (
+          let behind : List Path = outrunBy (keyOf book) L (path .blocks) (visit visits (path .blocks)) (o .paths) in (
             k .0,
             done .1,
             ap (visit visits) same,

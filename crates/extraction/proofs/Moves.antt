@@ -8,7 +8,7 @@ use native.Mathlib.Omega.{arith}
 use lib.ListN.{length}
 use lib.IntN.{ℤ, pos, negℤ, _-ℤ_}
 use Rattle.laws.specs.Lists.{All}
-use Rattle.laws.proofs.Pairs.{Paired}
+use Rattle.laws.specs.Pairs.{Paired}
 use Rattle.polar.specs.Bits.{number}
 use Rattle.polar.specs.Layers.{part, Within}
 use Rattle.codebook.specs.Book.{Book, blockAt}
@@ -20,7 +20,7 @@ use Rattle.outer.specs.Blocks.{paritySet, Bits, BlockTabled, candidateOf}
 use Rattle.outer.proofs.Entries.{block-low, block-walkable}
 use Rattle.reader.specs.Arrays.{Arrays, View, valsOf}
 use Rattle.reader.specs.Paths.{Path, scoreOf, keyOf, lastWord, idsOf}
-use Rattle.reader.specs.Reader.{moveWith, move}
+use Rattle.reader.specs.Reader.{nextView, moveWith, move}
 use Rattle.reader.specs.Fit.{FitFor}
 use Rattle.reader.proofs.Descent.{place-own, place-most}
 use Rattle.reader.proofs.Found.{nearest-number}
@@ -34,7 +34,6 @@ use Rattle.standing.specs.Standing.{cell, Row, Stands, withIds, PutRow, Made}
 use Rattle.standing.proofs.Places.{stands-insert}
 use Rattle.standing.proofs.Written.{stands-put}
 use Rattle.words.specs.declared.Block.{Block}
-use Rattle.steps.specs.Steps.{nextView}
 use Rattle.extraction.specs.Extraction.{Thirding}
 use Rattle.extraction.proofs.Counts.{blocks-few}
 use Rattle.extraction.proofs.Seconds.{hand-key, hand-blocks}
@@ -57,7 +56,7 @@ module _ {m N : ℕ} {x : Memory} {e : ℕ} {es vs kinds terms : List ℕ} {last
 
   -- what it sees then
   abbrev pub view : View
-  view = nextView book (c .moving .hand .arrays) path rest
+  view = nextView book (idsOf rest) (c .moving .hand .arrays) path (path .blocks)
 
   abbrev height : ℕ
   height = blockAt book (path .blocks) .j
@@ -87,7 +86,6 @@ module _ {m N : ℕ} {x : Memory} {e : ℕ} {es vs kinds terms : List ℕ} {last
 
   -- the values of the block are there, within range
   ready : (1 ≤ view .ids height) × All (Within 1048064) (valsOf view height)
-  unfolding nextView
   ready = next-ready book (c .booked .valid) (c .moving .hand .arrays) path (idsOf rest) (c .moving .next .within) (c .moving .fit)
 
   -- ---- memory once they are
@@ -214,7 +212,7 @@ module _ {m N : ℕ} {x : Memory} {e : ℕ} {es vs kinds terms : List ℕ} {last
           PutRow (slotAt e) (y .rows) rows′ (cell (y .rows) (slotAt e) 10 + cell (y .rows) (slotAt e) 11) (found .cost) (found .number) (cell (y .rows) (slotAt e) 14) (found .parities) →
           let k = move book (c .moving .hand .arrays) path rest in
           Stands book N (memory rows′ (y .holders) (y .numbers) (y .bytes)) (insert keyAt d es) vs (k .arrays) (insert (keyOf book) (k .path) rest)
-      unfolding move moveWith nextView withIds
+      unfolding move moveWith withIds
       third-queued {d} {rows′ = rows′} score packed put =
           let own : Packed d (keyOf book moved) (slotAt e) = subst (λ (k : Key). Packed d k (slotAt e)) (key-is score) packed in
           let Ends : Option Word → Type 0 = λ o.

@@ -11,15 +11,16 @@ use Rattle.polar.specs.Layers.{Within}
 use Rattle.codebook.specs.Book.{blockAt}
 use Rattle.outer.specs.Words.{Word, nearest, nextAfter}
 use Rattle.reader.specs.Arrays.{valsOf}
-use Rattle.reader.specs.Paths.{ownWord, viewOf}
+use Rattle.reader.specs.Paths.{ownWord, idsOf, viewOf}
+use Rattle.reader.specs.Reader.{nextView}
 use Rattle.reader.specs.Fit.{FitFor}
-use Rattle.reader.proofs.Reached.{Reached}
+use Rattle.reader.specs.Reached.{Reached}
 use Rattle.standing.specs.Seen.{Memory}
 use Rattle.standing.specs.Standing.{InHand}
 use Rattle.words.specs.declared.Block.{Block}
 use Rattle.words.specs.declared.Kept.{Kept}
 use Rattle.words.specs.Kept.{KeptIs}
-use Rattle.steps.specs.Steps.{BlockIs, Booked, nextView, Moving}
+use Rattle.steps.specs.Steps.{BlockIs, Booked, Moving}
 
 -- step 2: a path in hand, whose last block, if it has one, is `last`, and the word kept; no next word costs too much
 pub record Seconding (m N : ℕ) (x : Memory) (e : ℕ) (es vs : List ℕ) (kinds terms : List ℕ) (last : Block) (kept : Kept) : Type 0 where
@@ -38,7 +39,7 @@ pub record Thirding (m N : ℕ) (x : Memory) (e : ℕ) (es vs : List ℕ) (kinds
   pub booked : Booked (moving .hand .book) kinds terms
   pub word : Word
   pub found : (let c = moving .hand in let b = c .taken .blocks in
-      nearest (c .book) (valsOf (nextView (c .book) (c .arrays) (c .taken) (c .rest)) (blockAt (c .book) b .j)) (c .taken .parities) b ≡ some word)
+      nearest (c .book) (valsOf (nextView (c .book) (idsOf (c .rest)) (c .arrays) (c .taken) b) (blockAt (c .book) b .j)) (c .taken .parities) b ≡ some word)
   pub total : moving .hand .taken .spent + moving .hand .taken .cost + word .cost ≤ 1048064
 
 -- all of it: a state that the run reaches, from received values within range, and the word kept

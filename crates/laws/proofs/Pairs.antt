@@ -7,15 +7,9 @@ use mathlib.Core.Option.{Option, none, some}
 use Prim.Native.Nat.{ℕ, zero, suc}
 use lib.ListN.{take, drop}
 use Rattle.laws.specs.Lists.{All, keep}
+use Rattle.laws.specs.Pairs.{Paired}
 
 module _ {A B : Type 0} (R : A → B → Type 0) where
-  -- as many here as there, each related to the one in its place
-  unfoldable pub Paired : List A → List B → Type 0
-  Paired [] [] = Unit {0}
-  Paired [] (y ∷ ys) = ⊥
-  Paired (x ∷ xs) [] = ⊥
-  Paired (x ∷ xs) (y ∷ ys) = R x y × Paired xs ys
-
   -- both are there, and related, or neither is
   unfoldable pub MayPair : Option A → Option B → Type 0
   MayPair none none = Unit {0}
@@ -23,7 +17,7 @@ module _ {A B : Type 0} (R : A → B → Type 0) where
   MayPair (some x) none = ⊥
   MayPair (some x) (some y) = R x y
 
-  pub paired-take : (n : ℕ) (xs : List A) (ys : List B) → Paired xs ys → Paired (take n xs) (take n ys)
+  pub paired-take : (n : ℕ) (xs : List A) (ys : List B) → Paired R xs ys → Paired R (take n xs) (take n ys)
   unfolding Paired
   paired-take zero xs ys h = tt
   paired-take (suc n) [] [] h = tt
@@ -31,7 +25,7 @@ module _ {A B : Type 0} (R : A → B → Type 0) where
   paired-take (suc n) (x ∷ xs) [] h = absurd h
   paired-take (suc n) (x ∷ xs) (y ∷ ys) h = (h .0, paired-take n xs ys (h .1))
 
-  pub paired-drop : (n : ℕ) (xs : List A) (ys : List B) → Paired xs ys → Paired (drop n xs) (drop n ys)
+  pub paired-drop : (n : ℕ) (xs : List A) (ys : List B) → Paired R xs ys → Paired R (drop n xs) (drop n ys)
   unfolding Paired
   paired-drop zero xs ys h = h
   paired-drop (suc n) [] [] h = tt
@@ -40,19 +34,19 @@ module _ {A B : Type 0} (R : A → B → Type 0) where
   paired-drop (suc n) (x ∷ xs) (y ∷ ys) h = paired-drop n xs ys (h .1)
 
   -- tests that agree on related elements
-  pub paired-keep : (f : A → Bool) (g : B → Bool) → ((x : A) (y : B) → R x y → f x ≡ g y) → (xs : List A) (ys : List B) → Paired xs ys → Paired (keep f xs) (keep g ys)
+  pub paired-keep : (f : A → Bool) (g : B → Bool) → ((x : A) (y : B) → R x y → f x ≡ g y) → (xs : List A) (ys : List B) → Paired R xs ys → Paired R (keep f xs) (keep g ys)
   unfolding Paired keep
   paired-keep f g e [] [] h = tt
   paired-keep f g e [] (y ∷ ys) h = absurd h
   paired-keep f g e (x ∷ xs) [] h = absurd h
   paired-keep f g e (x ∷ xs) (y ∷ ys) h = rw (e x y (h .0)) (go (g y) (paired-keep f g e xs ys (h .1)))
     where
-      go : (b : Bool) → Paired (keep f xs) (keep g ys) → Paired (cond b (x ∷ keep f xs) (keep f xs)) (cond b (y ∷ keep g ys) (keep g ys))
+      go : (b : Bool) → Paired R (keep f xs) (keep g ys) → Paired R (cond b (x ∷ keep f xs) (keep f xs)) (cond b (y ∷ keep g ys) (keep g ys))
       go true k = (h .0, k)
       go false k = k
 
   -- functions that agree on related elements
-  pub paired-map : {C : Type 0} (f : A → C) (g : B → C) → ((x : A) (y : B) → R x y → f x ≡ g y) → (xs : List A) (ys : List B) → Paired xs ys → map f xs ≡ map g ys
+  pub paired-map : {C : Type 0} (f : A → C) (g : B → C) → ((x : A) (y : B) → R x y → f x ≡ g y) → (xs : List A) (ys : List B) → Paired R xs ys → map f xs ≡ map g ys
   unfolding Paired
   paired-map f g e [] [] h = refl
   paired-map f g e [] (y ∷ ys) h = absurd h

@@ -11,10 +11,10 @@ use Rattle.codebook.specs.Loading.{listed, width, bigEndian, signed, command, s
 use Rattle.codec.specs.Code.{parity, fill, freeBits, obeys, obeysAll, encode, inCode, readData}
 use Rattle.codec.specs.Record.{statusNumber, statusOf, noRecord, recordFits, recordBits, fieldAt, recordWith, readRecord}
 use Rattle.codec.specs.Calls.{areBits, wordFits, dataFits, holdsRecord, kept, wrote, encodeWith, encodeCall, testWith, testCall, readDataWith, readDataCall, makeRecordWith, makeRecordCall, notRead, recordRead, readRecordWith, readRecordCall}
-use Rattle.machine.specs.Queue.{before, insert, ahead, behind, numbers, roomFor, crowdedOut, visit}
+use Rattle.machine.specs.Queue.{before, insert, ahead, behind, staying, outrunBy, numbers, roomFor, crowdedOut, visit}
 use Rattle.machine.specs.Choice.{choose, firstOf}
 use Rattle.machine.specs.Words.{rank, nearer, setting, nearestWith, nearest, nextAfter}
-use Rattle.machine.specs.Machine.{keyOf, scoreOf, path, emptyPath, copyWith, copyOf, cut, advanceWith, advance, staying, outrunBy, extract, after, stopped, run, runOf}
+use Rattle.machine.specs.Machine.{keyOf, scoreOf, path, emptyPath, copyWith, copyOf, cut, advanceWith, advance, extract, after, stopped, run, runOf}
 use Rattle.machine.specs.Calls.{settingsOk, numbersNeeded, bytesNeeded, walkNeeded, lentOk, valuesOk, barred, finalOf, countsOf, noCounts, walked, afterRun, plainRan, plainRefused, plainChecked, plainWith, plainCall, hookOf, isDone, hookRan, hookRefused, hookChecked, hookWith, hookCall}
 use Rattle.machine.specs.Rows.{shape, shapeAs, wordsFrom, wordsOf, stepsOf, seen, seenHook, Holds}
 use Rattle.machine.specs.Table.{size, frees, zeros, tie, term, block, blockBelow, blockWith, end, times, hookBook, tiedBook, flatBook, oneBlock, recordBook, repeatBook, tiesBook, hookValues, input, room, hookRoom, flatRoom, recordRoom, repeatRoom, hookRun, plainly, step, counts, gave, keptBack, hook, held, heldBits, heldWord, marked, markedRuns, queueRows, goodBooks, shortBooks, strangeBooks, misplacedBooks, offRangeBooks, overtiedAndHeavy, firstFaults, codecRows, recordRows, lentRows, hookRows, table}

@@ -3,12 +3,12 @@ use mathlib.Core.Bool.{cond}
 use mathlib.Core.List.{List, [], _∷_}
 use mathlib.Core.Option.{Option, none, some}
 use Prim.Native.Nat.{ℕ, zero, suc, _+_, _*_}
-use lib.ListN.{length, getD, replicate}
+use lib.ListN.{length, replicate}
 use lib.IntN.{ℤ, pos, _-ℤ_}
 use lib.Dec.{eqb}
 use Rattle.polar.specs.Value.{R}
 use Rattle.codebook.specs.Book.{Book, blockAt}
-use Rattle.machine.specs.Queue.{Key, insert, ahead, behind, numbers, roomFor, crowdedOut, visit, Step}
+use Rattle.machine.specs.Queue.{Key, insert, staying, outrunBy, numbers, roomFor, crowdedOut, visit, Step}
 use Rattle.machine.specs.Words.{Ranked, nearest, nextAfter}
 
 -- ---- paths
@@ -67,13 +67,6 @@ advanceWith B ys p (some x) = path B ys (p .number) (suc (p .blocks)) (x .bits)
 unfoldable pub advance : Book → List ℤ → Path → Path
 advance B ys p = advanceWith B ys p (nearest B ys (p .bits) (p .blocks))
 
--- step 4: after the L-th visit to block b, the queued paths that stay, and those outrun
-unfoldable pub staying : ℕ → ℕ → List ℕ → List Path → List Path
-staying L b visits qs = cond (eqb (getD visits b 0) L) (ahead keyOf b qs) qs
-
-unfoldable pub outrunBy : ℕ → ℕ → List ℕ → List Path → List Path
-outrunBy L b visits qs = cond (eqb (getD visits b 0) L) (behind keyOf b qs) []
-
 -- what the machine holds: the queued paths in their order, the next number, the visits to each block
 pub record State : Type 0 where
   pub queue : List Path
@@ -93,14 +86,14 @@ extract B L D ys p qs n visits =
     let third = insert keyOf (advance B ys p) (second .queue) in
     let visited = visit visits b in
     record {
-      state = record { queue = staying L b visited third; next = second .next; visits = visited };
+      state = record { queue = staying keyOf L b visited third; next = second .next; visits = visited };
       step =
           record {
             path = p .number;
             blocks = b;
             score = p .score;
             crowded = second .crowded;
-            outrun = numbers keyOf (outrunBy L b visited third);
+            outrun = numbers keyOf (outrunBy keyOf L b visited third);
           };
     }
 

@@ -38,6 +38,13 @@ module _ {A : Type 0} (key : A → Key) where
   unfoldable pub behind : ℕ → List A → List A
   behind b qs = keep (λ (p : A). leb (key p .blocks) b) qs
 
+  -- step 4, after the L-th visit to block b: the queued paths that stay, and those outrun
+  unfoldable pub staying : ℕ → ℕ → List ℕ → List A → List A
+  staying L b visits qs = cond (eqb (getD visits b 0) L) (ahead b qs) qs
+
+  unfoldable pub outrunBy : ℕ → ℕ → List ℕ → List A → List A
+  outrunBy L b visits qs = cond (eqb (getD visits b 0) L) (behind b qs) []
+
   -- the paths' numbers
   unfoldable pub numbers : List A → List ℕ
   numbers qs = map (λ (p : A). key p .number) qs

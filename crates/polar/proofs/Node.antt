@@ -18,16 +18,12 @@ use Rattle.laws.proofs.Lists.{all-drop, drop-take}
 use Rattle.polar.specs.Bits.{Bit}
 use Rattle.polar.specs.Transform.{transform}
 use Rattle.polar.specs.Soft.{Qs, Ps, discrepancy}
-use Rattle.polar.specs.Value.{penalties}
-use Rattle.polar.specs.Node.{rest, restBits, child, node}
+use Rattle.polar.specs.Value.{penalties, costs}
+use Rattle.polar.specs.Node.{rest, restBits, first, child, node}
 use Rattle.polar.proofs.Bits.{first-half, last-half}
 use Rattle.polar.proofs.Transform.{transform-length}
 use Rattle.polar.proofs.Soft.{Qs-length, Ps-length}
-use Rattle.polar.proofs.Value.{costs, costs-low, costs-high, penalties-costs, theorem1, Same, same-less}
-
--- the word of the first half
-abbrev pub first : ℕ → List ℕ → List ℕ
-first m u = transform m (take (2 ^ m) u)
+use Rattle.polar.proofs.Value.{costs-low, costs-high, penalties-costs, theorem1, Same, same-less}
 
 -- ---- which half
 

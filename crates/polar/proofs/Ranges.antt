@@ -16,12 +16,12 @@ use Rattle.laws.proofs.Lists.{all-map, all-take, all-drop, all-append, all-repl
 use Rattle.polar.specs.Bits.{Bit}
 use Rattle.polar.specs.Transform.{transform}
 use Rattle.polar.specs.Soft.{Qs, Ps, discrepancy}
-use Rattle.polar.specs.Value.{R}
-use Rattle.polar.specs.Node.{rest, restBits, child, node}
+use Rattle.polar.specs.Value.{costs, R}
+use Rattle.polar.specs.Node.{rest, restBits, first, child, node}
 use Rattle.polar.specs.Layers.{Within}
 use Rattle.polar.proofs.Soft.{Q-abs, P-abs, cost-le}
-use Rattle.polar.proofs.Value.{costs, costs-add, costs-same, theorem1, R-costs}
-use Rattle.polar.proofs.Node.{first, child-low, child-high}
+use Rattle.polar.proofs.Value.{costs-add, costs-same, theorem1, R-costs}
+use Rattle.polar.proofs.Node.{child-low, child-high}
 
 -- ---- R
 

@@ -18,14 +18,10 @@ use Rattle.polar.specs.Bits.{Bit, addBits}
 use Rattle.polar.specs.Transform.{transform}
 use Rattle.polar.specs.Soft.{Qs, Ps, cost, discrepancy}
 use Rattle.polar.specs.Value.{value, penalties, R}
+unfoldable pub use Rattle.polar.specs.Value.{costs}
 use Rattle.polar.proofs.Bits.{first-half, last-half, add-length}
 use Rattle.polar.proofs.Transform.{transform-suc, transform-length, transform-bits}
 use Rattle.polar.proofs.Soft.{penalty-cost, lemma1, discrepancy-append, Qs-length, Ps-length}
-
--- the costs of n bits of u from bit i on: their penalties with the other sign
-unfoldable pub costs : ℕ → List ℤ → List ℕ → ℕ → ℕ → ℕ
-costs m ys u i zero = 0
-costs m ys u i (suc n) = costs m ys u i n + cost (getD u (i + n) 0) (value m ys u (i + n))
 
 pub penalties-costs : (m : ℕ) (ys : List ℤ) (u : List ℕ) (i n : ℕ) → penalties m ys u i n ≡ negℤ (pos (costs m ys u i n))
 unfolding penalties costs

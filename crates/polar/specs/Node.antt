@@ -17,6 +17,10 @@ rest m t = cond (ltb t (2 ^ m)) t (t - 2 ^ m)
 unfoldable pub restBits : ℕ → ℕ → List ℕ → List ℕ
 restBits m t u = cond (ltb t (2 ^ m)) u (drop (2 ^ m) u)
 
+-- the word of the first half of the bits u
+abbrev pub first : ℕ → List ℕ → List ℕ
+first m u = transform m (take (2 ^ m) u)
+
 -- the values of the half that holds t: Q of the halves, or P with the word c of the first half
 unfoldable pub child : ℕ → ℕ → List ℕ → List ℤ → List ℤ
 child m t c ys =
@@ -28,4 +32,4 @@ child m t c ys =
 unfoldable pub node : ℕ → ℕ → List ℤ → List ℕ → ℕ → List ℤ
 node zero m ys u t = ys
 node (suc d) zero ys u t = ys
-node (suc d) (suc m) ys u t = node d m (child m t (transform m (take (2 ^ m) u)) ys) (restBits m t u) (rest m t)
+node (suc d) (suc m) ys u t = node d m (child m t (first m u) ys) (restBits m t u) (rest m t)

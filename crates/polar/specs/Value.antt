@@ -6,7 +6,7 @@ use lib.ListN.{length, getD, take, drop}
 use lib.IntN.{ℤ, pos, _+ℤ_}
 use lib.Dec.{ltb}
 use Rattle.polar.specs.Transform.{transform}
-use Rattle.polar.specs.Soft.{Qs, Ps, penalty}
+use Rattle.polar.specs.Soft.{Qs, Ps, penalty, cost}
 
 -- The value of bit i over N = 2^m values, given the bits u before it. For N = 1, the value itself. Else a is the first half of the
 -- values, b the last. For i below N/2, go on in Q(a,b). Else v is the first N/2 bits times the A of that size: go on in P(v,a,b), with
@@ -26,6 +26,11 @@ value (suc m) ys u i =
 unfoldable pub penalties : ℕ → List ℤ → List ℕ → ℕ → ℕ → ℤ
 penalties m ys u i zero = pos 0
 penalties m ys u i (suc n) = penalties m ys u i n +ℤ penalty (getD u (i + n) 0) (value m ys u (i + n))
+
+-- the costs of n bits of u from bit i on: their penalties with the other sign
+unfoldable pub costs : ℕ → List ℤ → List ℕ → ℕ → ℕ → ℕ
+costs m ys u i zero = 0
+costs m ys u i (suc n) = costs m ys u i n + cost (getD u (i + n) 0) (value m ys u (i + n))
 
 -- R, a path's sum of penalties over its bits
 unfoldable pub R : ℕ → List ℤ → List ℕ → ℤ

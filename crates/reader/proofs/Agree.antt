@@ -6,14 +6,15 @@ use mathlib.Core.Option.{some}
 use Prim.Native.Nat.{ℕ, _+_, _*_, _^_, _<_}
 use lib.ListN.{length, replicate}
 use lib.IntN.{ℤ}
-use Rattle.laws.proofs.Pairs.{Paired}
+use Rattle.laws.specs.Pairs.{Paired}
 use Rattle.codebook.specs.Book.{Book}
 use Rattle.codebook.specs.Limits.{Valid}
 use Rattle.codebook.specs.Loading.{loaded, load}
 use Rattle.codebook.proofs.Loaded.{loaded-valid}
 use Rattle.machine.specs.Machine as M
 use Rattle.machine.specs.Calls.{finalOf}
-use Rattle.runs.proofs.Ends.{Ended, run-ends}
+use Rattle.runs.specs.Runs.{Ended}
+use Rattle.runs.proofs.Ends.{run-ends}
 use Rattle.reader.specs.Arrays.{Arrays}
 use Rattle.reader.specs.Paths.{firstPath}
 use Rattle.reader.specs.Reader as R

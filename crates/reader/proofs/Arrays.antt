@@ -12,12 +12,13 @@ use borrow.Author.Tests.{eqb-true, eqb-false}
 use Rattle.laws.specs.Lists.{All}
 use Rattle.laws.proofs.Tests.{cond-case}
 use Rattle.laws.proofs.Lists.{all-map, all-any, all-both, all-mapped, all-unmapped}
-use Rattle.polar.specs.Node.{rest, restBits, child}
-use Rattle.polar.proofs.Node.{first, child-word, rest-less, rest-pos}
+use Rattle.polar.specs.Node.{rest, restBits, first, child}
+use Rattle.polar.proofs.Node.{child-word, rest-less, rest-pos}
 use Rattle.reader.specs.Arrays.{Arrays, View, valsOf, sumsOf, upd, ownOf, writes, putVals, putSums, takeArray, claim, turn, descend}
+use Rattle.reader.specs.Reached.{Vals, Sums}
 use Rattle.reader.proofs.Upd.{upd-same, upd-other, upd-self, seen, seen-store, seen-ids, seen-frame}
 use Rattle.reader.proofs.Own.{own-new, own-some, own-keep}
-use Rattle.reader.proofs.Tree.{Vals, Prior, Sums, prior-zero, sums-zero, turn-high, turn-past}
+use Rattle.reader.proofs.Tree.{Prior, prior-zero, sums-zero, turn-high, turn-past}
 
 -- a path with these ids sees in A′ what it saw in A
 pub record Sees (A A′ : Arrays) (ids : ℕ → ℕ) : Type 0 where

@@ -5,21 +5,19 @@ use mathlib.Core.List.{List, [], _∷_}
 use mathlib.Core.Option.{Option, none, some}
 use Prim.Native.Nat.{ℕ, zero, suc, _+_, _-_, _*_, _^_, _≤_, _<_}
 use native.Mathlib.Omega.{arith}
-use lib.ListN.{length, getD, take, length-take}
+use lib.ListN.{length, take, length-take}
 use lib.IntN.{ℤ}
-use lib.Dec.{eqb}
 use Rattle.laws.specs.Lists.{All}
-use Rattle.laws.proofs.Tests.{cond-case}
-use Rattle.laws.proofs.Lists.{keep-length}
 use Rattle.codebook.specs.Book.{Book}
 use Rattle.codebook.specs.Limits.{Valid}
-use Rattle.machine.specs.Queue.{insert, ahead, roomFor, visit, Step}
-use Rattle.runs.proofs.Order.{insert-length}
-use Rattle.runs.proofs.Ends.{entries, run-steps, run-entries}
+use Rattle.machine.specs.Queue.{insert, roomFor, visit, Step}
+use Rattle.runs.specs.Runs.{entries}
+use Rattle.runs.proofs.Order.{insert-length, staying-length}
+use Rattle.runs.proofs.Ends.{run-steps, run-entries}
 use Rattle.reader.specs.Arrays.{Arrays}
 use Rattle.outer.specs.Words.{Word}
 use Rattle.reader.specs.Paths.{Path, keyOf}
-use Rattle.reader.specs.Reader.{copyWith, copy, move, staying, extract, runOf}
+use Rattle.reader.specs.Reader.{copyWith, copy, move, extract, runOf}
 use Rattle.reader.proofs.Agree.{valid-agree}
 use Rattle.reader.proofs.Moments.{Moment, momentsOf, extractAt, copyAt, Taken, run-all}
 
@@ -53,11 +51,6 @@ module _ (B : Book) (L D : ℕ) (two : 2 ≤ D) where
   copy-length A p ps n zero h = h
   copy-length A p ps n (suc b) h = copyWith-length A p b ps n _ h
 
-  staying-length : (b : ℕ) (visits : List ℕ) (ps : List Path) → length (staying B L b visits ps) ≤ length ps
-  unfolding staying ahead
-  staying-length b visits ps =
-      cond-case (λ (qs : List Path). length qs ≤ length ps) (eqb (getD visits b 0) L) (λ _. keep-length _ ps) (λ _. omega arith)
-
   pub alive : (t : Moment) → length (t .state .queue) < D → Alive B D t
   unfolding copyAt
   alive t h = record { before = h; copied = copy-length (t .state .arrays) (t .path) (t .state .queue) (t .state .next) (t .path .blocks) h }
@@ -67,7 +60,7 @@ module _ (B : Book) (L D : ℕ) (two : 2 ≤ D) where
   extract-length t a =
       let c : List Path = copy B D (t .state .arrays) (t .path) (t .state .queue) (t .state .next) (t .path .blocks) .queue in
       let p : Path = move B (copy B D (t .state .arrays) (t .path) (t .state .queue) (t .state .next) (t .path .blocks) .arrays) (t .path) c .path in
-      omega (arith, a .copied, insert-length (keyOf B) p c, staying-length (t .path .blocks) (visit (t .state .visits) (t .path .blocks)) (insert (keyOf B) p c))
+      omega (arith, a .copied, insert-length (keyOf B) p c, staying-length (keyOf B) L (t .path .blocks) (visit (t .state .visits) (t .path .blocks)) (insert (keyOf B) p c))
 
   taken-alive : (A : Arrays) (ps : List Path) (n : ℕ) (visits : List ℕ) → length ps ≤ D → Taken (Alive B D) A ps n visits
   unfolding Taken

@@ -24,19 +24,12 @@ use Rattle.polar.proofs.Ranges.{Qs-within, Ps-within}
 use Rattle.codebook.specs.Book.{Book, startOf, blockAt}
 use Rattle.codebook.specs.Limits.{Valid}
 use Rattle.outer.proofs.Blocks.{Placed, placed, start-less}
-use Rattle.reader.specs.Arrays.{View, valsOf, sumsOf, writes, putVals, turn, descend}
+use Rattle.reader.specs.Arrays.{View, valsOf, sumsOf, writes, putVals, turn, descend, byQ, byP}
 use Rattle.reader.specs.Paths.{place}
 use Rattle.reader.proofs.Upd.{upd-same, upd-other}
 use Rattle.reader.proofs.Tree.{rest-late, turn-high, turn-low, turn-past, turn-less, root-starts}
 use Rattle.reader.proofs.Arrays.{writes-some, vals-put}
 use Rattle.reader.proofs.Solo.{descend-top}
-
--- the values of height h from those of the height above, by Q and by P
-abbrev pub byQ : List (ℕ → ℕ) → ℕ → View → View
-byQ others h v = putVals others h (Qs (take (2 ^ h) (valsOf v (suc h))) (drop (2 ^ h) (valsOf v (suc h)))) v
-
-abbrev pub byP : List (ℕ → ℕ) → ℕ → View → View
-byP others h v = putVals others h (Ps (sumsOf v h) (take (2 ^ h) (valsOf v (suc h))) (drop (2 ^ h) (valsOf v (suc h)))) v
 
 -- ---- after a write
 

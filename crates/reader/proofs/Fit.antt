@@ -22,8 +22,8 @@ use Rattle.polar.proofs.Node.{rest-low, rest-high, rest-less, Starts, starts-fi
 use Rattle.polar.proofs.Ranges.{costs-le, within-more, node-within, node-range}
 use Rattle.codebook.specs.Book.{Book, startOf, blockAt}
 use Rattle.codebook.specs.Limits.{Valid}
-use Rattle.codec.specs.Ties.{Parities}
-use Rattle.codec.proofs.Ties.{paritiesOf, parities-bits}
+use Rattle.codec.specs.Ties.{Parities, paritiesOf}
+use Rattle.codec.proofs.Ties.{parities-bits}
 use Rattle.outer.specs.Blocks.{Bits}
 use Rattle.outer.specs.Words.{Word}
 use Rattle.outer.proofs.Blocks.{Placed, placed}
@@ -33,11 +33,11 @@ use Rattle.reader.specs.Arrays.{Arrays, View, valsOf, sumsOf, turn}
 use Rattle.reader.specs.Paths.{Path, place, idsOf, viewOf}
 use Rattle.reader.specs.Reader.{copyWith, copy}
 use Rattle.reader.specs.Fit.{FitFor}
-use Rattle.reader.proofs.Tree.{Vals, Sums, vals-node, turn-low, turn-high, turn-past, root-starts}
+use Rattle.reader.specs.Reached.{Vals, Sums, Inv, StandsFor, Rooted}
+use Rattle.reader.proofs.Tree.{vals-node, turn-low, turn-high, turn-past, root-starts}
 use Rattle.reader.proofs.Arrays.{Sees, sees-same, claim-kept}
-use Rattle.reader.proofs.Good.{Inv, StandsFor, Sized, sized}
+use Rattle.reader.proofs.Good.{Sized, sized}
 use Rattle.reader.proofs.Descent.{place-own}
-use Rattle.reader.proofs.Rooted.{Rooted}
 
 -- ---- the values of the nodes on the way
 

@@ -18,7 +18,8 @@ use Rattle.laws.proofs.Pairs.{MayPair}
 use Rattle.polar.specs.Bits.{Bit, number}
 use Rattle.polar.specs.Transform.{transform}
 use Rattle.polar.specs.Layers.{Within}
-use Rattle.polar.proofs.Value.{costs, costs-add, costs-same, Same}
+use Rattle.polar.specs.Value.{costs}
+use Rattle.polar.proofs.Value.{costs-add, costs-same, Same}
 use Rattle.polar.proofs.Ranges.{costs-le}
 use Rattle.codebook.specs.Book.{Book, freeCount, startOf, blockAt, kindsOf}
 use Rattle.codebook.specs.Limits.{Valid}
@@ -33,11 +34,12 @@ use Rattle.outer.proofs.Blocks.{placed}
 use Rattle.outer.proofs.Words.{Matches, filled-after}
 use Rattle.reader.specs.Arrays.{Arrays, valsOf}
 use Rattle.reader.specs.Paths.{Path, ownWord, idsOf, viewOf}
-use Rattle.reader.specs.Reader.{Cut, copy}
-use Rattle.reader.proofs.Good.{Good, Inv, Holds, nextView, holds-frame, Sized, sized}
+use Rattle.reader.specs.Reader.{Cut, copy, nextView}
+use Rattle.reader.specs.Reached.{Good, Inv, Holds, Reached}
+use Rattle.reader.proofs.Good.{holds-frame, Sized, sized}
 use Rattle.reader.proofs.Step.{next-matches, near-matches}
 use Rattle.reader.proofs.Fit.{copy-sees}
-use Rattle.reader.proofs.Reached.{Reached, Headed, reached-headed}
+use Rattle.reader.proofs.Reached.{Headed, reached-headed}
 
 -- ---- a word found is the word of its setting
 

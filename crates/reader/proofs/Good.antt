@@ -1,8 +1,8 @@
--- What is true of a queued path: its record, and what it sees of the arrays, by the bits u of the machine's path that it stands for. It stays
--- true while others write; with the last word in the sums it gives all that the next block needs; and a word found makes it true of that block.
+-- What is true of a queued path (specs/Reached): its record, and what it sees of the arrays, by the bits u of the machine's path that it stands
+-- for. It stays true while others write; with the last word in the sums it gives all that the next block needs; and a word found makes it true of that block.
 -- Assumes nothing.
 use mathlib.Core.Path.{_≡_, refl, sym, ap, ap₂, _∙_, subst}
-use mathlib.Core.List.{List, []}
+use mathlib.Core.List.{List}
 use Prim.Native.Nat.{ℕ, zero, suc, _+_, _-_, _^_, _≤_, _<_}
 use native.Mathlib.Nat.{zero-add}
 use native.Mathlib.Omega.{arith}
@@ -14,66 +14,25 @@ use Rattle.laws.specs.Lists.{All}
 use Rattle.laws.proofs.Lists.{all-any}
 use Rattle.polar.specs.Bits.{Bit, number}
 use Rattle.polar.specs.Transform.{transform}
-use Rattle.polar.proofs.Value.{costs, costs-add, costs-same, penalties-costs, R-costs, Same}
+use Rattle.polar.specs.Value.{costs}
+use Rattle.polar.proofs.Value.{costs-add, costs-same, penalties-costs, R-costs, Same}
 use Rattle.codebook.specs.Book.{Book, startOf, blockAt}
 use Rattle.codebook.specs.Limits.{Valid}
 use Rattle.codec.proofs.Fill.{After}
 use Rattle.machine.specs.Words.{Ranked, rank}
 use Rattle.machine.specs.Machine as M
-use Rattle.reader.specs.Arrays.{Arrays, View, valsOf, sumsOf, upd, writes, claim, turn, descend, joined}
-use Rattle.codec.specs.Ties.{fillBlock}
+use Rattle.reader.specs.Arrays.{Arrays, View, valsOf, sumsOf, upd, writes, turn, joined}
+use Rattle.codec.specs.Ties.{paritiesOf, fillBlock, filled}
 use Rattle.outer.specs.Words.{Word}
 use Rattle.reader.specs.Paths.{Path, scoreOf, lastWord, ownWord, place, viewOf}
 use Rattle.reader.specs.Reader.{commit}
+use Rattle.reader.specs.Reached.{Vals, Sums, Good, Inv, Holds, plain, StandsFor}
 use Rattle.reader.proofs.Upd.{upd-other, upd-agree}
-use Rattle.reader.proofs.Tree.{Vals, Prior, Sums, vals-same, sums-same, vals-prior, prior-zero, sums-zero, prior-turn, turn-low, turn-less, root-join}
-use Rattle.codec.proofs.Ties.{paritiesOf, filled, filled-take, filled-drop}
+use Rattle.reader.proofs.Tree.{Prior, vals-same, sums-same, vals-prior, prior-zero, sums-zero, prior-turn, turn-low, turn-less, root-join}
+use Rattle.codec.proofs.Ties.{filled-take, filled-drop}
 use Rattle.outer.proofs.Blocks.{Placed, placed, start-less}
 use Rattle.outer.proofs.Words.{Matches, filled-after}
 use Rattle.reader.proofs.Arrays.{Sees, sees-same, Kept, Alone, sums-kept, sums-put, vals-lost, sums-alone}
-
--- the path p, whose last block is b, has the bits u, and v is what it sees: the values of the way to its block, but where the block's word
--- will go; and the block's own
-pub record Good (B : Book) (ys : List ℤ) (v : View) (u : List ℕ) (p : Path) (b : ℕ) : Type 0 where
-  pub within : b < length (B .blocks)
-  pub size : length u ≡ startOf (B .blocks) b + 2 ^ (blockAt B b .j)
-  pub bits : All Bit u
-  pub spent : p .spent ≡ costs (B .m) ys u 0 (startOf (B .blocks) b)
-  pub cost : p .cost ≡ costs (B .m) ys u (startOf (B .blocks) b) (2 ^ (blockAt B b .j))
-  pub setting : u ≡ filled B (take (startOf (B .blocks) b) u) b (p .setting)
-  pub earlier : p .earlier ≡ paritiesOf B (take (startOf (B .blocks) b) u)
-  pub way : ℕ → List ℤ
-  pub root : way (B .m) ≡ ys
-  pub vals : Vals (B .m - blockAt B b .j) (B .m) ys u (startOf (B .blocks) b) way
-  pub same : (k : ℕ) → (k ≡ place B b → ⊥) → valsOf v k ≡ way k
-  pub own : valsOf v (blockAt B b .j) ≡ way (blockAt B b .j)
-  pub sums : Sums (suc (B .m)) u (startOf (B .blocks) b) (sumsOf v)
-
--- path 0, before its first block
-pub record Empty (B : Book) (ys : List ℤ) (v : View) (u : List ℕ) (p : Path) : Type 0 where
-  pub bits : u ≡ []
-  pub spent : p .spent ≡ 0
-  pub cost : p .cost ≡ 0
-  pub root : valsOf v (B .m) ≡ ys
-
--- p with so many blocks
-unfoldable pub Inv : Book → List ℤ → View → List ℕ → Path → ℕ → Type 0
-Inv B ys v u p zero = Empty B ys v u p
-Inv B ys v u p (suc b) = Good B ys v u p b
-
--- p, with what it keeps of the bits u and what it sees in the arrays
-pub record Holds (B : Book) (ys : List ℤ) (A : Arrays) (u : List ℕ) (p : Path) : Type 0 where
-  pub parities : p .parities ≡ paritiesOf B u
-  pub inv : Inv B ys (viewOf A p) u p (p .blocks)
-
--- the machine's path with the bits u that p stands for
-unfoldable pub plain : Book → Path → List ℕ → M.Path
-plain B p u = record { number = p .number; blocks = p .blocks; bits = u; score = scoreOf B p (p .blocks) }
-
--- p stands for the machine's path q
-pub record StandsFor (B : Book) (ys : List ℤ) (A : Arrays) (q : M.Path) (p : Path) : Type 0 where
-  pub same : q ≡ plain B p (q .bits)
-  pub holds : Holds B ys A (q .bits) p
 
 -- ---- the frame: a path that sees what it saw is as it was
 
@@ -182,15 +141,6 @@ plain-path B ys u p h = ap {A = ℤ} {B = M.Path} (λ z. record { number = p .nu
     score : (b : ℕ) → M.scoreOf B ys b u ≡ scoreOf B p b
     score zero = refl
     score (suc b) = ap (λ z. z -ℤ blockAt B b .bias) (R-costs (B .m) ys u ∙ ap (λ n. negℤ (pos n)) (sym (h .total)))
-
--- ---- the way to the next block
-
--- what the path sees once it has gone down to block b, and once it has an array for the block's word
-abbrev pub downTo : Book → List (ℕ → ℕ) → Arrays → Path → ℕ → View
-downTo B others A p b = descend others (B .m - blockAt B b .j) (B .m) (startOf (B .blocks) b) (commit B others p b (viewOf A p))
-
-abbrev pub nextView : Book → List (ℕ → ℕ) → Arrays → Path → ℕ → View
-nextView B others A p b = claim others (blockAt B b .j) (place B b) (downTo B others A p b)
 
 -- ---- the last word goes into the sums
 

@@ -7,19 +7,19 @@ use mathlib.Core.List.{List, [], _∷_, map}
 use mathlib.Core.Option.{Option, none, some}
 use Prim.Native.Nat.{ℕ, zero, suc, _+_, _-_, _≤_, _<_}
 use native.Mathlib.Omega.{arith}
-use lib.ListN.{length, getD, take, length-take, length-map}
+use lib.ListN.{length, take, length-take, length-map}
 use lib.Dec.{eqb, leb}
 use borrow.Author.Tests.{eqb-true, leb-true, leb-false}
 use Rattle.laws.specs.Lists.{All}
 use Rattle.laws.proofs.Tests.{cond-case}
-use Rattle.laws.proofs.Lists.{all-map, all-take, all-keep}
+use Rattle.laws.proofs.Lists.{all-take}
 use Rattle.codebook.specs.Book.{Book, blockAt}
-use Rattle.machine.specs.Queue.{insert, ahead, roomFor, visit}
-use Rattle.runs.proofs.Order.{all-insert}
+use Rattle.machine.specs.Queue.{roomFor}
+use Rattle.runs.proofs.Order.{all-insert, all-staying}
 use Rattle.reader.specs.Arrays.{Arrays, View, upd, among, writes, putVals, putSums, claim, descend}
 use Rattle.outer.specs.Words.{Word}
 use Rattle.reader.specs.Paths.{Path, keyOf, firstPath, place, idsOf, viewOf}
-use Rattle.reader.specs.Reader.{commit, copyWith, copy, moveWith, move, staying, extract}
+use Rattle.reader.specs.Reader.{commit, copyWith, copy, moveWith, move, extract}
 use Rattle.reader.proofs.Own.{own-most}
 use Rattle.reader.proofs.Arrays.{writes-new, writes-some, claim-ids, descend-keeps}
 use Rattle.reader.proofs.Moments.{Moment, momentsOf, extractAt, copyAt, movedAt, Taken, run-all}
@@ -161,13 +161,10 @@ module _ (B : Book) (L D : ℕ) (two : 2 ≤ D) where
       record { alive = a; taken = w; queue = h; copied = c; moved = move-housed (copyAt B D t .arrays) (t .path) (copyAt B D t .queue) (a .copied) w }
 
   pub extract-housed : (t : Moment) → AllHoused t → All (Housed D) (extractAt B L D t .state .queue)
-  unfolding extractAt extract copyAt movedAt staying ahead
+  unfolding extractAt extract copyAt movedAt
   extract-housed t h =
-      let q : All (Housed D) (insert (keyOf B) (movedAt B D t) (copyAt B D t .queue)) =
-      all-insert (keyOf B) (Housed D) (movedAt B D t) (copyAt B D t .queue) (h .moved) (h .copied) in
-      cond-case (All (Housed D)) (eqb (getD (visit (t .state .visits) (t .path .blocks)) (t .path .blocks) 0) L)
-      (λ _. all-map (λ p k. k .0) _ (all-keep (Housed D) _ _ q))
-      (λ _. q)
+      all-staying (keyOf B) L (t .path .blocks) _ _ (Housed D)
+      (all-insert (keyOf B) (Housed D) (movedAt B D t) (copyAt B D t .queue) (h .moved) (h .copied))
 
   taken-housed : (A : Arrays) (ps : List Path) (n : ℕ) (visits : List ℕ) → length ps ≤ D → All (Housed D) ps → Taken AllHoused A ps n visits
   unfolding Taken All

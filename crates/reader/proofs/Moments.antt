@@ -11,16 +11,16 @@ use lib.Dec.{eqb}
 use borrow.Author.Tests.{eqb-false, ne-eqb}
 use Rattle.laws.specs.Lists.{All}
 use Rattle.laws.proofs.Tests.{cond-case}
-use Rattle.laws.proofs.Pairs.{Paired}
+use Rattle.laws.specs.Pairs.{Paired}
 use Rattle.codebook.specs.Book.{Book}
 use Rattle.codebook.specs.Limits.{Valid}
 use Rattle.machine.specs.Queue.{insert, Step}
 use Rattle.machine.specs.Machine as M
-use Rattle.runs.proofs.States as MS
+use Rattle.runs.specs.Runs as MS
 use Rattle.reader.specs.Arrays.{Arrays}
 use Rattle.reader.specs.Paths.{Path, scoreOf, keyOf, firstPath}
 use Rattle.reader.specs.Reader.{Cut, copy, move, State, Extracted, extract, after, stopped, run, runOf}
-use Rattle.reader.proofs.Good.{StandsFor}
+use Rattle.reader.specs.Reached.{StandsFor}
 use Rattle.reader.proofs.Step.{StepIs, stands-blocks, extract-is}
 use Rattle.reader.proofs.Run.{first-stands}
 

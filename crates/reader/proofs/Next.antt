@@ -18,15 +18,15 @@ use Rattle.codec.specs.Ties.{Parities, push, fillFrom, fillBlock}
 use Rattle.outer.specs.Blocks.{Bits}
 use Rattle.outer.proofs.Blocks.{Placed, placed}
 use Rattle.outer.proofs.Parities.{absorb-bits}
-use Rattle.reader.specs.Arrays.{Arrays, View, valsOf, sumsOf, writes, putSums, descend, joined}
+use Rattle.reader.specs.Arrays.{Arrays, View, valsOf, sumsOf, writes, putSums, descend, joined, byP}
 use Rattle.reader.specs.Paths.{Path, lastWord, place, viewOf}
-use Rattle.reader.specs.Reader.{commit}
+use Rattle.reader.specs.Reader.{commit, downTo, nextView}
 use Rattle.reader.specs.Fit.{Fit, FitFor}
+use Rattle.reader.specs.Reached.{Rooted}
 use Rattle.reader.proofs.Upd.{upd-other}
 use Rattle.reader.proofs.Arrays.{vals-lost, claim-own}
-use Rattle.reader.proofs.Good.{downTo, nextView}
-use Rattle.reader.proofs.Descent.{byP, put-vals, put-has, turn-within, descend-within, descend-turn, Turned, turn-place, place-most}
-use Rattle.reader.proofs.Rooted.{Rooted, claim-has, commit-has, down-has}
+use Rattle.reader.proofs.Descent.{put-vals, put-has, turn-within, descend-within, descend-turn, Turned, turn-place, place-most}
+use Rattle.reader.proofs.Rooted.{claim-has, commit-has, down-has}
 
 -- ---- the bits of a block
 
@@ -126,21 +126,21 @@ module _ (B : Book) (others : List (ℕ → ℕ)) (p : Path) (v : View) where
   unfolding commit
   commit-word b w e = ap (λ x. putSums others (place B b) (joined (sumsOf v) (blockAt B b .j) (place B b - blockAt B b .j) x) v) e
 
-  -- the way to the first block, and to a later one
-  pub next-view-first : descend others (B .m - blockAt B 0 .j) (B .m) (startOf (B .blocks) 0) (commit B others p 0 v)
-      ≡ descend others (B .m - blockAt B 0 .j) (B .m) 0 v
+-- the way to the first block, and to a later one
+module _ (B : Book) (others : List (ℕ → ℕ)) (A : Arrays) (p : Path) where
+  pub down-first : downTo B others A p 0 ≡ descend others (B .m - blockAt B 0 .j) (B .m) 0 (viewOf A p)
   unfolding commit startOf
-  next-view-first = refl
+  down-first = refl
 
-  pub next-view-later : Valid B → (b : ℕ) → suc b < length (B .blocks) →
-      descend others (B .m - blockAt B (suc b) .j) (B .m) (startOf (B .blocks) (suc b)) (commit B others p (suc b) v)
-      ≡ descend others (place B b - blockAt B (suc b) .j) (place B b) 0 (byP others (place B b) (commit B others p (suc b) v))
-  next-view-later ok b l =
+  pub down-later : Valid B → (b : ℕ) → suc b < length (B .blocks) →
+      downTo B others A p (suc b)
+      ≡ descend others (place B b - blockAt B (suc b) .j) (place B b) 0 (byP others (place B b) (commit B others p (suc b) (viewOf A p)))
+  down-later ok b l =
       let t : Turned B b = turn-place B ok b l in
       let m : ℕ = B .m in
       let j : ℕ = blockAt B (suc b) .j in
       let s : ℕ = startOf (B .blocks) (suc b) in
-      let v₁ : View = commit B others p (suc b) v in
+      let v₁ : View = commit B others p (suc b) (viewOf A p) in
       subst (λ (a : ℕ). descend others (m - j) m s v₁ ≡ descend others (a - j) a 0 (byP others a v₁)) (t .at)
       (descend-turn others m s j v₁ (t .after) (t .inside) (omega (arith, t .next, t .at)))
 
@@ -155,7 +155,7 @@ module _ (B : Book) (ok : Valid B) (A : Arrays) (p : Path) (others : List (ℕ �
       let j : ℕ = blockAt B 0 .j in
       let v : View = viewOf A p in
       let e : m - (m - j) ≡ j = omega (arith, o .small) in
-      subst (λ (x : View). All (Within 1048064) (valsOf x j)) (sym (next-view-first B others p v))
+      subst (λ (x : View). All (Within 1048064) (valsOf x j)) (sym (down-first B others A p))
       (subst (λ (h : ℕ). All (Within 1048064) (valsOf (descend others (m - j) m 0 v) h)) e
       (descend-within others (m - j) m 1048064 v (omega arith) (f .root)))
   down-within (suc b) l f =
@@ -164,7 +164,7 @@ module _ (B : Book) (ok : Valid B) (A : Arrays) (p : Path) (others : List (ℕ �
       let j : ℕ = blockAt B (suc b) .j in
       let v : View = byP others a (commit B others p (suc b) (viewOf A p)) in
       let e : a - (a - j) ≡ j = omega (arith, t .next) in
-      subst (λ (x : View). All (Within 1048064) (valsOf x j)) (sym (next-view-later B others p (viewOf A p) ok b l))
+      subst (λ (x : View). All (Within 1048064) (valsOf x j)) (sym (down-later B others A p ok b l))
       (subst (λ (h : ℕ). All (Within 1048064) (valsOf (descend others (a - j) a 0 v) h)) e
       (descend-within others (a - j) a 1048064 v (omega arith) (down-ready B ok A p b f others l .1)))
 

@@ -5,7 +5,8 @@ use mathlib.Core.Bool.{Bool, true, false, cond}
 use mathlib.Core.List.{List, [], _∷_}
 use Prim.Native.Nat.{ℕ}
 use lib.Dec.{leb, ltb}
-use Rattle.laws.proofs.Pairs.{Paired, paired-keep, paired-map}
+use Rattle.laws.specs.Pairs.{Paired}
+use Rattle.laws.proofs.Pairs.{paired-keep, paired-map}
 use Rattle.machine.specs.Queue.{Key, before, insert, ahead, behind, numbers}
 
 module _ {A B : Type 0} (key : A → Key) (key′ : B → Key) (P : A → B → Type 0) (same : (x : A) (y : B) → P x y → key x ≡ key′ y) where

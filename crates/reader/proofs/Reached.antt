@@ -1,5 +1,4 @@
--- What holds of the reader's queue at every extraction, as one record: it stands for a queue of the machine, its paths have the arrays that they
--- will look at, they are at most D, and so are the ids that they hold. It holds of path 0 alone, and is kept by each extraction. Assumes nothing.
+-- What holds of the reader's queue at every extraction (specs/Reached) holds of path 0 alone, and is kept by each extraction. Assumes nothing.
 use mathlib.Core.Path.{_≡_}
 use mathlib.Core.List.{List, [], _∷_}
 use Prim.Native.Nat.{ℕ, _^_, _≤_, _<_}
@@ -7,7 +6,7 @@ use native.Mathlib.Omega.{arith}
 use lib.ListN.{length}
 use lib.IntN.{ℤ}
 use Rattle.laws.specs.Lists.{All}
-use Rattle.laws.proofs.Pairs.{Paired}
+use Rattle.laws.specs.Pairs.{Paired}
 use Rattle.polar.specs.Layers.{Within}
 use Rattle.codebook.specs.Book.{Book}
 use Rattle.codebook.specs.Limits.{Valid}
@@ -16,21 +15,15 @@ use Rattle.reader.specs.Arrays.{Arrays}
 use Rattle.reader.specs.Paths.{Path, firstPath, viewOf}
 use Rattle.reader.specs.Fit.{FitFor}
 use Rattle.reader.specs.Reader.{extract}
-use Rattle.reader.proofs.Good.{StandsFor, sized}
+use Rattle.reader.specs.Reached.{StandsFor, Reached}
+use Rattle.reader.proofs.Good.{sized}
 use Rattle.reader.proofs.Step.{StepIs, stands-blocks, extract-is}
 use Rattle.reader.proofs.Run.{first-stands}
 use Rattle.reader.proofs.Moments.{Moment, extractAt}
 use Rattle.reader.proofs.Bounds.{alive, extract-length}
 use Rattle.reader.proofs.Held.{housed, extract-housed, first-within}
-use Rattle.reader.proofs.Rooted.{Rooted, first-rooted, extract-rooted}
+use Rattle.reader.proofs.Rooted.{first-rooted, extract-rooted}
 use Rattle.reader.proofs.Fit.{fit-of}
-
-pub record Reached (B : Book) (ys : List ℤ) (D : ℕ) (A : Arrays) (ps : List Path) : Type 0 where
-  pub machine : List M.Path
-  pub stands : Paired (StandsFor B ys A) machine ps
-  pub rooted : All (Rooted B) ps
-  pub few : length ps ≤ D
-  pub housed : All (λ (p : Path). (h : ℕ) → p .ids h ≤ D) ps
 
 pub first-reached : (B : Book) (ys : List ℤ) (D : ℕ) (A : Arrays) → A .vals (B .m) 1 ≡ ys → 1 ≤ D → Reached B ys D A (firstPath B ∷ [])
 unfolding Paired All

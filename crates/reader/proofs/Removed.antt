@@ -18,15 +18,16 @@ use Rattle.laws.proofs.Removes.{In, Removes, removes-none, removes-cut, removes
 use Rattle.laws.proofs.Pairs.{paired-all}
 use Rattle.codebook.specs.Book.{Book}
 use Rattle.codebook.specs.Limits.{Valid}
-use Rattle.machine.specs.Queue.{Key, before, insert, ahead, behind, numbers, roomFor, crowdedOut, visit}
+use Rattle.machine.specs.Queue.{Key, before, insert, ahead, behind, staying, outrunBy, numbers, roomFor, crowdedOut, visit}
 use Rattle.machine.specs.Machine as M
+use Rattle.runs.specs.Runs.{Numbered}
 use Rattle.runs.proofs.Order.{all-insert}
-use Rattle.runs.proofs.Numbers.{Numbered, run-numbers}
+use Rattle.runs.proofs.Numbers.{run-numbers}
 use Rattle.reader.specs.Arrays.{Arrays, View}
 use Rattle.outer.specs.Words.{Word}
 use Rattle.reader.specs.Paths.{Path, keyOf}
-use Rattle.reader.specs.Reader.{Cut, copyWith, copy, moveWith, move, staying, outrunBy, extract}
-use Rattle.reader.proofs.Good.{StandsFor}
+use Rattle.reader.specs.Reader.{Cut, copyWith, copy, moveWith, move, extract}
+use Rattle.reader.specs.Reached.{StandsFor}
 use Rattle.reader.proofs.Queue.{numbers-paired}
 use Rattle.reader.proofs.Step.{stands-key}
 use Rattle.reader.proofs.Moments.{Moment, momentsOf, stepAt, step-more, extractAt, copyAt, movedAt, queuedAt, MomentIs, run-moments}
@@ -158,7 +159,7 @@ unfolding move
 move-number B A p ps = moveWith-number A p _ _
 
 outrun-removes : (B : Book) (L b : ℕ) (visits : List ℕ) (ps : List Path) → Distinct (numbers (keyOf B) ps) →
-    Removes (numbers (keyOf B) (outrunBy B L b visits ps)) (numbers (keyOf B) ps) (numbers (keyOf B) (staying B L b visits ps))
+    Removes (numbers (keyOf B) (outrunBy (keyOf B) L b visits ps)) (numbers (keyOf B) ps) (numbers (keyOf B) (staying (keyOf B) L b visits ps))
 unfolding outrunBy staying numbers ahead behind
 outrun-removes B L b visits ps d = go (eqb (getD visits b 0) L)
   where

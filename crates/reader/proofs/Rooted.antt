@@ -7,28 +7,25 @@ use mathlib.Core.Option.{Option, none, some}
 use Prim.Native.Nat.{ℕ, zero, suc, _-_, _^_, _≤_, _<_}
 use native.Mathlib.Nat.{suc-inj}
 use native.Mathlib.Omega.{arith}
-use lib.ListN.{length, getD, take}
+use lib.ListN.{length, take}
 use lib.Dec.{eqb}
 use Rattle.laws.specs.Lists.{All}
 use Rattle.laws.proofs.Tests.{cond-case, lt-or}
-use Rattle.laws.proofs.Lists.{all-map, all-take, all-keep}
+use Rattle.laws.proofs.Lists.{all-take}
 use Rattle.codebook.specs.Book.{Book, startOf, blockAt}
 use Rattle.codebook.specs.Limits.{Valid}
-use Rattle.machine.specs.Queue.{insert, ahead, roomFor, visit}
-use Rattle.runs.proofs.Order.{all-insert}
+use Rattle.machine.specs.Queue.{insert, roomFor, visit}
+use Rattle.runs.proofs.Order.{all-insert, all-staying}
 use Rattle.outer.specs.Words.{Word}
 use Rattle.outer.proofs.Blocks.{Placed, placed}
-use Rattle.reader.specs.Arrays.{Arrays, View, upd, writes, putSums, claim, turn, descend}
+use Rattle.reader.specs.Arrays.{Arrays, View, upd, writes, putSums, claim, turn, descend, byP}
 use Rattle.reader.specs.Paths.{Path, keyOf, firstPath, place, idsOf, viewOf}
-use Rattle.reader.specs.Reader.{Cut, commit, copyWith, copy, moveWith, move, staying, extract}
+use Rattle.reader.specs.Reader.{Cut, copyWith, copy, commit, downTo, nextView, moveWith, move, extract}
+use Rattle.reader.specs.Reached.{Rooted}
 use Rattle.reader.proofs.Upd.{upd-same}
 use Rattle.reader.proofs.Arrays.{writes-some, claim-ids}
 use Rattle.reader.proofs.Solo.{descend-top}
-use Rattle.reader.proofs.Descent.{byP, put-has, put-other, descend-has, descend-turn, Turned, turn-place}
-
-pub record Rooted (B : Book) (p : Path) : Type 0 where
-  pub root : 1 ≤ p .ids (B .m)
-  pub has : (b : ℕ) → p .blocks ≡ suc b → (h : ℕ) → blockAt B b .j ≤ h → h ≤ B .m → 1 ≤ p .ids h
+use Rattle.reader.proofs.Descent.{put-has, put-other, descend-has, descend-turn, Turned, turn-place}
 
 pub first-rooted : (B : Book) → Rooted B (firstPath B)
 unfolding firstPath
@@ -105,7 +102,7 @@ module _ (B : Book) where
   -- the view of the next block, before an array is taken for its word
   pub down-has : Valid B → (others : List (ℕ → ℕ)) (A : Arrays) (p : Path) (b : ℕ) → p .blocks ≡ b → b < length (B .blocks) → Rooted B p →
       (h : ℕ) → blockAt B b .j ≤ h → h ≤ B .m →
-      1 ≤ descend others (B .m - blockAt B b .j) (B .m) (startOf (B .blocks) b) (commit B others p b (viewOf A p)) .ids h
+      1 ≤ downTo B others A p b .ids h
   unfolding startOf
   down-has ok others A p zero e l r h x y = go (lt-or h (B .m))
     where
@@ -134,11 +131,6 @@ module _ (B : Book) where
   moveWith-rooted A p v (some y) r g h =
       record { root = g; has = λ b e k x. h k (subst (λ (i : ℕ). blockAt B i .j ≤ k) (sym (suc-inj e)) x) }
 
-  staying-rooted : (L b : ℕ) (visits : List ℕ) (ps : List Path) → All (Rooted B) ps → All (Rooted B) (staying B L b visits ps)
-  unfolding staying ahead
-  staying-rooted L b visits ps h =
-      cond-case (All (Rooted B)) (eqb (getD visits b 0) L) (λ _. all-map (λ r k. k .0) _ (all-keep (Rooted B) _ ps h)) (λ _. h)
-
   module _ (ok : Valid B) where
     pub move-rooted : (A : Arrays) (p : Path) (ps : List Path) → p .blocks < length (B .blocks) → Rooted B p → Rooted B (move B A p ps .path)
     unfolding move
@@ -146,11 +138,11 @@ module _ (B : Book) where
         let b : ℕ = p .blocks in
         let j : ℕ = blockAt B b .j in
         let others : List (ℕ → ℕ) = idsOf ps in
-        let v : View = descend others (B .m - j) (B .m) (startOf (B .blocks) b) (commit B others p b (viewOf A p)) in
+        let v : View = nextView B others A p b in
         let o : Placed B b = placed B ok b l in
-        let has : (h : ℕ) → j ≤ h → h ≤ B .m → 1 ≤ claim others j (place B b) v .ids h =
-        λ h x y. claim-has others (place B b) v h (down-has ok others A p b refl l r h x y) j in
-        moveWith-rooted A p (claim others j (place B b) v) _ r (has (B .m) (omega (arith, o .small)) (omega arith)) has
+        let has : (h : ℕ) → j ≤ h → h ≤ B .m → 1 ≤ v .ids h =
+        λ h x y. claim-has others (place B b) (downTo B others A p b) h (down-has ok others A p b refl l r h x y) j in
+        moveWith-rooted A p v _ r (has (B .m) (omega (arith, o .small)) (omega arith)) has
 
     pub extract-rooted : (L D : ℕ) (A : Arrays) (p : Path) (ps : List Path) (n : ℕ) (visits : List ℕ) → All (Rooted B) (p ∷ ps) →
         p .blocks < length (B .blocks) → All (Rooted B) (extract B L D A p ps n visits .state .queue)
@@ -162,4 +154,4 @@ module _ (B : Book) where
         let q : All (Rooted B) (insert (keyOf B) third (second .queue)) =
         all-insert (keyOf B) (Rooted B) third (second .queue) (move-rooted (second .arrays) p (second .queue) l (h .0))
         (copy-rooted D A p ps n b refl (h .0) (h .1)) in
-        staying-rooted L b (visit visits b) _ q
+        all-staying (keyOf B) L b (visit visits b) _ (Rooted B) q

@@ -10,11 +10,12 @@ use lib.IntN.{ℤ, pos, natAbs}
 use lib.Dec.{eqb}
 use borrow.Author.Tests.{eqb-true, eqb-false}
 use Rattle.laws.proofs.Integers.{neg-abs}
-use Rattle.laws.proofs.Pairs.{Paired}
+use Rattle.laws.specs.Pairs.{Paired}
 use Rattle.polar.specs.Transform.{transform}
 use Rattle.polar.specs.Value as Value
 use Rattle.polar.proofs.Transform.{transform-twice}
-use Rattle.polar.proofs.Value.{costs, R-costs}
+use Rattle.polar.specs.Value.{costs}
+use Rattle.polar.proofs.Value.{R-costs}
 use Rattle.codebook.specs.Book.{Book, startOf}
 use Rattle.codebook.specs.Limits.{Valid}
 use Rattle.codec.specs.Code.{freeBits, readData}
@@ -25,10 +26,11 @@ use Rattle.reader.specs.Arrays.{Arrays, View, sumsOf}
 use Rattle.reader.specs.Paths.{Path, firstPath, scoreOf, idsOf, viewOf}
 use Rattle.reader.specs.Reader as R
 use Rattle.reader.specs.Reader.{commit}
+use Rattle.reader.specs.Reached.{Sums, Inv, Holds, plain, StandsFor}
 use Rattle.reader.proofs.Upd.{upd-same}
-use Rattle.reader.proofs.Tree.{Sums, root-word}
+use Rattle.reader.proofs.Tree.{root-word}
 use Rattle.codec.proofs.Ties.{parities-none}
-use Rattle.reader.proofs.Good.{Inv, Holds, plain, StandsFor, Sized, sized, Ready, ready}
+use Rattle.reader.proofs.Good.{Sized, sized, Ready, ready}
 use Rattle.reader.proofs.Step.{StepIs, stands-blocks, extract-is}
 
 -- what comes of the machine's final path, if there is one

@@ -18,12 +18,12 @@ use Rattle.laws.proofs.Lists.{all-map, all-both, all-take, all-keep, all-mapped
 use Rattle.polar.specs.Node.{rest, child}
 use Rattle.polar.proofs.Node.{rest-less}
 use Rattle.codebook.specs.Book.{Book, blockAt}
-use Rattle.machine.specs.Queue.{before, insert, ahead, roomFor, visit}
+use Rattle.machine.specs.Queue.{before, insert, ahead, staying, roomFor, visit}
 use Rattle.runs.proofs.Order.{all-insert}
 use Rattle.reader.specs.Arrays.{Arrays, View, valsOf, sumsOf, upd, writes, putVals, putSums, claim, turn, descend}
 use Rattle.outer.specs.Words.{Word}
 use Rattle.reader.specs.Paths.{Path, keyOf, firstPath, place, idsOf, viewOf}
-use Rattle.reader.specs.Reader.{Cut, commit, copyWith, copy, moveWith, move, staying, extract}
+use Rattle.reader.specs.Reader.{Cut, commit, copyWith, copy, moveWith, move, extract}
 use Rattle.reader.proofs.Upd.{upd-other, upd-self}
 use Rattle.reader.proofs.Tree.{rest-late, turn-high, turn-past}
 use Rattle.reader.proofs.Arrays.{Alone, writes-new, writes-keep, writes-alone, claim-ids, descend-keeps}

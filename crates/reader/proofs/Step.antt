@@ -12,30 +12,32 @@ use lib.IntN.{ℤ}
 use lib.Dec.{eqb}
 use Rattle.laws.specs.Lists.{All}
 use Rattle.laws.proofs.Lists.{all-take, all-unmapped}
-use Rattle.laws.proofs.Pairs.{Paired, MayPair, paired-take, paired-drop, paired-with}
+use Rattle.laws.specs.Pairs.{Paired}
+use Rattle.laws.proofs.Pairs.{MayPair, paired-take, paired-drop, paired-with}
 use Rattle.polar.specs.Bits.{Bit}
 use Rattle.polar.specs.Node.{node}
-use Rattle.polar.proofs.Value.{costs, costs-same, Same}
+use Rattle.polar.specs.Value.{costs}
+use Rattle.polar.proofs.Value.{costs-same, Same}
 use Rattle.polar.proofs.Node.{node-same}
 use Rattle.codebook.specs.Book.{Book, startOf, blockAt}
 use Rattle.codebook.specs.Limits.{Valid}
-use Rattle.machine.specs.Queue.{Key, insert, ahead, behind, numbers, roomFor, crowdedOut, visit, Step}
+use Rattle.machine.specs.Queue.{Key, insert, ahead, behind, staying, outrunBy, numbers, roomFor, crowdedOut, visit, Step}
 use Rattle.machine.specs.Words as MW
 use Rattle.machine.specs.Words.{Ranked, rank}
 use Rattle.machine.specs.Machine as M
-use Rattle.reader.specs.Arrays.{Arrays, View, valsOf, sumsOf, writes, claim, descend}
-use Rattle.codec.specs.Ties.{Parities}
+use Rattle.reader.specs.Arrays.{Arrays, View, valsOf, sumsOf, writes, claim}
+use Rattle.codec.specs.Ties.{Parities, paritiesOf}
 use Rattle.outer.specs.Words as RW
 use Rattle.outer.specs.Words.{Word}
 use Rattle.reader.specs.Paths.{Path, keyOf, scoreOf, ownWord, place, idsOf, viewOf}
 use Rattle.reader.specs.Reader as R
-use Rattle.reader.specs.Reader.{Moved, commit}
-use Rattle.reader.proofs.Tree.{Vals, Sums, vals-node, vals-same, sums-same, sums-root, sums-unroot, root-turn}
-use Rattle.codec.proofs.Ties.{paritiesOf}
+use Rattle.reader.specs.Reader.{Moved, commit, downTo, nextView}
+use Rattle.reader.specs.Reached.{Vals, Sums, Good, Inv, Holds, plain, StandsFor}
+use Rattle.reader.proofs.Tree.{vals-node, vals-same, sums-same, sums-root, sums-unroot, root-turn}
 use Rattle.outer.proofs.Blocks.{Placed, placed, start-less}
 use Rattle.outer.proofs.Words.{Matches, nearer-matches, nearest-matches}
 use Rattle.reader.proofs.Arrays.{Sees, sees-same, Kept, kept-on, claim-kept, claim-vals, claim-own, claim-sums, descend-kept, descend-above, descend-good}
-use Rattle.reader.proofs.Good.{Good, Inv, Holds, plain, StandsFor, holds-frame, stands-frame, Sized, sized, plain-path, own-matches, commit-kept, downTo, nextView, Ready, ready, enter}
+use Rattle.reader.proofs.Good.{holds-frame, stands-frame, Sized, sized, plain-path, own-matches, commit-kept, Ready, ready, enter}
 use Rattle.reader.proofs.Queue.{insert-paired, ahead-paired, behind-paired, numbers-paired}
 
 module _ (B : Book) (ys : List ℤ) (A : Arrays) (q : M.Path) (p : Path) (h : StandsFor B ys A q p) where
@@ -239,8 +241,8 @@ module _ (B : Book) (ys : List ℤ) (ok : Valid B) (ly : length ys ≡ 2 ^ (B .m
           let o : Placed B b = placed B ok b l in
           let others : List (ℕ → ℕ) = idsOf ps in
           let v₁ : View = commit B others p b (viewOf A p) in
-          let v₂ : View = descend others d m t v₁ in
-          let v : View = claim others j (place B b) v₂ in
+          let v₂ : View = downTo B others A p b in
+          let v : View = nextView B others A p b in
           let lt : t < 2 ^ m = start-less B ok b l in
           let good = down-good A u p others h l in
           let lost : List ℕ = v₂ .arrays .sums (place B b) (writes others (place B b) v₂) in
@@ -257,16 +259,16 @@ module _ (B : Book) (ys : List ℤ) (ok : Valid B) (ly : length ys ≡ 2 ^ (B .m
   -- ---- step 4, and the whole extraction
 
   module _ (A : Arrays) (L b : ℕ) (visits : List ℕ) (qs : List M.Path) (ps : List Path) (hs : Paired (StandsFor B ys A) qs ps) where
-    staying-is : Paired (StandsFor B ys A) (M.staying L b visits qs) (R.staying B L b visits ps)
-    unfolding M.staying R.staying
+    staying-is : Paired (StandsFor B ys A) (staying M.keyOf L b visits qs) (staying (keyOf B) L b visits ps)
+    unfolding staying
     staying-is = go (eqb (getD visits b 0) L)
       where
         go : (t : Bool) → Paired (StandsFor B ys A) (cond t (ahead M.keyOf b qs) qs) (cond t (ahead (keyOf B) b ps) ps)
         go true = ahead-paired M.keyOf (keyOf B) (StandsFor B ys A) (stands-key B ys A) b qs ps hs
         go false = hs
 
-    outrun-is : numbers M.keyOf (M.outrunBy L b visits qs) ≡ numbers (keyOf B) (R.outrunBy B L b visits ps)
-    unfolding M.outrunBy R.outrunBy
+    outrun-is : numbers M.keyOf (outrunBy M.keyOf L b visits qs) ≡ numbers (keyOf B) (outrunBy (keyOf B) L b visits ps)
+    unfolding outrunBy
     outrun-is = numbers-paired M.keyOf (keyOf B) (StandsFor B ys A) (stands-key B ys A) _ _ (go (eqb (getD visits b 0) L))
       where
         go : (t : Bool) → Paired (StandsFor B ys A) (cond t (behind M.keyOf b qs) []) (cond t (behind (keyOf B) b ps) [])

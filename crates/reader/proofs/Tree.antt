@@ -18,32 +18,20 @@ use borrow.Author.Tests.{eq-eqb, ne-eqb, le-leb, lt-leb}
 use Rattle.laws.proofs.Tests.{lt-or}
 use Rattle.polar.specs.Bits.{addBits}
 use Rattle.polar.specs.Transform.{transform}
-use Rattle.polar.specs.Node.{rest, restBits, child, node}
+use Rattle.polar.specs.Node.{rest, restBits, first, child, node}
 use Rattle.polar.proofs.Transform.{transform-suc}
 use Rattle.polar.proofs.Value.{Same, same-less}
-use Rattle.polar.proofs.Node.{first, rest-low, rest-high, rest-zero, rest-less, restBits-low, restBits-high, child-low, child-high, Starts, starts-fits, same-child, same-rest}
+use Rattle.polar.proofs.Node.{rest-low, rest-high, rest-zero, rest-less, restBits-low, restBits-high, child-low, child-high, Starts, starts-fits, same-child, same-rest}
 use Rattle.reader.specs.Arrays.{upd, turn, joined}
+use Rattle.reader.specs.Reached.{Vals, Sums}
 use Rattle.reader.proofs.Upd.{upd-same, upd-other}
 
--- ---- what the arrays hold
-
--- S holds the values of the d nodes on the way to t
-unfoldable pub Vals : ℕ → ℕ → List ℤ → List ℕ → ℕ → (ℕ → List ℤ) → Type 0
-Vals zero m ys u t S = Unit {0}
-Vals (suc d) zero ys u t S = Unit {0}
-Vals (suc d) (suc m) ys u t S = (S m ≡ child m t (first m u) ys) × Vals d m (child m t (first m u) ys) (restBits m t u) (rest m t) S
-
--- of those among them that start before t
+-- S holds the values of those of the d nodes on the way to t that start before t
 unfoldable pub Prior : ℕ → ℕ → List ℤ → List ℕ → ℕ → (ℕ → List ℤ) → Type 0
 Prior zero m ys u t S = Unit {0}
 Prior (suc d) zero ys u t S = Unit {0}
 Prior (suc d) (suc m) ys u t S =
     ((rest m t ≡ 0 → ⊥) → S m ≡ child m t (first m u) ys) × Prior d m (child m t (first m u) ys) (restBits m t u) (rest m t) S
-
--- C holds the words of the first halves that lie before t
-unfoldable pub Sums : ℕ → List ℕ → ℕ → (ℕ → List ℕ) → Type 0
-Sums zero u t C = Unit {0}
-Sums (suc m) u t C = (2 ^ m ≤ t → C m ≡ first m u) × Sums m (restBits m t u) (rest m t) C
 
 -- the values of the last of the nodes
 pub vals-node : (d j m : ℕ) (ys : List ℤ) (u : List ℕ) (t : ℕ) (S : ℕ → List ℤ) → m ≡ d + j → S m ≡ ys → Vals d m ys u t S → S j ≡ node d m ys u t

@@ -3,10 +3,11 @@
 use mathlib.Core.Bool.{Bool, false, cond, _&&_, _||_}
 use mathlib.Core.List.{List, [], _∷_, _++_, map}
 use Prim.Native.Nat.{ℕ, zero, suc, _+_, _^_}
-use lib.ListN.{length}
+use lib.ListN.{length, take, drop}
 use lib.IntN.{ℤ}
 use lib.Dec.{leb, eqb}
 use Rattle.polar.specs.Bits.{addBits}
+use Rattle.polar.specs.Soft.{Qs, Ps}
 use Rattle.polar.specs.Node.{rest, child}
 
 module _ {A : Type 0} where
@@ -95,6 +96,13 @@ descend others (suc d) zero t v = v
 descend others (suc d) (suc m) t v =
     let t′ = rest m t in
     descend others d m t′ (cond (eqb t′ 0) (putVals others m (child m t (sumsOf v m) (valsOf v (suc m))) v) v)
+
+-- one height of that way, height h from the one above: by Q where a first half starts, by P with the word in the sums of height h where a last one does
+abbrev pub byQ : List (ℕ → ℕ) → ℕ → View → View
+byQ others h v = putVals others h (Qs (take (2 ^ h) (valsOf v (suc h))) (drop (2 ^ h) (valsOf v (suc h)))) v
+
+abbrev pub byP : List (ℕ → ℕ) → ℕ → View → View
+byP others h v = putVals others h (Ps (sumsOf v h) (take (2 ^ h) (valsOf v (suc h))) (drop (2 ^ h) (valsOf v (suc h)))) v
 
 -- a word of height j, joined with the sums of the k heights from j on
 unfoldable pub joined : (ℕ → List ℕ) → ℕ → ℕ → List ℕ → List ℕ

@@ -2,3 +2,4 @@ pub mod Arrays
 pub mod Paths
 pub mod Reader
 pub mod Fit
+pub mod Reached

@@ -3,11 +3,11 @@ use mathlib.Core.Bool.{cond}
 use mathlib.Core.List.{List, [], _∷_}
 use mathlib.Core.Option.{Option, none, some}
 use Prim.Native.Nat.{ℕ, zero, suc, _+_, _-_, _*_}
-use lib.ListN.{length, getD, replicate}
+use lib.ListN.{length, replicate}
 use lib.Dec.{eqb}
 use Rattle.codebook.specs.Book.{Book, startOf, blockAt}
 use Rattle.codec.specs.Code.{readData}
-use Rattle.machine.specs.Queue.{insert, ahead, behind, numbers, roomFor, crowdedOut, visit, Step, Final}
+use Rattle.machine.specs.Queue.{insert, staying, outrunBy, numbers, roomFor, crowdedOut, visit, Step, Final}
 use Rattle.reader.specs.Arrays.{Arrays, View, valsOf, sumsOf, putSums, claim, descend, joined}
 use Rattle.outer.specs.Words.{Word, nearest, nextAfter}
 use Rattle.reader.specs.Paths.{Path, scoreOf, keyOf, firstPath, lastWord, ownWord, place, idsOf, viewOf}
@@ -61,6 +61,14 @@ commit B others p (suc b) v =
     let h = place B b in
     putSums others h (joined (sumsOf v) j (h - j) (lastWord B p b)) v
 
+-- what the path sees, among other paths with these ids, once its last word is in the sums and the values of its next block b are there; and once
+-- an array for that block's word is taken
+abbrev pub downTo : Book → List (ℕ → ℕ) → Arrays → Path → ℕ → View
+downTo B others A p b = descend others (B .m - blockAt B b .j) (B .m) (startOf (B .blocks) b) (commit B others p b (viewOf A p))
+
+abbrev pub nextView : Book → List (ℕ → ℕ) → Arrays → Path → ℕ → View
+nextView B others A p b = claim others (blockAt B b .j) (place B b) (downTo B others A p b)
+
 -- the path with its next block, and the arrays then
 pub record Moved : Type 0 where
   pub arrays : Arrays
@@ -89,19 +97,8 @@ moveWith A p v (some x) =
 unfoldable pub move : Book → Arrays → Path → List Path → Moved
 move B A p qs =
     let b = p .blocks in
-    let j = blockAt B b .j in
-    let others = idsOf qs in
-    let v = claim others j (place B b) (descend others (B .m - j) (B .m) (startOf (B .blocks) b) (commit B others p b (viewOf A p))) in
-    moveWith A p v (nearest B (valsOf v j) (p .parities) b)
-
--- ---- step 4
-
--- after the L-th visit to block b, the queued paths that stay, and those outrun
-unfoldable pub staying : Book → ℕ → ℕ → List ℕ → List Path → List Path
-staying B L b visits qs = cond (eqb (getD visits b 0) L) (ahead (keyOf B) b qs) qs
-
-unfoldable pub outrunBy : Book → ℕ → ℕ → List ℕ → List Path → List Path
-outrunBy B L b visits qs = cond (eqb (getD visits b 0) L) (behind (keyOf B) b qs) []
+    let v = nextView B (idsOf qs) A p b in
+    moveWith A p v (nearest B (valsOf v (blockAt B b .j)) (p .parities) b)
 
 -- ---- one extraction, and the run
 
@@ -126,14 +123,14 @@ extract B L D A p qs n visits =
     let queued = insert (keyOf B) (third .path) (second .queue) in
     let visited = visit visits b in
     record {
-      state = record { arrays = third .arrays; queue = staying B L b visited queued; next = second .next; visits = visited };
+      state = record { arrays = third .arrays; queue = staying (keyOf B) L b visited queued; next = second .next; visits = visited };
       step =
           record {
             path = p .number;
             blocks = b;
             score = scoreOf B p b;
             crowded = second .crowded;
-            outrun = numbers (keyOf B) (outrunBy B L b visited queued);
+            outrun = numbers (keyOf B) (outrunBy (keyOf B) L b visited queued);
           };
     }
 

@@ -10,14 +10,12 @@ use native.Mathlib.Omega.{arith}
 use lib.ListN.{length, getD, drop, length-map, length-drop, List·getD-eq-default, length-set}
 use lib.Seq.{getD-set-same, getD-set-other}
 use lib.Pow.{pow-pos}
-use lib.Dec.{eqb}
-use Rattle.laws.proofs.Lists.{keep-length}
-use Rattle.laws.proofs.Tests.{cond-case, lt-or}
+use Rattle.laws.proofs.Tests.{lt-or}
 use Rattle.codebook.specs.Book.{Book}
 use Rattle.codebook.specs.Limits.{Valid}
 use Rattle.codebook.proofs.Blocks.{start-some}
-use Rattle.machine.specs.Queue.{insert, behind, numbers, crowdedOut, visit}
-use Rattle.runs.proofs.Order.{insert-length}
+use Rattle.machine.specs.Queue.{insert, outrunBy, numbers, crowdedOut, visit}
+use Rattle.runs.proofs.Order.{insert-length, outrun-length}
 use Rattle.outer.specs.Words.{Word}
 use Rattle.reader.specs.Arrays.{Arrays}
 use Rattle.reader.specs.Paths.{Path, keyOf}
@@ -74,10 +72,6 @@ module _ (B : Book) (L D : ℕ) (two : 2 ≤ D) (A : Arrays) (p : Path) (ps : Li
   unfolding R.extract
   crowded-most = copy-crowded (p .blocks)
 
-  outrunBy-most : (b : ℕ) (w : List ℕ) (qs : List Path) → length (R.outrunBy B L b w qs) ≤ length qs
-  unfolding R.outrunBy behind
-  outrunBy-most b w qs = cond-case (λ (xs : List Path). length xs ≤ length qs) (eqb (getD w b 0) L) (λ _. keep-length _ qs) (λ _. omega arith)
-
   pub outrun-most : length (R.extract B L D A p ps n visits .step .outrun) ≤ D
   unfolding R.extract numbers copyAt
   outrun-most =
@@ -89,8 +83,8 @@ module _ (B : Book) (L D : ℕ) (two : 2 ≤ D) (A : Arrays) (p : Path) (ps : Li
       let l : length (c .queue) < D = alive B L D two t few .copied in
       omega (
         arith,
-        length-map (R.outrunBy B L b (visit visits b) qs) (λ (x : Path). keyOf B x .number),
-        outrunBy-most b (visit visits b) qs,
+        length-map (outrunBy (keyOf B) L b (visit visits b) qs) (λ (x : Path). keyOf B x .number),
+        outrun-length (keyOf B) L b (visit visits b) qs,
         insert-length (keyOf B) q (c .queue),
         l,
       )

@@ -14,7 +14,7 @@ use lib.Seq.{getD-set-other}
 use borrow.Author.Tests.{eq-eqb, ne-eqb, lt-ltb}
 use Rattle.laws.specs.Lists.{All, Distinct}
 use Rattle.laws.proofs.Lists.{all-map}
-use Rattle.laws.proofs.Pairs.{Paired}
+use Rattle.laws.specs.Pairs.{Paired}
 use Rattle.laws.proofs.Sets.{set-none}
 use Rattle.polar.specs.Layers.{part}
 use Rattle.codebook.specs.Book.{Book, tiedCount}

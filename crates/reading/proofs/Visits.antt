@@ -13,16 +13,14 @@ use lib.Seq.{getD-set-same, getD-set-other}
 use lib.Dec.{eqb}
 use borrow.Author.Tests.{eqb-false}
 use Rattle.laws.specs.Lists.{All}
-use Rattle.laws.proofs.Lists.{all-map, all-take, all-keep}
-use Rattle.laws.proofs.Tests.{cond-case}
+use Rattle.laws.proofs.Lists.{all-take}
 use Rattle.codebook.specs.Book.{Book}
-use Rattle.machine.specs.Queue.{insert, ahead, behind, numbers, roomFor, visit, Step}
-use Rattle.runs.proofs.Order.{all-insert}
+use Rattle.machine.specs.Queue.{insert, ahead, behind, staying, outrunBy, numbers, roomFor, visit, Step}
+use Rattle.runs.proofs.Order.{all-insert, all-staying}
 use Rattle.outer.specs.Words.{Word}
 use Rattle.reader.specs.Arrays.{Arrays, View}
 use Rattle.reader.specs.Paths.{Path, scoreOf, keyOf, firstPath}
 use Rattle.reader.specs.Reader as R
-use Rattle.reader.specs.Reader.{staying, outrunBy}
 use Rattle.start.proofs.Begun.{zeros}
 
 -- ---- visits that agree below n
@@ -89,25 +87,20 @@ module _ (B : Book) (n : ℕ) where
   unfolding R.move
   move-most A p qs l = moveWith-most A p _ _ l
 
-  staying-most : (L b : ℕ) (visits : List ℕ) (qs : List Path) → All (UpTo n) qs → All (UpTo n) (staying B L b visits qs)
-  unfolding staying ahead
-  staying-most L b visits qs h =
-      cond-case (All (UpTo n)) (eqb (getD visits b 0) L) (λ _. all-map (λ q k. k .0) _ (all-keep (UpTo n) _ qs h)) (λ _. h)
-
   pub extract-most : (L D : ℕ) (A : Arrays) (p : Path) (qs : List Path) (k : ℕ) (visits : List ℕ) → p .blocks < n → All (UpTo n) qs →
       All (UpTo n) (R.extract B L D A p qs k visits .state .queue)
   unfolding R.extract
   extract-most L D A p qs k visits l h =
-      staying-most L (p .blocks) _ _ (all-insert (keyOf B) (UpTo n) _ _ (move-most _ p _ l) (copy-most D A p qs k (p .blocks) (omega arith) h))
+      all-staying (keyOf B) L (p .blocks) _ _ (UpTo n) (all-insert (keyOf B) (UpTo n) _ _ (move-most _ p _ l) (copy-most D A p qs k (p .blocks) (omega arith) h))
 
 -- ---- one extraction
 
 module _ (B : Book) (L b : ℕ) (visits visits′ : List ℕ) (qs : List Path) (e : getD visits b 0 ≡ getD visits′ b 0) where
-  staying-same : staying B L b visits qs ≡ staying B L b visits′ qs
+  staying-same : staying (keyOf B) L b visits qs ≡ staying (keyOf B) L b visits′ qs
   unfolding staying
   staying-same = ap (λ v. cond (eqb v L) (ahead (keyOf B) b qs) qs) e
 
-  outrun-same : outrunBy B L b visits qs ≡ outrunBy B L b visits′ qs
+  outrun-same : outrunBy (keyOf B) L b visits qs ≡ outrunBy (keyOf B) L b visits′ qs
   unfolding outrunBy
   outrun-same = ap (λ v. cond (eqb v L) (behind (keyOf B) b qs) []) e
 

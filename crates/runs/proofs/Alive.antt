@@ -4,17 +4,15 @@ use mathlib.Core.List.{List, _∷_}
 use mathlib.Core.Option.{Option, none, some}
 use Prim.Native.Nat.{ℕ, _-_, _≤_, _<_}
 use native.Mathlib.Omega.{arith}
-use lib.ListN.{length, getD, take, length-take}
+use lib.ListN.{length, take, length-take}
 use lib.IntN.{ℤ}
-use lib.Dec.{eqb}
 use Rattle.laws.specs.Lists.{All}
-use Rattle.laws.proofs.Tests.{cond-case}
-use Rattle.laws.proofs.Lists.{keep-length}
 use Rattle.codebook.specs.Book.{Book}
-use Rattle.machine.specs.Queue.{insert, ahead, roomFor, visit}
-use Rattle.machine.specs.Machine.{Path, State, keyOf, copyOf, cut, advance, staying, extract}
-use Rattle.runs.proofs.Order.{Ordered, insert-length, insert-ordered, take-ordered, keep-ordered}
-use Rattle.runs.proofs.States.{stateOf, firstState, statesOf, run-states}
+use Rattle.machine.specs.Queue.{insert, roomFor, visit}
+use Rattle.machine.specs.Machine.{Path, keyOf, copyOf, cut, advance, extract}
+use Rattle.runs.specs.Runs.{stateOf, firstState, statesOf, Ordered, Alive}
+use Rattle.runs.proofs.Order.{insert-length, insert-ordered, take-ordered, staying-ordered, staying-length}
+use Rattle.runs.proofs.States.{run-states}
 
 -- ---- one extraction, step by step
 
@@ -29,20 +27,7 @@ unfolding cut roomFor
 cut-length D qs n none d h = h
 cut-length D qs n (some c) d h = omega (arith, insert-length keyOf c (take (D - 2) qs), length-take (D - 2) qs)
 
-staying-ordered : (L b : ℕ) (visits : List ℕ) (qs : List Path) → Ordered keyOf qs → Ordered keyOf (staying L b visits qs)
-unfolding staying ahead
-staying-ordered L b visits qs h = cond-case (Ordered keyOf) (eqb (getD visits b 0) L) (λ _. keep-ordered keyOf _ qs h) (λ _. h)
-
-staying-length : (L b : ℕ) (visits : List ℕ) (qs : List Path) → length (staying L b visits qs) ≤ length qs
-unfolding staying ahead
-staying-length L b visits qs = cond-case (λ (xs : List Path). length xs ≤ length qs) (eqb (getD visits b 0) L) (λ _. keep-length _ qs) (λ _. omega arith)
-
 -- ---- the run
-
--- the queue is in order and holds at most D paths
-pub record Alive (D : ℕ) (s : State) : Type 0 where
-  pub ordered : Ordered keyOf (s .queue)
-  pub room : length (s .queue) ≤ D
 
 extract-alive : (B : Book) (L D : ℕ) (ys : List ℤ) (p : Path) (qs : List Path) (n : ℕ) (visits : List ℕ) → 2 ≤ D → Alive D (stateOf (p ∷ qs) n visits) → Alive D (extract B L D ys p qs n visits .state)
 unfolding extract Ordered
@@ -53,8 +38,8 @@ extract-alive B L D ys p qs n visits d a =
     let q = insert keyOf (advance B ys p) c in
     let room : length (p ∷ qs) ≤ D = a .room in
     record {
-      ordered = staying-ordered L (p .blocks) w q (insert-ordered keyOf (advance B ys p) c (cut-ordered D qs n o (a .ordered .1)));
-      room = omega (arith, cut-length D qs n o d (omega arith), insert-length keyOf (advance B ys p) c, staying-length L (p .blocks) w q);
+      ordered = staying-ordered keyOf L (p .blocks) w q (insert-ordered keyOf (advance B ys p) c (cut-ordered D qs n o (a .ordered .1)));
+      room = omega (arith, cut-length D qs n o d (omega arith), insert-length keyOf (advance B ys p) c, staying-length keyOf L (p .blocks) w q);
     }
 
 first-alive : (B : Book) (D : ℕ) → 2 ≤ D → Alive D (firstState B)

@@ -17,8 +17,9 @@ use Rattle.laws.specs.Lists.{All, May, Filled, keep, sum}
 use Rattle.laws.proofs.Tests.{cond-case, neqb→ne}
 use Rattle.laws.proofs.Lists.{all-map, all-set, all-at, all-keep, all-replicate, sum-bump, sum-le}
 use Rattle.codebook.specs.Book.{Book}
-use Rattle.machine.specs.Queue.{before, insert, ahead, visit, Step}
-use Rattle.machine.specs.Machine.{Path, keyOf, Run, emptyPath, copyOf, advance, staying, extract, run, runOf, after, stopped}
+use Rattle.machine.specs.Queue.{before, insert, ahead, staying, visit, Step}
+use Rattle.machine.specs.Machine.{Path, keyOf, Run, emptyPath, copyOf, advance, extract, run, runOf, after, stopped}
+use Rattle.runs.specs.Runs.{Ended, entries}
 use Rattle.runs.proofs.Order.{all-insert}
 use Rattle.runs.proofs.Steps.{copy-blocks, advance-blocks, all-cut}
 
@@ -67,7 +68,7 @@ ahead-open b N L visits p g =
 lt-ne : (x y : ℕ) → x ≤ y → T (not (eqb x y)) → x < y
 lt-ne x y h t = let ne = neqb→ne x y t in omega arith
 
-staying-open : (b N L : ℕ) (visits : List ℕ) (qs : List Path) → getD visits b 0 ≤ L → All (OpenBut b N L visits) qs → All (Open N L visits) (staying L b visits qs)
+staying-open : (b N L : ℕ) (visits : List ℕ) (qs : List Path) → getD visits b 0 ≤ L → All (OpenBut b N L visits) qs → All (Open N L visits) (staying keyOf L b visits qs)
 unfolding staying ahead keyOf
 staying-open b N L visits qs h g =
     cond-case (All (Open N L visits)) (eqb (getD visits b 0) L)
@@ -89,7 +90,7 @@ unfolding insert Filled
 insert-filled p [] = tt
 insert-filled p (q ∷ qs) = cond-case Filled (before (keyOf p) (keyOf q)) (λ _. tt) (λ _. tt)
 
-staying-filled : (L b : ℕ) (visits : List ℕ) (p : Path) (qs : List Path) → b < p .blocks → Filled (staying L b visits (insert keyOf p qs))
+staying-filled : (L b : ℕ) (visits : List ℕ) (p : Path) (qs : List Path) → b < p .blocks → Filled (staying keyOf L b visits (insert keyOf p qs))
 unfolding staying ahead keyOf
 staying-filled L b visits p qs h =
     cond-case Filled (eqb (getD visits b 0) L) (λ _. keep-filled _ p qs (lt→ltb b (p .blocks) h)) (λ _. insert-filled p qs)
@@ -130,14 +131,6 @@ module _ (B : Book) (L D : ℕ) (ys : List ℤ) (p : Path) (qs : List Path) (n :
   extract-filled = staying-filled L (p .blocks) _ (advance B ys p) _ (omega (arith, advance-blocks B ys p))
 
 -- ---- the run
-
--- the run stopped with a path of all N blocks
-unfoldable pub Ended : ℕ → Run → Type 0
-Ended N r = (p : Path) × (r .final ≡ some p) × (p .blocks ≡ N)
-
--- the extractions that entered block b
-unfoldable pub entries : ℕ → List Step → ℕ
-entries b steps = length (keep (λ (s : Step). eqb (s .blocks) b) steps)
 
 -- what a state needs for the rest of the run
 abbrev pub Going : Book → ℕ → List Path → List ℕ → Type 0

@@ -26,13 +26,13 @@ use Rattle.codebook.proofs.Indices.{kinds-take, kinds-drop}
 use Rattle.codebook.proofs.Blocks.{start-next}
 use Rattle.codec.specs.Code.{fill, freeBits, obeysAll, inCode, readData}
 use Rattle.codec.proofs.Fill.{After, fill-after, fill-obeys, obeys-append, obeys-front}
-use Rattle.machine.specs.Queue.{Final}
 use Rattle.machine.specs.Words.{Ranked, nearer, rank, setting, nearestWith, nearest, nextAfter}
 use Rattle.machine.specs.Machine.{Path, State, path, emptyPath, copyWith, copyOf, advanceWith, advance, extract, runOf}
 use Rattle.machine.specs.Calls.{finalOf}
+use Rattle.runs.specs.Runs.{stateOf, firstState, Ended, Exact}
 use Rattle.runs.proofs.Steps.{first-may, all-extract}
-use Rattle.runs.proofs.States.{stateOf, firstState, run-final}
-use Rattle.runs.proofs.Ends.{Ended, run-ends}
+use Rattle.runs.proofs.States.{run-final}
+use Rattle.runs.proofs.Ends.{run-ends}
 
 -- ---- bits that fill the first s indices and obey their kinds
 
@@ -149,15 +149,7 @@ module _ (B : Book) (ok : Valid B) where
 
   -- ---- the word
 
-  -- what the run found: a word of the code, its data, and its discrepancy from the values
-  pub record Exact (ys : List ℤ) (f : Final) : Type 0 where
-    pub size : length (f .word) ≡ 2 ^ (B .m)
-    pub bits : All Bit (f .word)
-    pub member : T (inCode B (f .word))
-    pub databits : f .bits ≡ readData B (f .word)
-    pub discrepancy : f .discrepancy ≡ discrepancy (f .word) ys
-
-  filling-exact : (ys : List ℤ) (p : Path) → length ys ≡ 2 ^ (B .m) → Filling B (2 ^ (B .m)) (p .bits) → Exact ys (finalOf B ys (some p))
+  filling-exact : (ys : List ℤ) (p : Path) → length ys ≡ 2 ^ (B .m) → Filling B (2 ^ (B .m)) (p .bits) → Exact B ys (finalOf B ys (some p))
   unfolding finalOf inCode readData
   filling-exact ys p e f =
       let u : List ℕ = p .bits in
@@ -171,9 +163,9 @@ module _ (B : Book) (ok : Valid B) where
         discrepancy = R-discrepancy (B .m) ys u e (f .size) (f .bits);
       }
 
-  pub run-exact : (L D : ℕ) (ys : List ℤ) → 0 < L → length ys ≡ 2 ^ (B .m) → Exact ys (finalOf B ys (runOf B L D ys .final))
+  pub run-exact : (L D : ℕ) (ys : List ℤ) → 0 < L → length ys ≡ 2 ^ (B .m) → Exact B ys (finalOf B ys (runOf B L D ys .final))
   unfolding Ended May
   run-exact L D ys h e =
       let (p, q, _) = run-ends B L D ys h in
       let f = subst (May (λ (p : Path). Filling B (2 ^ (B .m)) (p .bits))) q (final-filling L D ys) in
-      subst (λ (o : Option Path). Exact ys (finalOf B ys o)) (sym q) (filling-exact ys p e f)
+      subst (λ (o : Option Path). Exact B ys (finalOf B ys o)) (sym q) (filling-exact ys p e f)

@@ -15,11 +15,12 @@ use Rattle.laws.specs.Lists.{All, May, Distinct, keep}
 use Rattle.laws.proofs.Tests.{cond-case}
 use Rattle.laws.proofs.Lists.{all-map, all-mapped, all-take, all-keep}
 use Rattle.codebook.specs.Book.{Book}
-use Rattle.machine.specs.Queue.{before, insert, ahead, numbers, roomFor}
-use Rattle.machine.specs.Machine.{Path, State, keyOf, emptyPath, copyOf, cut, advance, staying, extract}
-use Rattle.runs.proofs.Order.{all-insert}
-use Rattle.runs.proofs.States.{stateOf, firstState, statesOf, run-states}
-use Rattle.runs.proofs.Steps.{copy-number, advance-number, all-cut, all-staying}
+use Rattle.machine.specs.Queue.{before, insert, ahead, staying, numbers, roomFor}
+use Rattle.machine.specs.Machine.{Path, State, keyOf, emptyPath, copyOf, cut, advance, extract}
+use Rattle.runs.specs.Runs.{stateOf, firstState, statesOf, Numbered}
+use Rattle.runs.proofs.Order.{all-insert, all-staying}
+use Rattle.runs.proofs.States.{run-states}
+use Rattle.runs.proofs.Steps.{copy-number, advance-number, all-cut}
 
 -- ---- distinct numbers, path by path
 
@@ -80,7 +81,7 @@ cut-apart D qs n none h a e = a
 cut-apart D qs n (some c) h a e =
     apart-insert c (take (D - 2) qs) (all-map (λ q k z. lt-irrefl n (omega arith)) (take (D - 2) qs) (all-take (Below n) (D - 2) qs h)) (apart-take (D - 2) qs a)
 
-staying-apart : (L b : ℕ) (visits : List ℕ) (qs : List Path) → Apart qs → Apart (staying L b visits qs)
+staying-apart : (L b : ℕ) (visits : List ℕ) (qs : List Path) → Apart qs → Apart (staying keyOf L b visits qs)
 unfolding staying ahead
 staying-apart L b visits qs a = cond-case Apart (eqb (getD visits b 0) L) (λ _. apart-keep _ qs a) (λ _. a)
 
@@ -91,11 +92,6 @@ copy-other x n none h e = tt
 copy-other x n (some c) h e = λ z. lt-irrefl n (omega arith)
 
 -- ---- the run
-
--- the queued paths' numbers are below the next one, and distinct
-pub record Numbered (s : State) : Type 0 where
-  pub below : All (λ (p : Path). p .number < s .next) (s .queue)
-  pub distinct : Distinct (numbers keyOf (s .queue))
 
 -- the same, path by path
 record Separate (s : State) : Type 0 where
@@ -111,7 +107,7 @@ extract-apart B L D ys p qs n visits h =
     let same = advance-number B ys p in
     let others : All (Other (p .number)) (c .queue) = all-cut (Other (p .number)) D qs n o (h .apart .0) (copy-other (p .number) n o (h .below .0) e) in
     record {
-      below = all-staying (Below (c .next)) L (p .blocks) _ _ (all-insert keyOf (Below (c .next)) (advance B ys p) (c .queue) (omega (arith, h .below .0, next-le D qs n o)) (cut-below D qs n o (h .below .1) e));
+      below = all-staying keyOf L (p .blocks) _ _ (Below (c .next)) (all-insert keyOf (Below (c .next)) (advance B ys p) (c .queue) (omega (arith, h .below .0, next-le D qs n o)) (cut-below D qs n o (h .below .1) e));
       apart = staying-apart L (p .blocks) _ _ (apart-insert (advance B ys p) (c .queue) (subst (λ (x : ℕ). All (Other x) (c .queue)) (sym same) others) (cut-apart D qs n o (h .below .1) (h .apart .1) e));
     }
 

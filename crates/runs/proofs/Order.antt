@@ -1,20 +1,21 @@
--- The queue's order is a strict order, and queueing, cutting and keeping leave a queue in order, of any kind of path. By cases on what tells
+-- The queue's order is a strict order; queueing, cutting and keeping leave a queue in order, of any kind of path; and what step 4 leaves. By cases on what tells
 -- two keys apart, and by induction on the queue. Assumes nothing.
 use mathlib.Core.Path.{_≡_, refl, sym, ap, _∙_, subst}
 use mathlib.Core.Bool.{Bool, not, _&&_, _||_}
 use mathlib.Core.List.{List, [], _∷_}
-use Prim.Native.Nat.{ℕ, zero, suc, _<_}
+use Prim.Native.Nat.{ℕ, zero, suc, _≤_, _<_}
 use native.Mathlib.Nat.{lt-irrefl}
 use native.Mathlib.Omega.{arith}
-use lib.ListN.{length, take}
+use lib.ListN.{length, getD, take}
 use lib.IntN.{ℤ}
 use lib.Signed.{ltZ}
 use lib.Dec.{T, ltb, eqb, eqb→eq, ltb→lt, lt→ltb, eqb-refl, T-not, not-T}
 use Rattle.laws.specs.Lists.{All, keep}
 use Rattle.laws.proofs.Tests.{cond-case, and-left, and-right, and-in, or-left, or-right, or-case}
-use Rattle.laws.proofs.Lists.{all-map, all-take, all-keep}
+use Rattle.laws.proofs.Lists.{all-map, all-take, all-keep, keep-length}
 use Rattle.laws.proofs.Integers.{ltZ-irrefl, ltZ-trans, ltZ-total}
-use Rattle.machine.specs.Queue.{Key, before, insert}
+use Rattle.machine.specs.Queue.{Key, before, insert, ahead, behind, staying, outrunBy}
+use Rattle.runs.specs.Runs.{Ordered}
 
 -- ---- the order of keys
 
@@ -84,11 +85,6 @@ before-irrefl p h = go (before→ p p h)
 -- ---- queues
 
 module _ {A : Type 0} (key : A → Key) where
-  -- no path comes before an earlier one
-  unfoldable pub Ordered : List A → Type 0
-  Ordered [] = Unit {0}
-  Ordered (p ∷ qs) = All (λ (q : A). T (not (before (key q) (key p)))) qs × Ordered qs
-
   pub all-insert : (P : A → Type 0) (p : A) (qs : List A) → P p → All P qs → All P (insert key p qs)
   unfolding insert All
   all-insert P p [] a h = (a, tt)
@@ -100,11 +96,11 @@ module _ {A : Type 0} (key : A → Key) where
   insert-length p (q ∷ qs) =
       cond-case (λ (xs : List A). length xs ≡ suc (suc (length qs))) (before (key p) (key q)) (λ _. refl) (λ _. ap suc (insert-length p qs))
 
-  pub insert-ordered : (p : A) (qs : List A) → Ordered qs → Ordered (insert key p qs)
+  pub insert-ordered : (p : A) (qs : List A) → Ordered key qs → Ordered key (insert key p qs)
   unfolding insert Ordered All
   insert-ordered p [] h = (tt, tt)
   insert-ordered p (q ∷ qs) h =
-      cond-case Ordered (before (key p) (key q))
+      cond-case (Ordered key) (before (key p) (key q))
       (λ t. (
         (
           not-T (before (key q) (key p)) (λ u. before-irrefl (key p) (before-trans (key p) (key q) (key p) t u)),
@@ -114,16 +110,35 @@ module _ {A : Type 0} (key : A → Key) where
       ))
       (λ t. (all-insert (λ (x : A). T (not (before (key x) (key q)))) p qs t (h .0), insert-ordered p qs (h .1)))
 
-  pub take-ordered : (n : ℕ) (qs : List A) → Ordered qs → Ordered (take n qs)
+  pub take-ordered : (n : ℕ) (qs : List A) → Ordered key qs → Ordered key (take n qs)
   unfolding Ordered
   take-ordered zero qs h = tt
   take-ordered (suc n) [] h = tt
   take-ordered (suc n) (q ∷ qs) h = (all-take (λ (x : A). T (not (before (key x) (key q)))) n qs (h .0), take-ordered n qs (h .1))
 
-  pub keep-ordered : (f : A → Bool) (qs : List A) → Ordered qs → Ordered (keep f qs)
+  pub keep-ordered : (f : A → Bool) (qs : List A) → Ordered key qs → Ordered key (keep f qs)
   unfolding keep Ordered
   keep-ordered f [] h = tt
   keep-ordered f (q ∷ qs) h =
-      cond-case Ordered (f q)
+      cond-case (Ordered key) (f q)
       (λ _. (all-map (λ x k. k .0) (keep f qs) (all-keep (λ (x : A). T (not (before (key x) (key q)))) f qs (h .0)), keep-ordered f qs (h .1)))
       (λ _. keep-ordered f qs (h .1))
+
+  -- ---- step 4
+
+  module _ (L b : ℕ) (visits : List ℕ) (qs : List A) where
+    pub all-staying : (P : A → Type 0) → All P qs → All P (staying key L b visits qs)
+    unfolding staying ahead
+    all-staying P h = cond-case (All P) (eqb (getD visits b 0) L) (λ _. all-map (λ p k. k .0) _ (all-keep P _ qs h)) (λ _. h)
+
+    pub staying-ordered : Ordered key qs → Ordered key (staying key L b visits qs)
+    unfolding staying ahead
+    staying-ordered h = cond-case (Ordered key) (eqb (getD visits b 0) L) (λ _. keep-ordered _ qs h) (λ _. h)
+
+    pub staying-length : length (staying key L b visits qs) ≤ length qs
+    unfolding staying ahead
+    staying-length = cond-case (λ (xs : List A). length xs ≤ length qs) (eqb (getD visits b 0) L) (λ _. keep-length _ qs) (λ _. omega arith)
+
+    pub outrun-length : length (outrunBy key L b visits qs) ≤ length qs
+    unfolding outrunBy behind
+    outrun-length = cond-case (λ (xs : List A). length xs ≤ length qs) (eqb (getD visits b 0) L) (λ _. keep-length _ qs) (λ _. omega arith)

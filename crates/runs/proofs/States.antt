@@ -1,39 +1,17 @@
 -- What holds of the machine at the start and is kept by each extraction holds before every extraction of the run, and of the path with which
 -- it stops. By induction on the extractions. Assumes nothing.
 use mathlib.Core.Path.{_≡_}
-use mathlib.Core.Bool.{cond, not}
+use mathlib.Core.Bool.{not}
 use mathlib.Core.List.{List, [], _∷_}
-use Prim.Native.Nat.{ℕ, zero, suc, _+_, _*_}
-use lib.ListN.{length, replicate}
+use Prim.Native.Nat.{ℕ, zero, suc}
+use lib.ListN.{length}
 use lib.IntN.{ℤ}
 use lib.Dec.{T, eqb, eqb→eq}
 use Rattle.laws.specs.Lists.{All, May}
 use Rattle.laws.proofs.Tests.{cond-case}
 use Rattle.codebook.specs.Book.{Book}
-use Rattle.machine.specs.Machine.{Path, State, Run, emptyPath, extract, run, after, stopped, runOf}
-
--- the machine with this queue, next number and visits
-abbrev pub stateOf : List Path → ℕ → List ℕ → State
-stateOf qs n visits = record { queue = qs; next = n; visits = visits }
-
--- the state before the first extraction
-unfoldable pub firstState : Book → State
-firstState B = stateOf (emptyPath ∷ []) 1 (replicate (length (B .blocks)) 0)
-
--- the states before each of the extractions that the fuel allows
-unfoldable pub states : ℕ → Book → ℕ → ℕ → List ℤ → List Path → ℕ → List ℕ → List State
-states zero B L D ys qs n visits = []
-states (suc fuel) B L D ys [] n visits = []
-states (suc fuel) B L D ys (p ∷ qs) n visits =
-    let x = extract B L D ys p qs n visits .state in
-    let more = states fuel B L D ys (x .queue) (x .next) (x .visits) in
-    stateOf (p ∷ qs) n visits ∷ cond (eqb (p .blocks) (length (B .blocks))) [] more
-
--- those of the whole run
-unfoldable pub statesOf : Book → ℕ → ℕ → List ℤ → List State
-statesOf B L D ys =
-    let V′ = length (B .blocks) in
-    states (L * V′ + 1) B L D ys (emptyPath ∷ []) 1 (replicate V′ 0)
+use Rattle.machine.specs.Machine.{Path, State, Run, extract, run, after, stopped, runOf}
+use Rattle.runs.specs.Runs.{stateOf, firstState, states, statesOf}
 
 module _ (B : Book) (L D : ℕ) (ys : List ℤ) (Inv : State → Type 0) where
   -- kept by the extraction of each path that has not all blocks

@@ -7,18 +7,17 @@ use mathlib.Core.Option.{Option, none, some}
 use Prim.Native.Nat.{ℕ, zero, suc, _-_, _<_}
 use native.Mathlib.Nat.{lt-irrefl}
 use lib.Pow.{pow-pos}
-use lib.ListN.{getD, take}
+use lib.ListN.{take}
 use lib.IntN.{ℤ}
-use lib.Dec.{ltb, eqb}
 use Rattle.laws.specs.Lists.{All, May}
 use Rattle.laws.proofs.Tests.{cond-case}
-use Rattle.laws.proofs.Lists.{all-map, all-take, all-keep}
+use Rattle.laws.proofs.Lists.{all-take}
 use Rattle.codebook.specs.Book.{Book}
-use Rattle.machine.specs.Queue.{ahead, roomFor}
+use Rattle.machine.specs.Queue.{roomFor}
 use Rattle.machine.specs.Choice.{choose, firstOf}
 use Rattle.machine.specs.Words.{Ranked, nearer, nearestWith, nearest}
-use Rattle.machine.specs.Machine.{Path, keyOf, path, copyWith, copyOf, cut, advanceWith, advance, staying, extract}
-use Rattle.runs.proofs.Order.{all-insert}
+use Rattle.machine.specs.Machine.{Path, keyOf, path, copyWith, copyOf, cut, advanceWith, advance, extract}
+use Rattle.runs.proofs.Order.{all-insert, all-staying}
 
 -- ---- words that are found
 
@@ -99,16 +98,9 @@ unfolding cut roomFor May
 all-cut P D qs n none h m = h
 all-cut P D qs n (some c) h m = all-insert keyOf P c (take (D - 2) qs) m (all-take P (D - 2) qs h)
 
-pub all-staying : (P : Path → Type 0) (L b : ℕ) (visits : List ℕ) (qs : List Path) → All P qs → All P (staying L b visits qs)
-unfolding staying ahead
-all-staying P L b visits qs h =
-    cond-case (All P) (eqb (getD visits b 0) L)
-    (λ _. all-map (λ p k. k .0) _ (all-keep P (λ (p : Path). ltb b (keyOf p .blocks)) qs h))
-    (λ _. h)
-
 -- what holds of all that is queued holds after the extraction
 pub all-extract : (P : Path → Type 0) (B : Book) (L D : ℕ) (ys : List ℤ) (p : Path) (qs : List Path) (n : ℕ) (visits : List ℕ) → All P qs → May P (copyOf B ys n (p .blocks) (p .bits)) → P (advance B ys p) →
     All P (extract B L D ys p qs n visits .state .queue)
 unfolding extract
 all-extract P B L D ys p qs n visits h c a =
-    all-staying P L (p .blocks) _ _ (all-insert keyOf P (advance B ys p) _ a (all-cut P D qs n (copyOf B ys n (p .blocks) (p .bits)) h c))
+    all-staying keyOf L (p .blocks) _ _ P (all-insert keyOf P (advance B ys p) _ a (all-cut P D qs n (copyOf B ys n (p .blocks) (p .bits)) h c))

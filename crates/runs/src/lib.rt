@@ -1,1 +1,1 @@
-// Laws of the plain machine's run: proofs/ alone.
+// Laws of the plain machine's run: specs/ and proofs/.

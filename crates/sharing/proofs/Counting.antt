@@ -103,17 +103,17 @@ module _ (m N : ℕ) (holders holders′ : List ℕ) (ids : ℕ → ℕ) (others
           rw (upd-other ids h r g n) (x .1 g i n (omega arith) (omega arith) ∙ c g i a b)
 
   -- a path with a row's ids is added, or is no more
-  pub counted-more : (rows : List ℕ) (s : ℕ) → Counted m N holders others → HasIds m rows s ids → N ≤ 256 → MoreBy m rows s holders holders′ →
+  pub counted-more : (rows : List ℕ) (s : ℕ) → Counted m N holders others → HasIds m rows s ids → N ≤ 256 → MoreBy (m + 1) rows s holders holders′ →
       Counted m N holders′ (ids ∷ others)
-  unfolding Counted HasIds MoreBy
+  unfolding Counted HasIds
   counted-more rows s c has top x =
-      λ h i l b. omega (arith, rw (has h l) at (x .0 h i l (omega arith)), c h i l b, times-cons i (ids h) (idsAt h others))
+      λ h i l b. omega (arith, rw (has h l) at (x .done h i (omega arith) (omega arith)), c h i l b, times-cons i (ids h) (idsAt h others))
 
-  pub counted-less : (rows : List ℕ) (s : ℕ) → Counted m N holders (ids ∷ others) → HasIds m rows s ids → N ≤ 256 → LessBy m rows s holders holders′ →
+  pub counted-less : (rows : List ℕ) (s : ℕ) → Counted m N holders (ids ∷ others) → HasIds m rows s ids → N ≤ 256 → LessBy (m + 1) rows s holders holders′ →
       Counted m N holders′ others
-  unfolding Counted HasIds MoreBy LessBy
+  unfolding Counted HasIds LessBy
   counted-less rows s c has top x =
-      λ h i l b. omega (arith, rw (has h l) at (x .0 h i l (omega arith)), c h i l b, times-cons i (ids h) (idsAt h others))
+      λ h i l b. omega (arith, rw (has h l) at (x .done h i (omega arith) (omega arith)), c h i l b, times-cons i (ids h) (idsAt h others))
 
 -- ---- a row's ids after a store
 

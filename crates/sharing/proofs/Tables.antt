@@ -76,22 +76,13 @@ exchange-free l h i r v s bh bi br e f = (
 
 -- ---- one path more, height by height
 
--- the heights below n count the path of a row besides; the table is else the same
-pub record More (n : ℕ) (rows : List ℕ) (s : ℕ) (old new : List ℕ) : Type 0 where
-  pub done : (g x : ℕ) → g < n → x ≤ 256 → heldAt new g x ≡ heldAt old g x + one (idAt rows s g) x
-  pub rest : (g x : ℕ) → n ≤ g → g ≤ 9 → x ≤ 256 → heldAt new g x ≡ heldAt old g x
-
-pub more-none : (rows : List ℕ) (s : ℕ) (l : List ℕ) → More 0 rows s l l
+pub more-none : (rows : List ℕ) (s : ℕ) (l : List ℕ) → MoreBy 0 rows s l l
 more-none rows s l = record { done = λ g x h. absurd (omega arith); rest = λ g x h b c. refl }
 
-pub more-all : (m : ℕ) {n s : ℕ} {rows old new : List ℕ} → n ≡ m + 1 → More n rows s old new → MoreBy m rows s old new
-unfolding MoreBy
-more-all m e t = (λ h i l b. t .done h i (omega arith) b, λ h i l k b. t .rest h i (omega arith) k b)
-
 module _ {n s : ℕ} {rows : List ℕ} where
-  more-next : {old new : List ℕ} (old′ new′ : List ℕ) → More n rows s old new →
+  more-next : {old new : List ℕ} (old′ new′ : List ℕ) → MoreBy n rows s old new →
       ((x : ℕ) → x ≤ 256 → heldAt new′ n x ≡ heldAt old′ n x + one (idAt rows s n) x) →
-      ((g x : ℕ) → (g ≡ n → ⊥) → x ≤ 256 → (heldAt old′ g x ≡ heldAt old g x) × (heldAt new′ g x ≡ heldAt new g x)) → More (n + 1) rows s old′ new′
+      ((g x : ℕ) → (g ≡ n → ⊥) → x ≤ 256 → (heldAt old′ g x ≡ heldAt old g x) × (heldAt new′ g x ≡ heldAt new g x)) → MoreBy (n + 1) rows s old′ new′
   more-next old′ new′ t here apart =
       record {
         done = λ g x l b. go g x b (lt-or g n) l;
@@ -106,7 +97,7 @@ module _ {n s : ℕ} {rows : List ℕ} where
 
   module _ {l fixed : List ℕ} {i : ℕ} (size : length l ≡ 2570) (top : n ≤ 9) (id : idAt rows s n ≡ i) (low : i ≤ 256) where
     -- the table that counts it gets the next height's id
-    pub more-add : More n rows s fixed l → More (n + 1) rows s fixed (set l (n * 257 + i) (heldAt l n i + 1))
+    pub more-add : MoreBy n rows s fixed l → MoreBy (n + 1) rows s fixed (set l (n * 257 + i) (heldAt l n i + 1))
     more-add t =
         more-next fixed (set l (n * 257 + i) (heldAt l n i + 1)) t
         (λ x b. let e = t .rest n x (omega arith) top b in
@@ -114,7 +105,7 @@ module _ {n s : ℕ} {rows : List ℕ} where
         (λ g x e b. (refl, held-apart l n i (heldAt l n i + 1) g x low b e))
 
     -- the table that does not count it loses it
-    pub more-drop : 1 ≤ heldAt l n i → More n rows s l fixed → More (n + 1) rows s (set l (n * 257 + i) (heldAt l n i - 1)) fixed
+    pub more-drop : 1 ≤ heldAt l n i → MoreBy n rows s l fixed → MoreBy (n + 1) rows s (set l (n * 257 + i) (heldAt l n i - 1)) fixed
     more-drop some t =
         more-next (set l (n * 257 + i) (heldAt l n i - 1)) fixed t
         (λ x b. let e = t .rest n x (omega arith) top b in

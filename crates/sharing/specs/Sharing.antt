@@ -31,14 +31,13 @@ pub record Shared (holders : List ℕ) (h N i : ℕ) : Type 0 where
   pub counted : (k : ℕ) → k ≤ N → heldAt holders h k ≡ times k (i ∷ others)
   pub few : length others < N
 
--- one path more, or one fewer, at the heights up to m, holds what a row holds
-unfoldable pub MoreBy : ℕ → List ℕ → ℕ → List ℕ → List ℕ → Type 0
-MoreBy m rows s old new =
-    ((h i : ℕ) → h ≤ m → i ≤ 256 → heldAt new h i ≡ heldAt old h i + one (idAt rows s h) i)
-    × ((h i : ℕ) → m < h → h ≤ 9 → i ≤ 256 → heldAt new h i ≡ heldAt old h i)
+-- one path more, or one fewer, at the heights below n, holds what a row holds; the table is else as it was
+pub record MoreBy (n : ℕ) (rows : List ℕ) (s : ℕ) (old new : List ℕ) : Type 0 where
+  pub done : (h i : ℕ) → h < n → i ≤ 256 → heldAt new h i ≡ heldAt old h i + one (idAt rows s h) i
+  pub rest : (h i : ℕ) → n ≤ h → h ≤ 9 → i ≤ 256 → heldAt new h i ≡ heldAt old h i
 
 unfoldable pub LessBy : ℕ → List ℕ → ℕ → List ℕ → List ℕ → Type 0
-LessBy m rows s old new = MoreBy m rows s new old
+LessBy n rows s old new = MoreBy n rows s new old
 
 -- a holder of one id of height h holds another instead
 unfoldable pub Exchanged : ℕ → ℕ → ℕ → List ℕ → List ℕ → Type 0

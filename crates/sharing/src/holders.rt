@@ -100,7 +100,7 @@ pub fn share(rows: &mut [u32; 4096], holders: &mut [u16; 2570], m: usize, from: 
     requires { ⌜ (from ≡ to → ⊥) ⌝ }
     ensures { λ _. ⌜ Sizes (now (rows .exit)) (now (holders .exit)) ⌝ }
     ensures { λ _. ⌜ Copied m from to (now (rows .entry)) (now (rows .exit)) ⌝ }
-    ensures { λ _. ⌜ MoreBy m (now (rows .entry)) from (now (holders .entry)) (now (holders .exit)) ⌝ }
+    ensures { λ _. ⌜ MoreBy (m + 1) (now (rows .entry)) from (now (holders .entry)) (now (holders .exit)) ⌝ }
 {
     let mut h: usize = 0;
     while h <= m {
@@ -117,7 +117,7 @@ pub fn release(rows: &[u32; 4096], holders: &mut [u16; 2570], m: usize, slot: us
     requires { ⌜ Sizes (now rows) (now holders) × (m ≤ 9) × (slot < 256) ⌝ }
     requires { ⌜ ((h : ℕ) → h ≤ m → (let id = idAt (now rows) slot h in (id ≤ 256) × (1 ≤ heldAt (now holders) h id))) ⌝ }
     ensures { λ _. ⌜ length (now (holders .exit)) ≡ 2570 ⌝ }
-    ensures { λ _. ⌜ LessBy m (now (rows .entry)) slot (now (holders .entry)) (now (holders .exit)) ⌝ }
+    ensures { λ _. ⌜ LessBy (m + 1) (now (rows .entry)) slot (now (holders .entry)) (now (holders .exit)) ⌝ }
 {
     let mut h: usize = 0;
     while h <= m {

@@ -2,11 +2,11 @@
 -- for the other paths, its slot vacant. The path is taken in hand first. Assumes nothing.
 use mathlib.Core.Path.{_≡_}
 use mathlib.Core.List.{List, _∷_, _++_, map}
-use Prim.Native.Nat.{ℕ, _≤_}
+use Prim.Native.Nat.{ℕ, _+_, _≤_}
 use native.Mathlib.Omega.{arith}
 use lib.ListN.{length, length-map}
 use Rattle.laws.specs.Lists.{All}
-use Rattle.laws.proofs.Pairs.{Paired}
+use Rattle.laws.specs.Pairs.{Paired}
 use Rattle.codebook.specs.Book.{Book}
 use Rattle.reader.specs.Arrays.{Arrays}
 use Rattle.reader.specs.Paths.{Path, idsOf}
@@ -33,7 +33,7 @@ module _ {B : Book} {N : ℕ} {x : Memory} {e : ℕ} {es vs : List ℕ} {A : Arr
       let few = counted-few (B .m) N (x .holders) (idsOf (p ∷ ps)) h (idAt (x .rows) (slotAt e) h) (st .counted) l (first-held h l .0) in
       omega (arith, few, length-map ps (λ (o : Path). o .ids), stands-length st)
 
-  first-remove : (holders′ : List ℕ) → N ≤ 256 → LessBy (B .m) (x .rows) (slotAt e) (x .holders) holders′ →
+  first-remove : (holders′ : List ℕ) → N ≤ 256 → LessBy (B .m + 1) (x .rows) (slotAt e) (x .holders) holders′ →
       Stands B N (memory (x .rows) holders′ (x .numbers) (x .bytes)) es (slotAt e ∷ vs) A ps
   unfolding Paired All memory slotAt
   first-remove holders′ top less =
@@ -61,6 +61,6 @@ module _ {B : Book} {N : ℕ} {x : Memory} {vs : List ℕ} {A : Arrays} (xs : Li
   stands-few = first-few (stands-forward xs e es qs p ps level st)
 
   -- without it
-  pub stands-remove : (holders′ : List ℕ) → N ≤ 256 → LessBy (B .m) (x .rows) (slotAt e) (x .holders) holders′ →
+  pub stands-remove : (holders′ : List ℕ) → N ≤ 256 → LessBy (B .m + 1) (x .rows) (slotAt e) (x .holders) holders′ →
       Stands B N (memory (x .rows) holders′ (x .numbers) (x .bytes)) (xs ++ es) (slotAt e ∷ vs) A (qs ++ ps)
   stands-remove = first-remove (stands-forward xs e es qs p ps level st)

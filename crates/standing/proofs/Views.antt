@@ -8,7 +8,7 @@ use native.Mathlib.Omega.{arith}
 use lib.ListN.{length-map}
 use Rattle.laws.specs.Lists.{All, Distinct}
 use Rattle.laws.proofs.Lists.{all-front}
-use Rattle.laws.proofs.Pairs.{Paired}
+use Rattle.laws.specs.Pairs.{Paired}
 use Rattle.codebook.specs.Book.{Book}
 use Rattle.reader.specs.Arrays.{Arrays, View}
 use Rattle.reader.specs.Paths.{Path, scoreOf, keyOf, lastWord, idsOf, viewOf}

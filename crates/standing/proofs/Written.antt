@@ -3,11 +3,11 @@
 use mathlib.Core.Path.{_≡_, _∙_}
 use mathlib.Core.List.{List, _∷_, _++_, map}
 use mathlib.Core.Logic.{_≢_}
-use Prim.Native.Nat.{ℕ, _≤_}
+use Prim.Native.Nat.{ℕ, _+_, _≤_}
 use native.Mathlib.Omega.{arith}
 use Rattle.laws.specs.Lists.{All, Distinct}
 use Rattle.laws.proofs.Lists.{all-front}
-use Rattle.laws.proofs.Pairs.{Paired}
+use Rattle.laws.specs.Pairs.{Paired}
 use Rattle.codebook.specs.Book.{Book}
 use Rattle.reader.specs.Arrays.{Arrays}
 use Rattle.reader.specs.Paths.{Path, idsOf}
@@ -42,7 +42,7 @@ module _ {B : Book} {N : ℕ} {x : Memory} {e : ℕ} {es vs : List ℕ} {A : Arr
 
   -- a copy of the path in hand, in a vacant slot, before it in the queue
   pub stands-share : {t : ℕ} {rows₁ rows₂ : List ℕ} (holders′ : List ℕ) → Stands B N x (e ∷ es) (t ∷ vs) A (p ∷ ps) → B .m ≤ 9 → N ≤ 256 →
-      Copied (B .m) (slotAt e) t (x .rows) rows₁ → MoreBy (B .m) (x .rows) (slotAt e) (x .holders) holders′ →
+      Copied (B .m) (slotAt e) t (x .rows) rows₁ → MoreBy (B .m + 1) (x .rows) (slotAt e) (x .holders) holders′ →
       PutRow t rows₁ rows₂ spent cost word earlier parities → Made B q d t spent cost word earlier parities → q .ids ≡ p .ids →
       Stands B N (memory rows₂ holders′ (x .numbers) (x .bytes)) (d ∷ e ∷ es) vs A (q ∷ p ∷ ps)
   unfolding Paired All Distinct memory HasIds Copied

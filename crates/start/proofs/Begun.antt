@@ -12,8 +12,8 @@ use lib.Dec.{eqb, ltb}
 use lib.Seq.{getD-set-same, getD-set-other}
 use borrow.Author.Tests.{eq-eqb, ne-eqb, lt-ltb, le-ltb}
 use Rattle.laws.proofs.Tests.{lt-or}
-use Rattle.sharing.specs.Sharing.{idAt, heldAt, one}
-use Rattle.sharing.proofs.Tables.{More, more-add}
+use Rattle.sharing.specs.Sharing.{idAt, heldAt, one, MoreBy}
+use Rattle.sharing.proofs.Tables.{more-add}
 use Rattle.start.specs.Start.{firstHeld}
 
 -- a list of zeros
@@ -43,16 +43,16 @@ module _ (rows : List ℕ) (m : ℕ) (none : Zeros rows) where
 
   module _ {old l : List ℕ} (clear : Zeros old) (size : length l ≡ 2570) (deep : m ≤ 9) where
     -- a height below the root
-    pub begun-more : {h : ℕ} → h < m → More h (set rows m 1) 0 old l → More (h + 1) (set rows m 1) 0 old (set l (h * 257) 1)
+    pub begun-more : {h : ℕ} → h < m → MoreBy h (set rows m 1) 0 old l → MoreBy (h + 1) (set rows m 1) 0 old (set l (h * 257) 1)
     unfolding heldAt
     begun-more {h} b t =
         let e : heldAt l h 0 ≡ 0 = t .rest h 0 (omega arith) (omega arith) (omega arith) ∙ none-held old clear h 0 in
         let i : h * 257 + 0 ≡ h * 257 = omega arith in
-        subst (λ (k : ℕ). More (h + 1) (set rows m 1) 0 old (set l k 1)) i
+        subst (λ (k : ℕ). MoreBy (h + 1) (set rows m 1) 0 old (set l k 1)) i
         (rw e at (more-add {i = 0} size (omega arith) (id-below h (λ q. omega arith)) (omega arith) t))
 
     -- the root
-    pub begun-last : m < length rows → {h : ℕ} → h ≡ m → More h (set rows m 1) 0 old l → More (m + 1) (set rows m 1) 0 old (set l (m * 257 + 1) 1)
+    pub begun-last : m < length rows → {h : ℕ} → h ≡ m → MoreBy h (set rows m 1) 0 old l → MoreBy (m + 1) (set rows m 1) 0 old (set l (m * 257 + 1) 1)
     unfolding heldAt
     begun-last b {h} q t =
         let s = rw q at t in
@@ -60,7 +60,7 @@ module _ (rows : List ℕ) (m : ℕ) (none : Zeros rows) where
         rw e at (more-add {i = 1} size (omega arith) (id-root b) (omega arith) s)
 
   -- what is counted then
-  pub begun-held : {old l : List ℕ} → Zeros old → m < length rows → More (m + 1) (set rows m 1) 0 old l → (h i : ℕ) → h ≤ 9 → i ≤ 256 → heldAt l h i ≡ firstHeld m h i
+  pub begun-held : {old l : List ℕ} → Zeros old → m < length rows → MoreBy (m + 1) (set rows m 1) 0 old l → (h i : ℕ) → h ≤ 9 → i ≤ 256 → heldAt l h i ≡ firstHeld m h i
   unfolding firstHeld
   begun-held {old} {l} clear b t h i top low = go (ℕ-discrete h m) (lt-or h m)
     where

@@ -51,7 +51,7 @@ module _ {B : Book} {N : ℕ} {x : Memory} {e : ℕ} {vs : List ℕ} {A : Arrays
   last-held = stands-held (e ∷ topOf order 1 k) (getD order 0 0) [] (p ∷ last .before) (last .one) [] level apart
 
   -- without it
-  pub last-remove : (holders′ : List ℕ) → N ≤ 256 → LessBy (B .m) (x .rows) (slotAt (getD order 0 0)) (x .holders) holders′ →
+  pub last-remove : (holders′ : List ℕ) → N ≤ 256 → LessBy (B .m + 1) (x .rows) (slotAt (getD order 0 0)) (x .holders) holders′ →
       Stands B N (memory (x .rows) holders′ (x .numbers) (x .bytes)) (e ∷ take k (queueOf order n)) (slotAt (getD order 0 0) ∷ vs) A (p ∷ take k ps)
   last-remove holders′ top less =
       let cutOrder : topOf order 1 k ++ [] ≡ take k (queueOf order n) =

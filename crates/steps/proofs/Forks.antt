@@ -14,7 +14,7 @@ use Rattle.polar.specs.Bits.{number}
 use Rattle.polar.specs.Layers.{Within}
 use Rattle.codebook.specs.Book.{Book, startOf, blockAt}
 use Rattle.codebook.specs.Book as K
-use Rattle.laws.proofs.Pairs.{Paired}
+use Rattle.laws.specs.Pairs.{Paired}
 use Rattle.machine.specs.Queue.{roomFor, insert}
 use Rattle.outer.specs.declared.Candidate.{Candidate}
 use Rattle.outer.specs.Blocks.{candidateOf}
@@ -125,13 +125,13 @@ module _ {m N : ℕ} {x : Memory} {e t : ℕ} {es vs : List ℕ} {last : Block} 
     -- ---- the row written
 
     pub fork-written : {rows₁ rows₂ : List ℕ} (holders′ : List ℕ) → Lent m N x → Copied m (slotAt e) t (x .rows) rows₁ →
-        MoreBy m (x .rows) (slotAt e) (x .holders) holders′ →
+        MoreBy (m + 1) (x .rows) (slotAt e) (x .holders) holders′ →
         PutRow t rows₁ rows₂ (cell (x .rows) (slotAt e) 10) (found .cost) (found .number) (cell (x .rows) (slotAt e) 13) (found .parities) →
         Written n d (memory rows₂ holders′ (x .numbers) (x .bytes))
     fork-written {rows₁} holders′ l copied more put =
         let copied′ : Copied (book .m) (slotAt e) t (x .rows) rows₁ = subst (λ (k : ℕ). Copied k (slotAt e) t (x .rows) rows₁) (sym (c .hand .deep)) copied in
-        let more′ : MoreBy (book .m) (x .rows) (slotAt e) (x .holders) holders′ =
-        subst (λ (k : ℕ). MoreBy k (x .rows) (slotAt e) (x .holders) holders′) (sym (c .hand .deep)) more in
+        let more′ : MoreBy (book .m + 1) (x .rows) (slotAt e) (x .holders) holders′ =
+        subst (λ (k : ℕ). MoreBy (k + 1) (x .rows) (slotAt e) (x .holders) holders′) (sym (c .hand .deep)) more in
         stands-share holders′ (c .hand .stands) (c .valid .high) (l .many) copied′ more′ put fork-made refl
 
     -- what the copy sees, in slot s of a memory for books of depth k

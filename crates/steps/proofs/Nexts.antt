@@ -10,7 +10,7 @@ use native.Mathlib.Omega.{arith}
 use lib.ListN.{length, take, drop, length-map, length-append, take-append-drop}
 use lib.Seq.{take-take}
 use Rattle.laws.specs.Lists.{All}
-use Rattle.laws.proofs.Pairs.{Paired}
+use Rattle.laws.specs.Pairs.{Paired}
 use Rattle.polar.specs.Layers.{part, Within}
 use Rattle.codebook.specs.Book.{Book, blockAt}
 use Rattle.machine.specs.Queue.{Key, numbers, roomFor, crowdedOut}

@@ -3,7 +3,7 @@
 use mathlib.Core.Path.{_≡_}
 use mathlib.Core.List.{List, _∷_}
 use mathlib.Core.Option.{some}
-use Prim.Native.Nat.{ℕ, suc, _+_, _-_, _≤_}
+use Prim.Native.Nat.{ℕ, suc, _+_, _≤_}
 use lib.ListN.{length}
 use Rattle.polar.specs.Bits.{number}
 use Rattle.polar.specs.Transform.{transform}
@@ -14,9 +14,8 @@ use Rattle.codec.specs.Ties.{fillBlock}
 use Rattle.outer.specs.declared.Candidate.{Candidate}
 use Rattle.outer.specs.Words.{Word, nextAfter}
 use Rattle.outer.specs.Blocks.{candidateOf}
-use Rattle.reader.specs.Arrays.{Arrays, View, valsOf, claim, descend}
-use Rattle.reader.specs.Paths.{Path, ownWord, place, idsOf, viewOf}
-use Rattle.reader.specs.Reader.{commit}
+use Rattle.reader.specs.Arrays.{Arrays, valsOf}
+use Rattle.reader.specs.Paths.{Path, ownWord, place, viewOf}
 use Rattle.reader.specs.Fit.{Fit, FitFor}
 use Rattle.standing.specs.Seen.{Memory}
 use Rattle.standing.specs.Standing.{Stands, InHand}
@@ -66,14 +65,6 @@ pub record Copying (m N : ℕ) (x : Memory) (e : ℕ) (es vs : List ℕ) (kinds 
       → hand .taken .spent + y .cost ≤ 1048064
 
 -- ---- the next block
-
--- what the path sees once its last word is in the sums, the values of its next block are there, and an array for that block's word is taken
-unfoldable pub nextView : Book → Arrays → Path → List Path → View
-nextView B A p qs =
-    let b = p .blocks in
-    let j = blockAt B b .j in
-    let others = idsOf qs in
-    claim others j (place B b) (descend others (B .m - j) (B .m) (startOf (B .blocks) b) (commit B others p b (viewOf A p)))
 
 -- a path in hand that has a next block, `at`; where it has a last one, that is `last`
 pub record Moving (m N : ℕ) (x : Memory) (e : ℕ) (es vs : List ℕ) (last at : Block) : Type 0 where

@@ -8,10 +8,10 @@ use native.Mathlib.Omega.{arith}
 use Rattle.laws.specs.Lists.{All}
 use Rattle.laws.proofs.Tests.{lt-or}
 use Rattle.polar.specs.Layers.{Within}
-use Rattle.reader.specs.Arrays.{View, valsOf, descend}
-use Rattle.reader.proofs.Descent.{byQ, descend-none, descend-more, descend-within, descend-has}
+use Rattle.reader.specs.Arrays.{View, valsOf, descend, byQ}
+use Rattle.reader.proofs.Descent.{descend-none, descend-more, descend-within, descend-has}
 use Rattle.standing.specs.Seen.{Memory, Seen, Viewed, Turned}
-use Rattle.views.specs.Steps.{Upper, lowered}
+use Rattle.views.specs.Steps.{Upper}
 
 -- the way down from the height `top` to height h
 abbrev pub down : ℕ → ℕ → List (ℕ → ℕ) → View → View
@@ -23,8 +23,7 @@ down-none top others v =
     sym (descend-none others top 0 v) ∙ ap (λ d. descend others d top 0 v) e
 
 -- one height further, by Q
-down-more : (top k : ℕ) (others : List (ℕ → ℕ)) (v : View) → suc k ≤ top → lowered k others (down top (suc k) others v) ≡ down top k others v
-unfolding lowered
+down-more : (top k : ℕ) (others : List (ℕ → ℕ)) (v : View) → suc k ≤ top → byQ others k (down top (suc k) others v) ≡ down top k others v
 down-more top k others v l =
     let d : suc (top - suc k) ≡ top - k = omega arith in
     let e : top - suc (top - suc k) ≡ k = omega arith in
@@ -61,7 +60,7 @@ module _ (m N s : ℕ) (x : Memory) where
   turned-none top = λ others v seen u. subst (λ (w : View). Seen m N s x others w) (down-none top others v) seen
 
   pub turned-more : (y z : Memory) {top k : ℕ} → suc k ≤ top → Turned m N s x y (Upper top) (down top (suc k)) →
-      Turned m N s y z (Upper (suc k)) (lowered k) → Turned m N s x z (Upper top) (down top k)
+      Turned m N s y z (Upper (suc k)) (λ others v. byQ others k v) → Turned m N s x z (Upper top) (down top k)
   unfolding Turned
   turned-more y z {top} {k} l t q = λ others v seen u.
       subst (λ (w : View). Seen m N s z others w) (down-more top k others v l)

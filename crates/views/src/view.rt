@@ -5,11 +5,11 @@ ghost use lib.ListN.{length};
 ghost use Rattle.laws.specs.Lists.{All};
 ghost use Rattle.polar.specs.Bits.{Bit};
 ghost use Rattle.polar.specs.Layers.{part};
-ghost use Rattle.reader.specs.Arrays.{sumsOf, putSums, claim, descend, joined};
+ghost use Rattle.reader.specs.Arrays.{sumsOf, putSums, claim, descend, byQ, byP, joined};
 ghost use Rattle.sharing.specs.Sharing.{idAt};
 ghost use Rattle.heights.specs.Workspace.{spot, Room, Id, bitsOf};
 ghost use Rattle.standing.specs.Seen.{memory, Lent, Viewed, Turned, IdsOnly};
-ghost use Rattle.views.specs.Steps.{Upper, lowered, Turning, turnedOver, Joinable, Claimable, Joined};
+ghost use Rattle.views.specs.Steps.{Upper, Turning, Joinable, Claimable, Joined};
 use heights::arrays::copy_half;
 use heights::arrays::first_half;
 use heights::arrays::place;
@@ -50,7 +50,7 @@ fn lower(
     ensures { λ _. ⌜ Lent m most (memory (now (rows .exit)) (now (holders .exit)) (now (numbers .exit)) (now (bytes .entry)))
         × IdsOnly m slot (now (rows .entry)) (now (rows .exit)) ⌝ }
     ensures { λ _. ⌜ Turned m most slot (memory (now (rows .entry)) (now (holders .entry)) (now (numbers .entry)) (now (bytes .entry)))
-        (memory (now (rows .exit)) (now (holders .exit)) (now (numbers .exit)) (now (bytes .entry))) (Upper (suc h)) (lowered h) ⌝ }
+        (memory (now (rows .exit)) (now (holders .exit)) (now (numbers .exit)) (now (bytes .entry))) (Upper (suc h)) (λ others v. byQ others h v) ⌝ }
 {
     let from = id_of(rows, slot, h + 1);
     let to = take(rows, holders, slot, h, most);
@@ -100,7 +100,7 @@ pub fn turn_over(
     ensures { λ _. ⌜ Lent m most (memory (now (rows .exit)) (now (holders .exit)) (now (numbers .exit)) (now (bytes .entry)))
         × IdsOnly m slot (now (rows .entry)) (now (rows .exit)) ⌝ }
     ensures { λ _. ⌜ Turned m most slot (memory (now (rows .entry)) (now (holders .entry)) (now (numbers .entry)) (now (bytes .entry)))
-        (memory (now (rows .exit)) (now (holders .exit)) (now (numbers .exit)) (now (bytes .entry))) (Turning h) (turnedOver h) ⌝ }
+        (memory (now (rows .exit)) (now (holders .exit)) (now (numbers .exit)) (now (bytes .entry))) (Turning h) (λ others v. byP others h v) ⌝ }
 {
     let from = id_of(rows, slot, h + 1);
     let word = id_of(rows, slot, h);

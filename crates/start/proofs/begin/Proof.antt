@@ -4,13 +4,14 @@ use mathlib.Core.Path.{_≡_, ap, _∙_}
 use Prim.Native.Nat.{ℕ, _-_, _≤_, _<_}
 use native.Mathlib.Omega.{arith}
 use lib.ListN.{length, getD, set, length-set, length-replicate}
-use Rattle.sharing.proofs.Tables.{More, more-none}
+use Rattle.sharing.specs.Sharing.{MoreBy}
+use Rattle.sharing.proofs.Tables.{more-none}
 use Rattle.start.proofs.Begun.{Zeros, zeros, begun-more, begun-last, begun-held}
 use Rattle.start.proofs.begin.Statement.{statement}
 use Rattle.start.proofs.begin.Tie as tie
 
 abbrev Inv-loop : tie.InvT-loop
-Inv-loop rows holders₀ m h₀ holders h = (h ≤ m) × (length holders ≡ 2570) × More h (set rows m 1) 0 holders₀ holders
+Inv-loop rows holders₀ m h₀ holders h = (h ≤ m) × (length holders ≡ 2570) × MoreBy h (set rows m 1) 0 holders₀ holders
 
 abbrev μ-loop : tie.MeasureT-loop
 μ-loop rows holders₀ m h₀ holders h = m - h

@@ -3,13 +3,13 @@ use mathlib.Core.Path.{_≡_, refl}
 use Prim.Native.Nat.{ℕ, _+_, _-_, _*_, _≤_}
 use native.Mathlib.Omega.{arith}
 use lib.ListN.{length, getD, length-set}
-use Rattle.sharing.specs.Sharing.{idAt, heldAt, LessBy}
-use Rattle.sharing.proofs.Tables.{More, more-none, more-all, more-drop}
+use Rattle.sharing.specs.Sharing.{idAt, heldAt, LessBy, MoreBy}
+use Rattle.sharing.proofs.Tables.{more-none, more-drop}
 use Rattle.sharing.proofs.holders.release.Statement.{statement}
 use Rattle.sharing.proofs.holders.release.Tie as tie
 
 abbrev Inv-loop : tie.InvT-loop
-Inv-loop rows holders₀ m slot h₀ holders h = (h ≤ m + 1) × (length holders ≡ 2570) × More h rows slot holders holders₀
+Inv-loop rows holders₀ m slot h₀ holders h = (h ≤ m + 1) × (length holders ≡ 2570) × MoreBy h rows slot holders holders₀
 
 abbrev μ-loop : tie.MeasureT-loop
 μ-loop rows holders₀ m slot h₀ holders h = m + 1 - h
@@ -79,7 +79,10 @@ loop-again c =
 
 returns : tie.Need-returns Inv-loop μ-loop
 unfolding LessBy
-returns c = let t = c .before in (t .loop .inv .1, more-all (t .before .args .m) (omega arith) (t .loop .inv .2))
+returns c =
+    let t = c .before in
+    let e : t .loop .h ≡ t .before .args .m + 1 = omega arith in
+    (t .loop .inv .1, rw e at (t .loop .inv .2))
 
 pub release-spec : {M : Type 1} → statement M
 release-spec =

@@ -6,14 +6,14 @@ use native.Mathlib.Omega.{arith}
 use lib.ListN.{length, getD, length-set}
 use Rattle.laws.proofs.Stores.{Stored, stored-none, stored-more}
 use Rattle.laws.proofs.Tests.{lt-or}
-use Rattle.sharing.specs.Sharing.{idAt, heldAt, Copied}
-use Rattle.sharing.proofs.Tables.{More, more-none, more-all, more-add}
+use Rattle.sharing.specs.Sharing.{idAt, heldAt, Copied, MoreBy}
+use Rattle.sharing.proofs.Tables.{more-none, more-add}
 use Rattle.sharing.proofs.holders.share.Statement.{statement}
 use Rattle.sharing.proofs.holders.share.Tie as tie
 
 abbrev Inv-loop : tie.InvT-loop
 Inv-loop rows₀ holders₀ m from to h₀ rows holders h =
-    (h ≤ m + 1) × (length holders ≡ 2570) × Stored rows₀ rows (to * 16) (idAt rows₀ from) h × More h rows₀ from holders₀ holders
+    (h ≤ m + 1) × (length holders ≡ 2570) × Stored rows₀ rows (to * 16) (idAt rows₀ from) h × MoreBy h rows₀ from holders₀ holders
 
 abbrev μ-loop : tie.MeasureT-loop
 μ-loop rows₀ holders₀ m from to h₀ rows holders h = m + 1 - h
@@ -115,7 +115,7 @@ returns c =
     let x = t .loop .inv in
     let e : t .loop .h ≡ t .before .args .m + 1 = omega arith in (
       record { rows-size = x .2 .size ∙ t .before .pre .0 .0 .rows-size; holders-size = x .1 },
-      ((λ h l. x .2 .done h (omega arith), x .2 .before, λ k l. x .2 .after k (omega arith)), more-all (t .before .args .m) e (x .3)),
+      ((λ h l. x .2 .done h (omega arith), x .2 .before, λ k l. x .2 .after k (omega arith)), rw e at (x .3)),
     )
 
 pub share-spec : {M : Type 1} → statement M

@@ -160,8 +160,8 @@ copied-in c b vs o q =
     let f = c .before .before .share .ensures in
     let copied : Copied (a .m) (slotAt (a .e)) (a .to) (a .rows .now) rows =
     subst (λ (i : ℕ). Copied (a .m) i (a .to) (a .rows .now) rows) (slot-is t) (f .1 .0) in
-    let more : MoreBy (a .m) (a .rows .now) (slotAt (a .e)) (a .holders .now) holders =
-    subst (λ (i : ℕ). MoreBy (a .m) (a .rows .now) i (a .holders .now) holders) (slot-is t) (f .1 .1) in
+    let more : MoreBy (a .m + 1) (a .rows .now) (slotAt (a .e)) (a .holders .now) holders =
+    subst (λ (i : ℕ). MoreBy (a .m + 1) (a .rows .now) i (a .holders .now) holders) (slot-is t) (f .1 .1) in
     let slot = t .before .before .before .slot-of .result in
     let Put : ℕ → ℕ → Type 0 = λ p r. PutRow (a .to) rows (c .put .last .0) p (a .found .cost) (a .found .number) r (a .found .parities) in
     let put : Put (cell-of t 10) (cell-of t 13) =

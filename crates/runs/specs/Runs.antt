@@ -1,0 +1,77 @@
+-- What is shown of the plain machine's run: its states, how it ends, and what it finds. Assumes nothing.
+use mathlib.Core.Path.{_≡_}
+use mathlib.Core.Bool.{cond, not}
+use mathlib.Core.List.{List, [], _∷_}
+use mathlib.Core.Option.{some}
+use Prim.Native.Nat.{ℕ, zero, suc, _+_, _*_, _^_, _≤_, _<_}
+use lib.ListN.{length, replicate}
+use lib.IntN.{ℤ}
+use lib.Dec.{T, eqb}
+use Rattle.laws.specs.Lists.{All, Distinct, keep}
+use Rattle.polar.specs.Bits.{Bit}
+use Rattle.polar.specs.Soft.{discrepancy}
+use Rattle.codebook.specs.Book.{Book}
+use Rattle.codec.specs.Code.{inCode, readData}
+use Rattle.machine.specs.Queue.{Key, before, numbers, Step, Final}
+use Rattle.machine.specs.Machine.{Path, State, Run, keyOf, emptyPath, extract}
+
+-- ---- the states before the extractions
+
+-- the machine with this queue, next number and visits
+abbrev pub stateOf : List Path → ℕ → List ℕ → State
+stateOf qs n visits = record { queue = qs; next = n; visits = visits }
+
+-- the state before the first extraction
+unfoldable pub firstState : Book → State
+firstState B = stateOf (emptyPath ∷ []) 1 (replicate (length (B .blocks)) 0)
+
+-- the states before each of the extractions that the fuel allows
+unfoldable pub states : ℕ → Book → ℕ → ℕ → List ℤ → List Path → ℕ → List ℕ → List State
+states zero B L D ys qs n visits = []
+states (suc fuel) B L D ys [] n visits = []
+states (suc fuel) B L D ys (p ∷ qs) n visits =
+    let x = extract B L D ys p qs n visits .state in
+    let more = states fuel B L D ys (x .queue) (x .next) (x .visits) in
+    stateOf (p ∷ qs) n visits ∷ cond (eqb (p .blocks) (length (B .blocks))) [] more
+
+-- those of the whole run
+unfoldable pub statesOf : Book → ℕ → ℕ → List ℤ → List State
+statesOf B L D ys =
+    let V′ = length (B .blocks) in
+    states (L * V′ + 1) B L D ys (emptyPath ∷ []) 1 (replicate V′ 0)
+
+-- ---- what holds of each
+
+module _ {A : Type 0} (key : A → Key) where
+  -- no path comes before an earlier one
+  unfoldable pub Ordered : List A → Type 0
+  Ordered [] = Unit {0}
+  Ordered (p ∷ qs) = All (λ (q : A). T (not (before (key q) (key p)))) qs × Ordered qs
+
+-- the queue is in order and holds at most D paths
+pub record Alive (D : ℕ) (s : State) : Type 0 where
+  pub ordered : Ordered keyOf (s .queue)
+  pub room : length (s .queue) ≤ D
+
+-- the queued paths' numbers are below the next one, and distinct
+pub record Numbered (s : State) : Type 0 where
+  pub below : All (λ (p : Path). p .number < s .next) (s .queue)
+  pub distinct : Distinct (numbers keyOf (s .queue))
+
+-- ---- how the run ends, and what it finds
+
+-- the run stopped with a path of all N blocks
+unfoldable pub Ended : ℕ → Run → Type 0
+Ended N r = (p : Path) × (r .final ≡ some p) × (p .blocks ≡ N)
+
+-- the extractions that entered block b
+unfoldable pub entries : ℕ → List Step → ℕ
+entries b steps = length (keep (λ (s : Step). eqb (s .blocks) b) steps)
+
+-- what the run found: a word of the code, its data, and its discrepancy from the values
+pub record Exact (B : Book) (ys : List ℤ) (f : Final) : Type 0 where
+  pub size : length (f .word) ≡ 2 ^ (B .m)
+  pub bits : All Bit (f .word)
+  pub member : T (inCode B (f .word))
+  pub databits : f .bits ≡ readData B (f .word)
+  pub discrepancy : f .discrepancy ≡ discrepancy (f .word) ys
