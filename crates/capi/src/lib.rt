@@ -21,11 +21,11 @@ ghost use Rattle.codec.specs.Record.{statusOf};
 ghost use Rattle.codec.specs.Calls.{encodeCall, testCall, readDataCall};
 ghost use Rattle.decoder.specs.Given.{given, lent};
 ghost use Rattle.slices.specs.Slices.{plainAnswered, hookAnswered};
-ghost use Rattle.capi.specs.Answers.{misfitNumber, loadAnswer, testedNumber, makeRecordWrote, recordFrom, readRecordAnswer};
+ghost use Rattle.capi.specs.Answers.{mismatchNumber, loadAnswer, testedNumber, makeRecordWrote, recordFrom, readRecordAnswer};
 
 // The number where a slice is lent at a wrong length.
-fn misfit_number(o: Outcome) -> u32
-    ensures { λ r. ⌜ r ≡ misfitNumber o ⌝ }
+fn mismatch_number(o: Outcome) -> u32
+    ensures { λ r. ⌜ r ≡ mismatchNumber o ⌝ }
 {
     match o {
         Outcome::Done => 7,
@@ -41,7 +41,7 @@ pub extern "C" fn saddlemint_load(book: &[u8], shape: &mut [u32]) -> u32
     let s = load(book);
     let outcome = s.outcome;
     if shape.len() != 3 {
-        return misfit_number(outcome);
+        return mismatch_number(outcome);
     }
     shape[0] = s.n;
     shape[1] = s.k;
@@ -155,7 +155,7 @@ pub extern "C" fn saddlemint_read_record(book: &[u8], bits: &[u8], hook: &mut [u
     if hook.len() != 4 {
         let s = load(book);
         let fault = s.outcome;
-        return misfit_number(fault);
+        return mismatch_number(fault);
     }
     let x = read_record(book, bits);
     let h = x.hook;

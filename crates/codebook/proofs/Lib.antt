@@ -9,5 +9,6 @@ pub mod Over
 pub mod Codes
 pub mod Growing
 pub mod Placing
+pub mod Refused
 pub mod Verdicts
 pub mod Running

@@ -143,9 +143,9 @@ module _ (book ds c : List ℕ) where
 
   module _ (B : Book) (e : load book ≡ loaded B) where
     module _ {f : Bool} (q : f ≡ (eqb (length ds) (freeCount (B .kinds)) && eqb (length c) (2 ^ (B .m)))) where
-      pub encode-misfit : f ≡ false → encodeCall book ds c ≡ record { outcome = Refused Mismatch; buffer = c }
+      pub encode-mismatch : f ≡ false → encodeCall book ds c ≡ record { outcome = Refused Mismatch; buffer = c }
       unfolding encodeCall encodeWith kept dataFits wordFits
-      encode-misfit g = rw (e, ← q, g) refl
+      encode-mismatch g = rw (e, ← q, g) refl
 
       pub encode-bad : f ≡ true → areBits ds ≡ false → encodeCall book ds c ≡ record { outcome = Refused BadValue; buffer = c }
       unfolding encodeCall encodeWith kept dataFits wordFits
@@ -156,9 +156,9 @@ module _ (book ds c : List ℕ) where
       encode-good g h = rw (e, ← q, g, h) refl
 
     module _ {f : Bool} (q : f ≡ (eqb (length c) (2 ^ (B .m)) && eqb (length ds) (freeCount (B .kinds)))) where
-      pub read-misfit : f ≡ false → readDataCall book c ds ≡ record { outcome = Refused Mismatch; buffer = ds }
+      pub read-mismatch : f ≡ false → readDataCall book c ds ≡ record { outcome = Refused Mismatch; buffer = ds }
       unfolding readDataCall readDataWith kept dataFits wordFits
-      read-misfit g = rw (e, ← q, g) refl
+      read-mismatch g = rw (e, ← q, g) refl
 
       pub read-bad : f ≡ true → areBits c ≡ false → readDataCall book c ds ≡ record { outcome = Refused BadValue; buffer = ds }
       unfolding readDataCall readDataWith kept dataFits wordFits
@@ -174,9 +174,9 @@ module _ (book c : List ℕ) where
   test-refused r e = rw e refl
 
   module _ (B : Book) (e : load book ≡ loaded B) where
-    pub test-misfit : (length c ≡ 2 ^ (B .m) → ⊥) → NotTested Mismatch ≡ testCall book c
+    pub test-mismatch : (length c ≡ 2 ^ (B .m) → ⊥) → NotTested Mismatch ≡ testCall book c
     unfolding testCall testWith wordFits
-    test-misfit f = rw (e, ne-eqb (length c) (2 ^ (B .m)) f) refl
+    test-mismatch f = rw (e, ne-eqb (length c) (2 ^ (B .m)) f) refl
 
     module _ (f : length c ≡ 2 ^ (B .m)) where
       pub test-bad : areBits c ≡ false → NotTested BadValue ≡ testCall book c
@@ -197,9 +197,9 @@ module _ (book ds : List ℕ) where
   record-refused r e = rw e refl
 
   module _ (B : Book) (e : load book ≡ loaded B) {f : Bool} (q : f ≡ (eqb (freeCount (B .kinds)) 32 && eqb (length ds) (freeCount (B .kinds)))) where
-    pub make-misfit : (h : HookRecord) → f ≡ false → makeRecordCall book h ds ≡ record { outcome = Refused Mismatch; buffer = ds }
+    pub make-mismatch : (h : HookRecord) → f ≡ false → makeRecordCall book h ds ≡ record { outcome = Refused Mismatch; buffer = ds }
     unfolding makeRecordCall makeRecordWith kept holdsRecord dataFits
-    make-misfit h g = rw (e, ← q, g) refl
+    make-mismatch h g = rw (e, ← q, g) refl
 
     pub make-bad : (h : HookRecord) → f ≡ true → recordFits h ≡ false → makeRecordCall book h ds ≡ record { outcome = Refused BadValue; buffer = ds }
     unfolding makeRecordCall makeRecordWith kept holdsRecord dataFits
@@ -209,9 +209,9 @@ module _ (book ds : List ℕ) where
     unfolding makeRecordCall makeRecordWith wrote holdsRecord dataFits
     make-good h g k = rw (e, ← q, g, k) refl
 
-    pub record-misfit : f ≡ false → notRead Mismatch ≡ readRecordCall book ds
+    pub record-mismatch : f ≡ false → notRead Mismatch ≡ readRecordCall book ds
     unfolding readRecordCall readRecordWith holdsRecord dataFits
-    record-misfit g = rw (e, ← q, g) refl
+    record-mismatch g = rw (e, ← q, g) refl
 
     pub record-bad : f ≡ true → areBits ds ≡ false → notRead BadValue ≡ readRecordCall book ds
     unfolding readRecordCall readRecordWith holdsRecord dataFits

@@ -1,19 +1,17 @@
 -- What is known where nothing bars a call: its settings are in their ranges, its lengths are right, its values in range; and the attempt is then a run.
 -- By the checks' own laws. Assumes nothing.
 use mathlib.Core.Path.{_≡_, sym, ap, _∙_, subst}
-use mathlib.Core.Bool.{Bool, true, false, _&&_}
+use mathlib.Core.Bool.{Bool, _&&_}
 use mathlib.Core.Option.{none}
-use Prim.Native.Nat.{ℕ, _^_}
-use native.Mathlib.Omega.{arith}
+use Prim.Native.Nat.{_^_}
 use lib.ListN.{length}
 use lib.Dec.{T}
 use Rattle.laws.proofs.Tests.{and-left, and-right}
-use Rattle.codebook.specs.declared.Refusal.{Refusal}
-use Rattle.codebook.specs.Refusals.{unless}
 use Rattle.codebook.specs.Book.{Book, freeCount}
 use Rattle.codebook.specs.Loading.{loaded, load}
 use Rattle.machine.specs.Calls.{Input, Lent, settingsOk, lentOk, valuesOk, barred}
 use Rattle.checks.proofs.Fitting.{Ranged, Sized, settings-tell, lengths-tell, settings-fit, lengths-fit, lengthsOf}
+use Rattle.runs.proofs.Handed.{all-pass}
 use Rattle.decoder.specs.Attempt.{fitsFor, ranOf, unbarred, attemptWith, attempted}
 use Rattle.decoder.specs.WholeRun.{machineRun}
 
@@ -22,14 +20,6 @@ pub record Free (B : Book) (c : Input) (l : Lent) : Type 0 where
   pub ranged : Ranged (c .L) (c .D) (c .T)
   pub sized : Sized (2 ^ (B .m)) (freeCount (B .kinds)) (length (B .blocks)) (c .L) (c .D) (lengthsOf c l)
   pub valued : T (valuesOk (c .values))
-
--- each test passed
-all-pass : (s b v : Bool) (p q r : Refusal) → unless s p (unless b q (unless v r none)) ≡ none → T s × T b × T v
-unfolding unless
-all-pass true true true p q r e = (tt, tt, tt)
-all-pass true true false p q r e = let z : _≡_ {A = ℕ} 0 1 = cc in absurd (omega arith)
-all-pass true false v p q r e = let z : _≡_ {A = ℕ} 0 1 = cc in absurd (omega arith)
-all-pass false b v p q r e = let z : _≡_ {A = ℕ} 0 1 = cc in absurd (omega arith)
 
 -- what the call asks of k besides holds
 pub asked-holds : (B : Book) (c : Input) (l : Lent) (fits : Bool) → barred B c l fits ≡ none → T fits

@@ -2,7 +2,7 @@
 use mathlib.Core.Path.{refl}
 use Rattle.laws.specs.Lists.{All}
 use Rattle.machine.specs.Rows.{Holds}
-use Rattle.machine.specs.Table.{marked, markedRuns, queueRows, goodBooks, shortBooks, strangeBooks, misplacedBooks, offRangeBooks, overtiedAndHeavy, firstFaults, codecRows, recordRows, lentRows, hookRows, table}
+use Rattle.machine.specs.Table.{marked, markedRuns, queueRows, goodBooks, truncatedBooks, unknownCommands, misplacedBooks, outOfRangeBooks, tooManyTiedOrFree, firstFaults, codecRows, recordRows, lentRows, hookRows, table}
 use Rattle.machine.proofs.Computing.{computing}
 
 marked-holds : All Holds marked
@@ -21,25 +21,25 @@ good-books-holds : All Holds goodBooks
 unfolding computing
 good-books-holds = (refl, (refl, (refl, (refl, (refl, (refl, (refl, (refl, tt))))))))
 
-short-books-holds : All Holds shortBooks
+truncated-books-holds : All Holds truncatedBooks
 unfolding computing
-short-books-holds = (refl, (refl, (refl, (refl, (refl, (refl, tt))))))
+truncated-books-holds = (refl, (refl, (refl, (refl, (refl, (refl, tt))))))
 
-strange-books-holds : All Holds strangeBooks
+unknown-commands-holds : All Holds unknownCommands
 unfolding computing
-strange-books-holds = (refl, (refl, (refl, (refl, tt))))
+unknown-commands-holds = (refl, (refl, (refl, (refl, tt))))
 
 misplaced-books-holds : All Holds misplacedBooks
 unfolding computing
 misplaced-books-holds = (refl, (refl, (refl, (refl, (refl, (refl, (refl, (refl, (refl, (refl, (refl, (refl, (refl, (refl, tt))))))))))))))
 
-off-range-books-holds : All Holds offRangeBooks
+out-of-range-books-holds : All Holds outOfRangeBooks
 unfolding computing
-off-range-books-holds = (refl, (refl, (refl, (refl, (refl, (refl, (refl, (refl, (refl, (refl, (refl, (refl, (refl, (refl, (refl, tt)))))))))))))))
+out-of-range-books-holds = (refl, (refl, (refl, (refl, (refl, (refl, (refl, (refl, (refl, (refl, (refl, (refl, (refl, (refl, (refl, tt)))))))))))))))
 
-overtied-and-heavy-holds : All Holds overtiedAndHeavy
+too-many-tied-or-free-holds : All Holds tooManyTiedOrFree
 unfolding computing
-overtied-and-heavy-holds = (refl, (refl, (refl, (refl, tt))))
+too-many-tied-or-free-holds = (refl, (refl, (refl, (refl, tt))))
 
 first-faults-holds : All Holds firstFaults
 unfolding computing
@@ -64,4 +64,4 @@ hook-rows-holds = (refl, (refl, (refl, (refl, (refl, tt)))))
 -- the whole table
 pub table-holds : All (All Holds) table
 unfolding All table
-table-holds = (marked-holds, (marked-runs-holds, (queue-rows-holds, (good-books-holds, (short-books-holds, (strange-books-holds, (misplaced-books-holds, (off-range-books-holds, (overtied-and-heavy-holds, (first-faults-holds, (codec-rows-holds, (record-rows-holds, (lent-rows-holds, (hook-rows-holds, tt))))))))))))))
+table-holds = (marked-holds, (marked-runs-holds, (queue-rows-holds, (good-books-holds, (truncated-books-holds, (unknown-commands-holds, (misplaced-books-holds, (out-of-range-books-holds, (too-many-tied-or-free-holds, (first-faults-holds, (codec-rows-holds, (record-rows-holds, (lent-rows-holds, (hook-rows-holds, tt))))))))))))))

@@ -224,8 +224,8 @@ goodBooks =
     ∷ []
 
 -- 1, short: the book ends in a command, or where one is due
-unfoldable pub shortBooks : List Row
-shortBooks =
+unfoldable pub truncatedBooks : List Row
+truncatedBooks =
     loads [] (shape 1 0 0 0)
     ∷ loads ((0x10 ∷ [])) (shape 1 0 0 0)
     ∷ loads (size 2) (shape 1 0 0 0)
@@ -235,8 +235,8 @@ shortBooks =
     ∷ []
 
 -- 2, strange: a byte that is not listed, also where nothing may stand but the length
-unfoldable pub strangeBooks : List Row
-strangeBooks =
+unfoldable pub unknownCommands : List Row
+unknownCommands =
     loads ((0x20 ∷ [])) (shape 2 0 0 0)
     ∷ loads ((0x00 ∷ [])) (shape 2 0 0 0)
     ∷ loads (size 2 ++ (0x06 ∷ [])) (shape 2 0 0 0)
@@ -265,8 +265,8 @@ misplacedBooks =
 
 -- 4, off range: m; a count of 0, or past n; a tie or term that names no earlier index, or one twice; a block too long, at no multiple of its length, past n;
 -- a bias
-unfoldable pub offRangeBooks : List Row
-offRangeBooks =
+unfoldable pub outOfRangeBooks : List Row
+outOfRangeBooks =
     loads (size 1) (shape 4 0 0 0)
     ∷ loads (size 10) (shape 4 0 0 0)
     ∷ loads (size 2 ++ frees 0) (shape 4 0 0 0)
@@ -285,8 +285,8 @@ offRangeBooks =
     ∷ []
 
 -- 5, overtied, and 6, heavy
-unfoldable pub overtiedAndHeavy : List Row
-overtiedAndHeavy =
+unfoldable pub tooManyTiedOrFree : List Row
+tooManyTiedOrFree =
     loads (tiesBook 33) (shape 5 0 0 0)
     ∷ loads (tiesBook 33 ++ zeros 30) (shape 5 0 0 0)
     ∷ loads (size 4 ++ (frees 9 ++ (zeros 7 ++ block 4 0))) (shape 6 0 0 0)
@@ -396,11 +396,11 @@ table =
     ∷ markedRuns
     ∷ queueRows
     ∷ goodBooks
-    ∷ shortBooks
-    ∷ strangeBooks
+    ∷ truncatedBooks
+    ∷ unknownCommands
     ∷ misplacedBooks
-    ∷ offRangeBooks
-    ∷ overtiedAndHeavy
+    ∷ outOfRangeBooks
+    ∷ tooManyTiedOrFree
     ∷ firstFaults
     ∷ codecRows
     ∷ recordRows

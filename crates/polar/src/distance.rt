@@ -1,4 +1,5 @@
-// A word's discrepancy from soft values. Relies on values.rt; specs/Soft.antt says what it is.
+// A word's discrepancy from soft values. Relies on values.rt; specs/Soft.antt says what it is. No call of the library comes here: the decoder counts the
+// discrepancy along its path. It is for programs that hold a word of their own against received values.
 ghost use mathlib.Core.Path.{_≡_};
 ghost use Prim.Native.Nat.{_≤_};
 ghost use lib.ListN.{length};

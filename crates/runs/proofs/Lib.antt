@@ -5,3 +5,4 @@ pub mod Ends
 pub mod Alive
 pub mod Numbers
 pub mod Final
+pub mod Handed

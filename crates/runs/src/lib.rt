@@ -1,1 +1,1 @@
-// Laws of the plain machine's run: specs/ and proofs/.
+// Laws of the plain machine's run, and demand 2 of the decoding calls (specs/Handed.antt): specs/ and proofs/ alone.

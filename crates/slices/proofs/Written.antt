@@ -1,4 +1,4 @@
--- A slice of 4 is written whole where it is lent at its length; a choice by a length; the number of a misfit, by loading and the settings; and what the calls
+-- A slice of 4 is written whole where it is lent at its length; a choice by a length; the number of a mismatch, by loading and the settings; and what the calls
 -- answer by the lengths of counts and record. Assumes nothing.
 use mathlib.Core.Path.{_≡_, refl, sym, ap, ap₂, _∙_}
 use mathlib.Core.Bool.{Bool, true, false, cond, _&&_}
@@ -16,7 +16,7 @@ use Rattle.codebook.specs.Book.{Book}
 use Rattle.codebook.specs.Loading.{Load, load, refused, loaded}
 use Rattle.machine.specs.Calls.{Input, Lent, settingsOk, plainCall, hookCall}
 use Rattle.decoder.specs.Given.{given}
-use Rattle.slices.specs.Slices.{countsSlice, recordSlice, Answered, misfitWith, misfitNumber, misfit, plainAnswered, hookAnswered}
+use Rattle.slices.specs.Slices.{countsSlice, recordSlice, Answered, mismatchWith, mismatchNumber, mismatch, plainAnswered, hookAnswered}
 
 -- ---- a choice by a length
 
@@ -39,30 +39,30 @@ four (x ∷ y ∷ z ∷ w ∷ v ∷ vs) a b c d e = absurd (omega arith)
 pub fourth : (xs : List ℕ) (a b c : ℕ) → length xs ≡ 4 → 3 < length (set (set (set xs 0 a) 1 b) 2 c)
 fourth xs a b c e = omega (arith, e, length-set (set (set xs 0 a) 1 b) 2 c, length-set (set xs 0 a) 1 b, length-set xs 0 a)
 
--- ---- the number of a misfit
+-- ---- the number of a mismatch
 
 module _ (c : Input) where
-  pub misfit-book : (r : Refusal) → load (c .book) ≡ refused r → number r ≡ misfitNumber c
-  unfolding misfitNumber misfitWith
-  misfit-book r e = sym (ap (λ x. misfitWith x c) e)
+  pub mismatch-book : (r : Refusal) → load (c .book) ≡ refused r → number r ≡ mismatchNumber c
+  unfolding mismatchNumber mismatchWith
+  mismatch-book r e = sym (ap (λ x. mismatchWith x c) e)
 
   module _ (B : Book) (e : load (c .book) ≡ loaded B) where
-    by-settings : {s : Bool} → settingsOk c ≡ s → cond s (number Mismatch) (number BadSetting) ≡ misfitNumber c
-    unfolding misfitNumber misfitWith
-    by-settings p = sym (ap (λ x. misfitWith x c) e ∙ ap (λ (t : Bool). cond t (number Mismatch) (number BadSetting)) p)
+    by-settings : {s : Bool} → settingsOk c ≡ s → cond s (number Mismatch) (number BadSetting) ≡ mismatchNumber c
+    unfolding mismatchNumber mismatchWith
+    by-settings p = sym (ap (λ x. mismatchWith x c) e ∙ ap (λ (t : Bool). cond t (number Mismatch) (number BadSetting)) p)
 
-    pub misfit-setting : settingsOk c ≡ false → 8 ≡ misfitNumber c
-    misfit-setting p = by-settings p
+    pub mismatch-setting : settingsOk c ≡ false → 8 ≡ mismatchNumber c
+    mismatch-setting p = by-settings p
 
-    pub misfit-length : settingsOk c ≡ true → 7 ≡ misfitNumber c
-    misfit-length p = by-settings p
+    pub mismatch-length : settingsOk c ≡ true → 7 ≡ mismatchNumber c
+    mismatch-length p = by-settings p
 
 -- whatever the values
-pub misfit-values : (book : List ℕ) (L D limit : ℕ) (ys zs : List ℤ) → misfitNumber (given book L D limit ys) ≡ misfitNumber (given book L D limit zs)
-unfolding misfitNumber misfitWith settingsOk
-misfit-values book L D limit ys zs = go (load book)
+pub mismatch-values : (book : List ℕ) (L D limit : ℕ) (ys zs : List ℤ) → mismatchNumber (given book L D limit ys) ≡ mismatchNumber (given book L D limit zs)
+unfolding mismatchNumber mismatchWith settingsOk
+mismatch-values book L D limit ys zs = go (load book)
   where
-    go : (x : Load) → misfitWith x (given book L D limit ys) ≡ misfitWith x (given book L D limit zs)
+    go : (x : Load) → mismatchWith x (given book L D limit ys) ≡ mismatchWith x (given book L D limit zs)
     go (refused r) = refl
     go (loaded B) = refl
 
@@ -75,7 +75,7 @@ module _ (c : Input) (l : Lent) (counts hook : List ℕ) where
   unfolding plainAnswered
   plain-written e = at-length _ _ (length counts) 4 e
 
-  pub plain-left : (length counts ≡ 4 → ⊥) → plainAnswered c l counts ≡ misfit c l counts []
+  pub plain-left : (length counts ≡ 4 → ⊥) → plainAnswered c l counts ≡ mismatch c l counts []
   unfolding plainAnswered
   plain-left f = at-other _ _ (length counts) 4 f
 
@@ -92,13 +92,13 @@ module _ (c : Input) (l : Lent) (counts hook : List ℕ) where
 
   pub hook-written : length counts ≡ 4 → length hook ≡ 4 → hookAnswered c l counts hook ≡ both
   unfolding hookAnswered
-  hook-written e f = ap₂ (λ (a b : Bool). cond (a && b) both (misfit c l counts hook)) (eq-eqb (length counts) 4 e) (eq-eqb (length hook) 4 f)
+  hook-written e f = ap₂ (λ (a b : Bool). cond (a && b) both (mismatch c l counts hook)) (eq-eqb (length counts) 4 e) (eq-eqb (length hook) 4 f)
 
-  pub hook-left : (length counts ≡ 4 → length hook ≡ 4 → ⊥) → hookAnswered c l counts hook ≡ misfit c l counts hook
+  pub hook-left : (length counts ≡ 4 → length hook ≡ 4 → ⊥) → hookAnswered c l counts hook ≡ mismatch c l counts hook
   unfolding hookAnswered
   hook-left f = go (eqb (length counts) 4) (eqb (length hook) 4) (eqb→eq (length counts) 4) (eqb→eq (length hook) 4)
     where
-      go : (a b : Bool) → (T a → length counts ≡ 4) → (T b → length hook ≡ 4) → cond (a && b) both (misfit c l counts hook) ≡ misfit c l counts hook
+      go : (a b : Bool) → (T a → length counts ≡ 4) → (T b → length hook ≡ 4) → cond (a && b) both (mismatch c l counts hook) ≡ mismatch c l counts hook
       go true true p q = absurd (f (p tt) (q tt))
       go true false p q = refl
       go false b p q = refl

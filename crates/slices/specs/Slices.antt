@@ -22,13 +22,13 @@ unfoldable pub recordSlice : HookRecord → List ℕ
 recordSlice h = h .plant ∷ h .carcass ∷ h .side ∷ statusNumber (h .status) ∷ []
 
 -- the number where counts or record have a wrong length, by what loading comes to: the book's fault, then 8, then 7
-unfoldable pub misfitWith : Load → Input → ℕ
-misfitWith (refused r) c = number r
-misfitWith (loaded B) c = cond (settingsOk c) (number Mismatch) (number BadSetting)
+unfoldable pub mismatchWith : Load → Input → ℕ
+mismatchWith (refused r) c = number r
+mismatchWith (loaded B) c = cond (settingsOk c) (number Mismatch) (number BadSetting)
 
 -- that number of a call
-unfoldable pub misfitNumber : Input → ℕ
-misfitNumber c = misfitWith (load (c .book)) c
+unfoldable pub mismatchNumber : Input → ℕ
+mismatchNumber c = mismatchWith (load (c .book)) c
 
 -- a call's number, the buffers, and the slices of counts and record afterwards
 pub record Answered : Type 0 where
@@ -38,8 +38,8 @@ pub record Answered : Type 0 where
   pub hook : List ℕ
 
 -- the answer there: that number, and every buffer and slice as it was
-unfoldable pub misfit : Input → Lent → List ℕ → List ℕ → Answered
-misfit c l counts hook = record { number = misfitNumber c; lent = l; counts = counts; hook = hook }
+unfoldable pub mismatch : Input → Lent → List ℕ → List ℕ → Answered
+mismatch c l counts hook = record { number = mismatchNumber c; lent = l; counts = counts; hook = hook }
 
 -- the plain call, which has no record
 unfoldable pub plainAnswered : Input → Lent → List ℕ → Answered
@@ -47,7 +47,7 @@ plainAnswered c l counts =
     let w = plainCall c l in
     let written : Answered =
     record { number = outcomeNumber (w .answer .outcome); lent = w .lent; counts = countsSlice (w .answer .counts); hook = [] } in
-    cond (eqb (length counts) 4) written (misfit c l counts [])
+    cond (eqb (length counts) 4) written (mismatch c l counts [])
 
 -- the hook call
 unfoldable pub hookAnswered : Input → Lent → List ℕ → List ℕ → Answered
@@ -60,4 +60,4 @@ hookAnswered c l counts hook =
       counts = countsSlice (w .answer .counts);
       hook = recordSlice (w .answer .hook);
     } in
-    cond (eqb (length counts) 4 && eqb (length hook) 4) written (misfit c l counts hook)
+    cond (eqb (length counts) 4 && eqb (length hook) 4) written (mismatch c l counts hook)

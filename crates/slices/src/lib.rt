@@ -15,11 +15,11 @@ ghost use mathlib.Core.Path.{_≡_};
 ghost use mathlib.Core.List.{[]};
 ghost use lib.ListN.{length};
 ghost use Rattle.decoder.specs.Given.{given, lent};
-ghost use Rattle.slices.specs.Slices.{countsSlice, recordSlice, misfitNumber, plainAnswered, hookAnswered};
+ghost use Rattle.slices.specs.Slices.{countsSlice, recordSlice, mismatchNumber, plainAnswered, hookAnswered};
 
 // The number where counts or record have a wrong length.
-fn misfit_number(book: &[u8], visits: u32, paths: u32, limit: u32) -> u32
-    ensures { λ r. ⌜ r ≡ misfitNumber (given (now (book .entry)) visits paths limit []) ⌝ }
+fn mismatch_number(book: &[u8], visits: u32, paths: u32, limit: u32) -> u32
+    ensures { λ r. ⌜ r ≡ mismatchNumber (given (now (book .entry)) visits paths limit []) ⌝ }
 {
     let x = load(book);
     let outcome = x.outcome;
@@ -79,7 +79,7 @@ pub fn decode_slices(
         × (now (counts .exit) ≡ a .counts)) ⌝ }
 {
     if counts.len() != 4 {
-        return misfit_number(book, visits, paths, limit);
+        return mismatch_number(book, visits, paths, limit);
     }
     let x = decode(
         book,
@@ -126,10 +126,10 @@ pub fn decode_hook_slices(
         × (now (counts .exit) ≡ a .counts) × (now (hook .exit) ≡ a .hook)) ⌝ }
 {
     if counts.len() != 4 {
-        return misfit_number(book, visits, paths, limit);
+        return mismatch_number(book, visits, paths, limit);
     }
     if hook.len() != 4 {
-        return misfit_number(book, visits, paths, limit);
+        return mismatch_number(book, visits, paths, limit);
     }
     let x = decode_hook(
         book,

@@ -2,7 +2,7 @@
 use mathlib.Core.Path.{_∙_, sym, ap}
 use mathlib.Core.List.{[], _∷_}
 use Rattle.codebook.specs.Refusals.{outcomeNumber}
-use Rattle.capi.specs.Answers.{misfitNumber}
+use Rattle.capi.specs.Answers.{mismatchNumber}
 use Rattle.capi.proofs.Slices.{load-written, load-left, three}
 use borrow.Author.Needs.{needs}
 use Rattle.capi.proofs.saddlemint_load.Statement.{statement}
@@ -11,15 +11,15 @@ use Rattle.capi.proofs.saddlemint_load.Tie as tie
 load-requires : tie.Need-load-requires
 load-requires c κs = search needs
 
-misfit-number-requires : tie.Need-misfit-number-requires
-misfit-number-requires c κs = search needs
+mismatch-number-requires : tie.Need-mismatch-number-requires
+mismatch-number-requires c κs = search needs
 
 returns : tie.Need-returns
 returns c =
     let loads = c .before .before in
     let a = loads .before .before .before .args in
     let w = sym (load-left (a .book .now) (a .shape .now) (c .before .if1 .taken)) in
-    (c .misfit-number .ensures ∙ ap (λ s. misfitNumber (s .outcome)) (loads .load .ensures) ∙ ap (λ x. x .number) w, ap (λ x. x .slice) w)
+    (c .mismatch-number .ensures ∙ ap (λ s. mismatchNumber (s .outcome)) (loads .load .ensures) ∙ ap (λ x. x .number) w, ap (λ x. x .slice) w)
 
 slice-write-shape : tie.Need-slice-write-shape
 slice-write-shape c = search needs
@@ -52,7 +52,7 @@ saddlemint-load-spec =
     tie.close
     (tie.spec
     load-requires
-    misfit-number-requires
+    mismatch-number-requires
     returns
     slice-write-shape
     slice-write-shape-2

@@ -2,7 +2,7 @@
 use mathlib.Core.Path.{_∙_, sym, ap}
 use Rattle.codebook.specs.Refusals.{outcomeNumber}
 use Rattle.slices.specs.Slices.{recordSlice}
-use Rattle.capi.specs.Answers.{misfitNumber}
+use Rattle.capi.specs.Answers.{mismatchNumber}
 use Rattle.capi.proofs.Slices.{record-written, record-left}
 use borrow.Author.Needs.{needs}
 use Rattle.capi.proofs.saddlemint_read_record.Statement.{statement}
@@ -11,14 +11,14 @@ use Rattle.capi.proofs.saddlemint_read_record.Tie as tie
 load-requires : tie.Need-load-requires
 load-requires c κs = search needs
 
-misfit-number-requires : tie.Need-misfit-number-requires
-misfit-number-requires c κs = search needs
+mismatch-number-requires : tie.Need-mismatch-number-requires
+mismatch-number-requires c κs = search needs
 
 returns : tie.Need-returns
 returns c =
     let a = c .before .before .before .before .before .before .args in
     let w = sym (record-left (a .book .now) (a .bits .now) (a .hook .now) (c .before .before .if1 .taken)) in
-    (c .misfit-number .ensures ∙ ap (λ s. misfitNumber (s .outcome)) (c .before .load .ensures) ∙ ap (λ x. x .number) w, ap (λ x. x .slice) w)
+    (c .mismatch-number .ensures ∙ ap (λ s. mismatchNumber (s .outcome)) (c .before .load .ensures) ∙ ap (λ x. x .number) w, ap (λ x. x .slice) w)
 
 read-record-requires : tie.Need-read-record-requires
 read-record-requires c κs = search needs
@@ -46,7 +46,7 @@ saddlemint-read-record-spec =
     tie.close
     (tie.spec
     load-requires
-    misfit-number-requires
+    mismatch-number-requires
     returns
     read-record-requires
     put-hook-requires

@@ -7,8 +7,8 @@ use lib.ListN.{length}
 use Rattle.codebook.specs.Refusals.{outcomeNumber}
 use Rattle.machine.specs.Calls.{Input, Lent}
 use Rattle.decoder.specs.Given.{given, lent}
-use Rattle.slices.specs.Slices.{countsSlice, recordSlice, misfitNumber, misfit, hookAnswered}
-use Rattle.slices.proofs.Written.{misfit-values, hook-written, hook-left}
+use Rattle.slices.specs.Slices.{countsSlice, recordSlice, mismatchNumber, mismatch, hookAnswered}
+use Rattle.slices.proofs.Written.{mismatch-values, hook-written, hook-left}
 use borrow.Author.Needs.{needs}
 use Rattle.slices.proofs.decode_hook_slices.Statement.{statement}
 use Rattle.slices.proofs.decode_hook_slices.Tie as tie
@@ -24,30 +24,30 @@ buffers s =
 
 -- all is kept, where a length is wrong
 left : (s : tie.Start) {r : ℕ} → let a = s .args in
-    r ≡ misfitNumber (given (a .book .now) (a .visits) (a .paths) (a .limit) []) → (length (a .counts .now) ≡ 4 → length (a .hook .now) ≡ 4 → ⊥)
+    r ≡ mismatchNumber (given (a .book .now) (a .visits) (a .paths) (a .limit) []) → (length (a .counts .now) ≡ 4 → length (a .hook .now) ≡ 4 → ⊥)
     → let x = hookAnswered (input s) (buffers s) (a .counts .now) (a .hook .now) in
     (r ≡ x .number) × (buffers s ≡ x .lent) × (a .counts .now ≡ x .counts) × (a .hook .now ≡ x .hook)
-unfolding misfit
+unfolding mismatch
 left s e f =
     let a = s .args in
     let w = sym (hook-left (input s) (buffers s) (a .counts .now) (a .hook .now) f) in (
-      e ∙ misfit-values (a .book .now) (a .visits) (a .paths) (a .limit) [] (a .values .now) ∙ ap (λ x. x .number) w,
+      e ∙ mismatch-values (a .book .now) (a .visits) (a .paths) (a .limit) [] (a .values .now) ∙ ap (λ x. x .number) w,
       ap (λ x. x .lent) w,
       ap (λ x. x .counts) w,
       ap (λ x. x .hook) w,
     )
 
-misfit-number-requires : tie.Need-misfit-number-requires
-misfit-number-requires c κs = search needs
+mismatch-number-requires : tie.Need-mismatch-number-requires
+mismatch-number-requires c κs = search needs
 
 returns : tie.Need-returns
-returns c = left (c .before .before .before .before .before .before .before .before) (c .misfit-number .ensures) (λ e _. c .before .if1 .taken e)
+returns c = left (c .before .before .before .before .before .before .before .before) (c .mismatch-number .ensures) (λ e _. c .before .if1 .taken e)
 
-misfit-number-requires-2 : tie.Need-misfit-number-requires-2
-misfit-number-requires-2 c κs = search needs
+mismatch-number-requires-2 : tie.Need-mismatch-number-requires-2
+mismatch-number-requires-2 c κs = search needs
 
 returns-2 : tie.Need-returns-2
-returns-2 c = left (c .before .before .before .before .before .before .before .before .before) (c .misfit-number2 .ensures) (λ _ e. c .before .if2 .taken e)
+returns-2 c = left (c .before .before .before .before .before .before .before .before .before) (c .mismatch-number2 .ensures) (λ _ e. c .before .if2 .taken e)
 
 decode-hook-requires : tie.Need-decode-hook-requires
 decode-hook-requires c κs = search needs
@@ -105,9 +105,9 @@ pub decode-hook-slices-spec : {M : Type 1} → statement M
 decode-hook-slices-spec =
     tie.close
     (tie.spec
-    misfit-number-requires
+    mismatch-number-requires
     returns
-    misfit-number-requires-2
+    mismatch-number-requires-2
     returns-2
     decode-hook-requires
     put-counts-requires

@@ -4,8 +4,8 @@ use mathlib.Core.List.{[]}
 use Rattle.codebook.specs.Refusals.{outcomeNumber}
 use Rattle.machine.specs.Calls.{Input, Lent}
 use Rattle.decoder.specs.Given.{given, lent}
-use Rattle.slices.specs.Slices.{countsSlice, misfit}
-use Rattle.slices.proofs.Written.{misfit-values, plain-written, plain-left}
+use Rattle.slices.specs.Slices.{countsSlice, mismatch}
+use Rattle.slices.proofs.Written.{mismatch-values, plain-written, plain-left}
 use borrow.Author.Needs.{needs}
 use Rattle.slices.proofs.decode_slices.Statement.{statement}
 use Rattle.slices.proofs.decode_slices.Tie as tie
@@ -19,16 +19,16 @@ buffers s =
     let a = s .args in
     lent (a .word .now) (a .bits .now) (a .numbers .now) (a .bytes .now) (a .walk-path .now) (a .walk-blocks .now) (a .walk-score .now)
 
-misfit-number-requires : tie.Need-misfit-number-requires
-misfit-number-requires c κs = search needs
+mismatch-number-requires : tie.Need-mismatch-number-requires
+mismatch-number-requires c κs = search needs
 
 returns : tie.Need-returns
-unfolding misfit
+unfolding mismatch
 returns c =
     let s = c .before .before .before .before .before .before .before in
     let a = s .args in
     let w = sym (plain-left (input s) (buffers s) (a .counts .now) [] (c .before .if1 .taken)) in (
-      c .misfit-number .ensures ∙ misfit-values (a .book .now) (a .visits) (a .paths) (a .limit) [] (a .values .now) ∙ ap (λ x. x .number) w,
+      c .mismatch-number .ensures ∙ mismatch-values (a .book .now) (a .visits) (a .paths) (a .limit) [] (a .values .now) ∙ ap (λ x. x .number) w,
       ap (λ x. x .lent) w,
       ap (λ x. x .counts) w,
     )
@@ -82,7 +82,7 @@ pub decode-slices-spec : {M : Type 1} → statement M
 decode-slices-spec =
     tie.close
     (tie.spec
-    misfit-number-requires
+    mismatch-number-requires
     returns
     decode-requires
     put-counts-requires

@@ -16,7 +16,7 @@ use Rattle.codebook.specs.Book.{freeCount}
 use Rattle.codec.specs.Code.{fill, encode}
 use Rattle.codec.specs.Tabled.{Tabled}
 use Rattle.codec.proofs.Fill.{fill-after}
-use Rattle.codec.proofs.Told.{Known, sizes-refused, sizes-known, both-fit, are-bits, told, encode-refused, encode-misfit, encode-bad, encode-good}
+use Rattle.codec.proofs.Told.{Known, sizes-refused, sizes-known, both-fit, are-bits, told, encode-refused, encode-mismatch, encode-bad, encode-good}
 use Rattle.codec.proofs.call.encode.Statement.{statement}
 use Rattle.codec.proofs.call.encode.Tie as tie
 
@@ -83,7 +83,7 @@ returns-2 c =
     let t = c .before in
     let K = known (t .before) in
     let a = start (t .before .before .before) .args in
-    told _ (a .word .now) (encode-misfit (a .book .now) (a .bits .now) (a .word .now) (K .is) (K .loads) (fits t) (not-true _ (c .if1 .taken)))
+    told _ (a .word .now) (encode-mismatch (a .book .now) (a .bits .now) (a .word .now) (K .is) (K .loads) (fits t) (not-true _ (c .if1 .taken)))
 
 are-bits-requires : tie.Need-are-bits-requires
 are-bits-requires c κs = search needs

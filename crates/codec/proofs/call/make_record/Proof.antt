@@ -8,7 +8,7 @@ use lib.Dec.{eqb}
 use Rattle.codebook.specs.declared.Outcome.the-variants.{Done}
 use Rattle.codebook.specs.Book.{Book, freeCount}
 use Rattle.codebook.specs.Loading.{load, loaded}
-use Rattle.codec.proofs.Told.{shape-refused, shape-known, both-fit, told, make-refused, make-misfit, make-bad, make-good}
+use Rattle.codec.proofs.Told.{shape-refused, shape-known, both-fit, told, make-refused, make-mismatch, make-bad, make-good}
 use Rattle.codec.proofs.call.make_record.Statement.{statement}
 use Rattle.codec.proofs.call.make_record.Tie as tie
 
@@ -63,7 +63,7 @@ returns-2 c =
     let t = c .before in
     let K = known (t .before .before) in
     let a = start (t .before .before .before .before) .args in
-    told _ (a .bits .now) (make-misfit (a .book .now) (a .bits .now) (K .0) (K .1) (fits t) (a .h) (not-true _ (c .if1 .taken)))
+    told _ (a .bits .now) (make-mismatch (a .book .now) (a .bits .now) (K .0) (K .1) (fits t) (a .h) (not-true _ (c .if1 .taken)))
 
 record-fits-requires : tie.Need-record-fits-requires
 record-fits-requires c κs = search needs

@@ -14,7 +14,7 @@ use Rattle.codebook.specs.declared.Outcome.the-variants.{Done}
 use Rattle.codebook.specs.Book.{freeCount}
 use Rattle.codec.specs.Code.{freeBits, readData}
 use Rattle.codec.specs.Tabled.{Tabled}
-use Rattle.codec.proofs.Told.{Known, known-small, sizes-refused, sizes-known, zeros-part, both-fit, are-bits, told, read-refused, read-misfit, read-bad, read-good}
+use Rattle.codec.proofs.Told.{Known, known-small, sizes-refused, sizes-known, zeros-part, both-fit, are-bits, told, read-refused, read-mismatch, read-bad, read-good}
 use Rattle.codec.proofs.call.read_data.Statement.{statement}
 use Rattle.codec.proofs.call.read_data.Tie as tie
 
@@ -79,7 +79,7 @@ returns-2 c =
     let t = c .before in
     let K = known (t .before) in
     let a = start (t .before .before .before) .args in
-    told _ (a .bits .now) (read-misfit (a .book .now) (a .bits .now) (a .word .now) (K .is) (K .loads) (fits t) (not-true _ (c .if1 .taken)))
+    told _ (a .bits .now) (read-mismatch (a .book .now) (a .bits .now) (a .word .now) (K .is) (K .loads) (fits t) (not-true _ (c .if1 .taken)))
 
 are-bits-requires : tie.Need-are-bits-requires
 are-bits-requires c κs = search needs

@@ -7,7 +7,7 @@ use lib.ListN.{length}
 use lib.Dec.{eqb}
 use Rattle.codebook.specs.Book.{Book, freeCount}
 use Rattle.codebook.specs.Loading.{load, loaded}
-use Rattle.codec.proofs.Told.{shape-refused, shape-known, both-fit, are-bits, record-refused, record-misfit, record-bad, record-good}
+use Rattle.codec.proofs.Told.{shape-refused, shape-known, both-fit, are-bits, record-refused, record-mismatch, record-bad, record-good}
 use Rattle.codec.proofs.call.read_record.Statement.{statement}
 use Rattle.codec.proofs.call.read_record.Tie as tie
 
@@ -74,7 +74,7 @@ returns-2 c =
     let t = c .before .before in
     let K = known (t .before .before) in
     let a = start (t .before .before .before .before) .args in
-    c .not-read2 .ensures ∙ record-misfit (a .book .now) (a .bits .now) (K .0) (K .1) (fits t) (not-true _ (c .before .if1 .taken))
+    c .not-read2 .ensures ∙ record-mismatch (a .book .now) (a .bits .now) (K .0) (K .1) (fits t) (not-true _ (c .before .if1 .taken))
 
 returns-3 : tie.Need-returns-3
 returns-3 c =

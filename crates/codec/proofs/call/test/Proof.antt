@@ -12,7 +12,7 @@ use Rattle.codec.specs.declared.Tested.the-variants.{InCode, NotInCode}
 use Rattle.codec.specs.Code.{obeysAll, inCode}
 use Rattle.codec.specs.Tabled.{Tabled}
 use Rattle.codec.specs.Calls.{testCall}
-use Rattle.codec.proofs.Told.{Known, known-small, sizes-refused, sizes-known, zeros-part, are-bits, test-refused, test-misfit, test-bad, test-good}
+use Rattle.codec.proofs.Told.{Known, known-small, sizes-refused, sizes-known, zeros-part, are-bits, test-refused, test-mismatch, test-bad, test-good}
 use Rattle.codec.proofs.call.test.Statement.{statement}
 use Rattle.codec.proofs.call.test.Tie as tie
 
@@ -77,7 +77,7 @@ returns-2 c =
     let t = c .before .before in
     let K = known t in
     let a = start (t .before .before) .args in
-    test-misfit (a .book .now) (a .word .now) (K .is) (K .loads) (λ e. c .if1 .taken (e ∙ sym (K .size)))
+    test-mismatch (a .book .now) (a .word .now) (K .is) (K .loads) (λ e. c .if1 .taken (e ∙ sym (K .size)))
 
 are-bits-requires : tie.Need-are-bits-requires
 are-bits-requires c κs = search needs

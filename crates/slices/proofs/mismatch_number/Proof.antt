@@ -1,14 +1,14 @@
--- `slices::misfit_number` meets its contract: by loading's outcome and the check of the settings. Assumes nothing.
+-- `slices::mismatch_number` meets its contract: by loading's outcome and the check of the settings. Assumes nothing.
 use mathlib.Core.Path.{sym, _∙_}
 use mathlib.Core.List.{[]}
 use Rattle.codec.proofs.Told.{shape-refused, shape-known}
 use Rattle.checks.proofs.Admitted.{none-made, these-made}
 use Rattle.checks.proofs.Fitting.{settings-fit}
 use Rattle.decoder.specs.Given.{given}
-use Rattle.slices.proofs.Written.{misfit-book, misfit-setting, misfit-length}
+use Rattle.slices.proofs.Written.{mismatch-book, mismatch-setting, mismatch-length}
 use borrow.Author.Needs.{needs}
-use Rattle.slices.proofs.misfit_number.Statement.{statement}
-use Rattle.slices.proofs.misfit_number.Tie as tie
+use Rattle.slices.proofs.mismatch_number.Statement.{statement}
+use Rattle.slices.proofs.mismatch_number.Tie as tie
 
 load-requires : tie.Need-load-requires
 load-requires c κs = search needs
@@ -26,7 +26,7 @@ returns c =
     let a = l .before .before .args in
     let o = k .outcome .given in
     c .refusal-number .ensures
-    ∙ misfit-book (given (a .book .now) (a .visits) (a .paths) (a .limit) []) (o .0 .0) (shape-refused (a .book .now) (l .load .result) (o .0 .0) (l .load .ensures) (o .1))
+    ∙ mismatch-book (given (a .book .now) (a .visits) (a .paths) (a .limit) []) (o .0 .0) (shape-refused (a .book .now) (l .load .result) (o .0 .0) (l .load .ensures) (o .1))
 
 enum-told : tie.Need-enum-told
 enum-told c = search needs
@@ -47,7 +47,7 @@ returns-2 c =
     let l = t .before .before in
     let a = l .before .before .args in
     let (B, e, _) = shape-known (a .book .now) (l .load .result) (l .load .ensures) (t .enum-told .given .1) in
-    misfit-setting (given (a .book .now) (a .visits) (a .paths) (a .limit) []) B e
+    mismatch-setting (given (a .book .now) (a .visits) (a .paths) (a .limit) []) B e
     (sym (settings-fit (given (a .book .now) (a .visits) (a .paths) (a .limit) []))
     ∙ none-made (a .visits) (a .paths) (a .limit) (c .enum-told2 .given .0 .0) (sym (s .checked .ensures) ∙ c .enum-told2 .given .1))
 
@@ -59,12 +59,12 @@ returns-3 c =
     let l = t .before .before in
     let a = l .before .before .args in
     let (B, e, _) = shape-known (a .book .now) (l .load .result) (l .load .ensures) (t .enum-told .given .1) in
-    misfit-length (given (a .book .now) (a .visits) (a .paths) (a .limit) []) B e
+    mismatch-length (given (a .book .now) (a .visits) (a .paths) (a .limit) []) B e
     (sym (settings-fit (given (a .book .now) (a .visits) (a .paths) (a .limit) []))
     ∙ these-made (a .visits) (a .paths) (a .limit) (k .s .given .0 .0) (sym (s .checked .ensures) ∙ k .s .given .1) .0)
 
-pub misfit-number-spec : {M : Type 1} → statement M
-misfit-number-spec =
+pub mismatch-number-spec : {M : Type 1} → statement M
+mismatch-number-spec =
     tie.close
     (tie.spec
     load-requires
