@@ -3,27 +3,25 @@
 -- the path's being fit, and each view as the code makes it is the definition's, by the laws of the next block (reader). Assumes nothing.
 use mathlib.Core.Path.{_≡_, refl, sym, ap, ap₂, _∙_, subst, subst₂}
 use mathlib.Core.List.{List, _∷_}
-use Prim.Native.Nat.{ℕ, zero, suc, _-_, _^_, _≤_, _<_}
+use Prim.Native.Nat.{ℕ, zero, suc, _-_, _≤_, _<_}
 use native.Mathlib.Omega.{arith}
 use lib.ListN.{length}
-use Rattle.laws.specs.Pairs.{Paired}
 use Rattle.codebook.specs.Book.{Book, startOf, blockAt}
 use Rattle.outer.proofs.Blocks.{Placed, placed}
-use Rattle.reader.specs.Arrays.{View, sumsOf, putSums, claim, descend, joined, byP}
-use Rattle.reader.specs.Paths.{lastWord, place, idsOf, viewOf}
+use Rattle.reader.specs.Arrays.{View, claim, descend, byP}
+use Rattle.reader.specs.Paths.{place, idsOf, viewOf}
 use Rattle.reader.specs.Reader.{commit, downTo, nextView}
 use Rattle.reader.specs.Fit.{Fit, FitFirst, FitFor}
 use Rattle.reader.proofs.Descent.{turn-place, place-most}
-use Rattle.reader.proofs.Next.{last-bits, join-ready, turn-ready, down-ready, commit-word, down-first, down-later, claim-ready}
+use Rattle.reader.proofs.Next.{turn-ready, down-ready, down-first, down-later, claim-ready}
 use Rattle.order.specs.Entries.{slotAt}
-use Rattle.heights.specs.Workspace.{bitsOf}
-use Rattle.heights.proofs.Words.{bits-back}
 use Rattle.standing.specs.Seen.{Memory, Lent, Seen, Viewed, Turned, IdsOnly}
-use Rattle.standing.specs.Standing.{cell, Stands, InHand, withIds}
-use Rattle.standing.proofs.Views.{stands-seen, stands-view}
-use Rattle.views.specs.Steps.{Upper, Turning, Joinable, Claimable}
+use Rattle.standing.specs.Standing.{Stands, InHand, withIds}
+use Rattle.standing.proofs.Views.{stands-view}
+use Rattle.views.specs.Steps.{Upper, Turning, Claimable}
 use Rattle.words.specs.declared.Block.{Block}
-use Rattle.steps.specs.Steps.{BlockIs, Moving}
+use Rattle.steps.specs.Steps.{BlockIs, Last, committed, Moving}
+use Rattle.steps.proofs.Commits.{own-seen}
 
 -- ---- what the path in hand sees
 
@@ -36,19 +34,12 @@ module _ {m N : ℕ} {x : Memory} {e : ℕ} {es vs : List ℕ} (h : InHand m N x
   abbrev pub ownView : View
   ownView = viewOf (h .arrays) (h .taken)
 
-  -- once its last word is in the sums
-  abbrev pub committed : View
-  committed = commit (h .book) (idsOf (h .rest)) (h .taken) (h .taken .blocks) (viewOf (h .arrays) (h .taken))
-
   -- once the values of its next block are there
   abbrev pub reached : View
   reached = downTo (h .book) (idsOf (h .rest)) (h .arrays) (h .taken) (h .taken .blocks)
 
 module _ {m N : ℕ} {x : Memory} {e : ℕ} {es vs : List ℕ} {last at : Block} (c : Moving m N x e es vs last at) {s : ℕ} (is : s ≡ slotAt e) where
-  -- it sees its own view; its next block lies within
-  own-seen : Seen m N s x (away (c .hand)) (ownView (c .hand))
-  own-seen = subst₂ (λ n t. Seen n N t x (away (c .hand)) (ownView (c .hand))) (c .hand .deep) (sym is) (stands-seen (c .hand .stands))
-
+  -- its next block lies within
   pub next-heights : (at .height ≤ m) × (at .place ≤ m)
   next-heights =
       let B : Book = c .hand .book in
@@ -79,7 +70,7 @@ module _ {m N : ℕ} {x : Memory} {e : ℕ} {es vs : List ℕ} {last at : Block}
         subst (λ n. Upper n (ownView h)) (h .deep) (record { has = f .has; range = f .root })
 
     pub first-viewed : Viewed m N s x (Upper m)
-    first-viewed = record { others = away (c .hand); view = ownView (c .hand); seen = own-seen; met = first-upper }
+    first-viewed = record { others = away (c .hand); view = ownView (c .hand); seen = own-seen (c .hand) is; met = first-upper }
 
     pub first-seen : (y : Memory) → Turned m N s x y (Upper m) (λ others v. descend others (m - at .height) m 0 v) →
         Seen m N s y (away (c .hand)) (reached (c .hand))
@@ -94,13 +85,13 @@ module _ {m N : ℕ} {x : Memory} {e : ℕ} {es vs : List ℕ} {last at : Block}
         ∙ ap (λ j. descend o (B .m - j) (B .m) 0 v) (c .next .height ∙ ap (λ b. blockAt B b .j) first-is)
         ∙ sym (down-first B o (h .arrays) (h .taken))
         ∙ ap (downTo B o (h .arrays) (h .taken)) (sym first-is))
-        (t o v own-seen first-upper)
+        (t o v (own-seen h is) first-upper)
 
   -- ---- to a later block
 
   module _ (n : at .start ≡ 0 → ⊥) where
     -- it has a last block, b, which is `last`
-    later : (b : ℕ) × (c .hand .taken .blocks ≡ suc b)
+    pub later : (b : ℕ) × (c .hand .taken .blocks ≡ suc b)
     unfolding startOf
     later = go (c .hand .taken .blocks) refl
       where
@@ -115,6 +106,9 @@ module _ {m N : ℕ} {x : Memory} {e : ℕ} {es vs : List ℕ} {last at : Block}
     unfolding FitFor
     last-fit = subst (FitFor (c .hand .book) (c .hand .arrays) (c .hand .taken)) (later .1) (c .fit)
 
+    pub later-own : Last (c .hand) last (later .0)
+    later-own = record { blocks = later .1; block = last-is; fit = last-fit }
+
     more : suc (later .0) < length (c .hand .book .blocks)
     more = omega (arith, later .1, c .next .within)
 
@@ -126,43 +120,6 @@ module _ {m N : ℕ} {x : Memory} {e : ℕ} {es vs : List ℕ} {last at : Block}
           omega (arith, t .less, last-is .word, c .hand .deep),
           omega (arith, t .next, last-is .word, c .next .height, ap (λ b. blockAt B b .j) (later .1)),
         )
-
-    -- the sums that its word is joined with are there
-    own-joinable : Joinable (last .height) (last .place) (ownView (c .hand))
-    unfolding Joinable
-    own-joinable = λ k a d.
-        join-ready (c .hand .book) (c .valid) (c .hand .arrays) (c .hand .taken) (later .0) last-fit k (omega (arith, last-is .height)) (omega (arith, last-is .word))
-
-    pub later-viewed : Viewed m N s x (Joinable (last .height) (last .place))
-    later-viewed = record { others = away (c .hand); view = ownView (c .hand); seen = own-seen; met = own-joinable }
-
-    -- the word that the row holds, as bits
-    word-bits : (w : ℕ) → w ≡ cell (x .rows) s 12 → bitsOf (2 ^ (blockAt (c .hand .book) (later .0) .j)) w ≡ lastWord (c .hand .book) (c .hand .taken) (later .0)
-    unfolding Paired
-    word-bits w i =
-        let h : InHand m N x e es vs = c .hand in
-        let b : ℕ = later .0 in
-        let l = last-bits (h .book) (c .valid) (h .arrays) (h .taken) b last-fit in
-        ap₂ bitsOf (sym (l .0)) (i ∙ ap (λ t. cell (x .rows) t 12) is ∙ h .stands .queue .0 .row .word b (later .1))
-        ∙ bits-back (lastWord (h .book) (h .taken) b) (l .1)
-
-    -- the word is in the sums
-    pub commit-seen : (y : Memory) (w : ℕ) → w ≡ cell (x .rows) s 12 →
-        Turned m N s x y (Joinable (last .height) (last .place))
-        (λ others v. putSums others (last .place) (joined (sumsOf v) (last .height) (last .place - last .height) (bitsOf (2 ^ last .height) w)) v) →
-        Seen m N s y (away (c .hand)) (committed (c .hand))
-    unfolding Turned
-    commit-seen y w i t =
-        let h : InHand m N x e es vs = c .hand in
-        let B : Book = h .book in
-        let o : List (ℕ → ℕ) = away h in
-        let v : View = ownView h in
-        let b : ℕ = later .0 in
-        subst (λ u. Seen m N s y o u)
-        (ap₂ (λ j k. putSums o k (joined (sumsOf v) j (k - j) (bitsOf (2 ^ j) w)) v) (last-is .height) (last-is .word)
-        ∙ commit-word B o (h .taken) v b (bitsOf (2 ^ (blockAt B b .j)) w) (word-bits w i)
-        ∙ ap (λ k. commit B o (h .taken) k v) (sym (later .1)))
-        (t o v own-seen own-joinable)
 
     -- the turn: what P needs, and what it leaves
     pub committed-turning : Turning (last .place) (committed (c .hand))

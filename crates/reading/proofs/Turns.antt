@@ -31,12 +31,12 @@ use Rattle.words.specs.declared.Kept.{Kept}
 use Rattle.words.specs.Kept.{KeptIs}
 use Rattle.steps.specs.declared.Setting.{Setting}
 use Rattle.steps.specs.declared.Tally.{Tally}
-use Rattle.steps.specs.Steps.{BlockIs}
+use Rattle.steps.specs.Steps.{BlockIs, committed}
 use Rattle.reading.specs.declared.Ran.{Ran}
 use Rattle.start.specs.Start.{firstHeld, Tables}
 use Rattle.reading.specs.Running.{arraysOf, Running, RanIs}
 use Rattle.extraction.specs.Extraction.{Extracting}
-use Rattle.reading.specs.Ending.{Ending, lastView}
+use Rattle.reading.specs.Ending.{Ending}
 use Rattle.reading.proofs.First.{first-stands}
 use Rattle.reading.proofs.Walks.{Walks, Long, Noted}
 use Rattle.extraction.proofs.Counts.{blocks-few}
@@ -219,8 +219,8 @@ module _ {s : Setting} {values : List ℤ} {kinds terms heights starts : List �
       -- what the run answers
       pub run-ran : (r : Ran) (bytes : List ℕ) → (r .extractions ≡ t .extractions + 1) × (r .crowded ≡ t .crowded) × (r .outrun ≡ t .outrun) →
           (r .discrepancy ≡ g .taken .spent + g .taken .cost) × Id (s .paths) (r .id)
-          × (part (spot (s .m) (r .id) (s .m)) (2 ^ (s .m)) bytes ≡ sumsOf (lastView run-hand) (s .m)) → RanIs (s .m) (s .paths) whole r bytes
-      unfolding R.stopped lastView
+          × (part (spot (s .m) (r .id) (s .m)) (2 ^ (s .m)) bytes ≡ sumsOf (committed run-hand) (s .m)) → RanIs (s .m) (s .paths) whole r bytes
+      unfolding R.stopped
       run-ran r bytes n w =
           let B : Book = c .book in
           let word : List ℕ = sumsOf (R.commit B (idsOf (g .rest)) (g .taken) (g .taken .blocks) (viewOf (g .arrays) (g .taken))) (B .m) in

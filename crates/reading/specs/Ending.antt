@@ -4,9 +4,6 @@ use mathlib.Core.List.{List}
 use Prim.Native.Nat.{ℕ, suc}
 use lib.ListN.{length}
 use Rattle.codebook.specs.Limits.{Valid}
-use Rattle.reader.specs.Arrays.{View}
-use Rattle.reader.specs.Paths.{idsOf, viewOf}
-use Rattle.reader.specs.Reader.{commit}
 use Rattle.standing.specs.Seen.{Memory}
 use Rattle.standing.specs.Standing.{InHand}
 use Rattle.words.specs.declared.Block.{Block}
@@ -19,7 +16,3 @@ pub record Ending (m N : ℕ) (x : Memory) (e : ℕ) (es vs : List ℕ) (last : 
   pub b : ℕ
   pub own : Last hand last b
   pub whole : suc b ≡ length (hand .book .blocks)
-
--- what it sees once its last word is in the sums
-unfoldable pub lastView : {m N : ℕ} {x : Memory} {e : ℕ} {es vs : List ℕ} → InHand m N x e es vs → View
-lastView h = commit (h .book) (idsOf (h .rest)) (h .taken) (h .taken .blocks) (viewOf (h .arrays) (h .taken))

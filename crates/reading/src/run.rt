@@ -11,7 +11,8 @@ ghost use Rattle.reader.specs.Arrays.{sumsOf};
 ghost use Rattle.reader.specs.Reader as R;
 ghost use Rattle.heights.specs.Workspace.{spot, Room, Id};
 ghost use Rattle.standing.specs.Seen.{memory, Lent};
-ghost use Rattle.reading.specs.Ending.{Ending, lastView};
+ghost use Rattle.steps.specs.Steps.{committed};
+ghost use Rattle.reading.specs.Ending.{Ending};
 ghost use Rattle.reading.specs.Running.{arraysOf, received, Running, RanIs};
 use crate::Ran;
 use extraction::extract::extract;
@@ -69,7 +70,7 @@ fn finish(
     ensures { λ r. ⌜ (r .extractions ≡ t .extractions + 1) × (r .crowded ≡ t .crowded) × (r .outrun ≡ t .outrun) ⌝ }
     ensures { λ r. ⌜ ((es vs : List ℕ) (c : Ending (s .m) (s .paths) (memory (now (rows .entry)) (now (holders .entry)) (now (numbers .entry)) (now (bytes .entry))) e es vs last)
         → (r .discrepancy ≡ c .hand .taken .spent + c .hand .taken .cost) × Id (s .paths) (r .id)
-        × (part (spot (s .m) (r .id) (s .m)) (2 ^ (s .m)) (now (bytes .exit)) ≡ sumsOf (lastView (c .hand)) (s .m))) ⌝ }
+        × (part (spot (s .m) (r .id) (s .m)) (2 ^ (s .m)) (now (bytes .exit)) ≡ sumsOf (committed (c .hand)) (s .m))) ⌝ }
 {
     let m = s.m;
     let slot = slot_of(e);

@@ -14,8 +14,9 @@ use Rattle.codec.specs.Ties.{fillBlock}
 use Rattle.outer.specs.declared.Candidate.{Candidate}
 use Rattle.outer.specs.Words.{Word, nextAfter}
 use Rattle.outer.specs.Blocks.{candidateOf}
-use Rattle.reader.specs.Arrays.{Arrays, valsOf}
-use Rattle.reader.specs.Paths.{Path, ownWord, place, viewOf}
+use Rattle.reader.specs.Arrays.{Arrays, View, valsOf}
+use Rattle.reader.specs.Paths.{Path, ownWord, place, idsOf, viewOf}
+use Rattle.reader.specs.Reader.{commit}
 use Rattle.reader.specs.Fit.{Fit, FitFor}
 use Rattle.standing.specs.Seen.{Memory}
 use Rattle.standing.specs.Standing.{Stands, InHand}
@@ -41,6 +42,10 @@ pub record Last {m N : ℕ} {x : Memory} {e : ℕ} {es vs : List ℕ} (c : InHan
   pub blocks : c .taken .blocks ≡ suc b
   pub block : BlockIs (c .book) b last
   pub fit : Fit (c .book) (c .arrays) (c .taken) b
+
+-- what the path in hand sees once its last word is in the sums
+abbrev pub committed : {m N : ℕ} {x : Memory} {e : ℕ} {es vs : List ℕ} → InHand m N x e es vs → View
+committed h = commit (h .book) (idsOf (h .rest)) (h .taken) (h .taken .blocks) (viewOf (h .arrays) (h .taken))
 
 -- ---- the copy
 

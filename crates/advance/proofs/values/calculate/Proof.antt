@@ -11,8 +11,9 @@ use Rattle.reader.specs.Arrays.{byP}
 use Rattle.standing.specs.Seen.{Memory, memory, Seen, Turned, IdsOnly}
 use Rattle.standing.specs.Standing.{cell}
 use Rattle.views.proofs.Seeing.{ids-on}
-use Rattle.steps.specs.Steps.{Moving}
-use Rattle.advance.proofs.Onward.{away, committed, reached, next-heights, first-viewed, first-seen, later-heights, later-viewed, commit-seen, committed-turning, turned-upper, down-seen, reached-claimable, claimed-stands, Gone}
+use Rattle.steps.specs.Steps.{committed, Moving}
+use Rattle.steps.proofs.Commits.{own-viewed, commit-seen}
+use Rattle.advance.proofs.Onward.{away, reached, next-heights, first-viewed, first-seen, later-own, later-heights, committed-turning, turned-upper, down-seen, reached-claimable, claimed-stands, Gone}
 use Rattle.advance.proofs.values.calculate.Statement.{statement}
 use Rattle.advance.proofs.values.calculate.Tie as tie
 
@@ -53,7 +54,7 @@ commit-requires c κs =
     let r = t .before .before .slot-of .ensures in
     let h = s .pre .1 .2 in
     let l = later-heights h (r .0) (t .if1 .left) in
-    ((s .pre .0, r .1, l .0, omega arith), later-viewed h (r .0) (t .if1 .left))
+    ((s .pre .0, r .1, l .0, omega arith), own-viewed (h .hand) (r .0) (h .valid) (later-own h (r .0) (t .if1 .left)))
 
 -- the way to a later block: where it began, and the last word in the sums
 abbrev start : tie.After-commit → tie.Start
@@ -71,7 +72,9 @@ summed u = memory (u .commit .last .0) (u .commit .last .1 .0) (start u .args .n
 sum-seen : (u : tie.After-commit) {es vs : List ℕ} (c : Hand (start u) es vs) →
     Seen (start u .args .m) (start u .args .paths) (chosen u .slot-of .result) (summed u) (away (c .hand)) (committed (c .hand))
 unfolding memory cell
-sum-seen u c = commit-seen c (chosen u .slot-of .ensures .0) (left u .if1 .left) (summed u) _ refl (u .commit .ensures .1)
+sum-seen u c =
+    let r = chosen u .slot-of .ensures .0 in
+    commit-seen (c .hand) r (c .valid) (later-own c r (left u .if1 .left)) (summed u) _ refl (u .commit .ensures .1)
 
 turn-over-requires : tie.Need-turn-over-requires
 turn-over-requires c κs =

@@ -9,8 +9,10 @@ use lib.ListN.{getD}
 use Rattle.reader.specs.Paths.{idsOf}
 use Rattle.standing.specs.Seen.{Memory, memory, Seen}
 use Rattle.standing.specs.Standing.{cell}
-use Rattle.reading.specs.Ending.{Ending, lastView}
-use Rattle.reading.proofs.Ended.{end-heights, end-viewed, end-seen, end-word, end-spent}
+use Rattle.steps.specs.Steps.{committed}
+use Rattle.steps.proofs.Commits.{own-viewed, commit-seen}
+use Rattle.reading.specs.Ending.{Ending}
+use Rattle.reading.proofs.Ended.{end-heights, end-word, end-spent}
 use Rattle.reading.proofs.run.finish.Statement.{statement}
 use Rattle.reading.proofs.run.finish.Tie as tie
 
@@ -43,7 +45,7 @@ commit-requires c κs =
     let r = t .slot-of .ensures in
     let h = s .pre .1 .2 in
     let l = end-heights h (r .0) in
-    ((s .pre .0 .0, r .1, l .0, l .1), end-viewed h (r .0))
+    ((s .pre .0 .0, r .1, l .0, l .1), own-viewed (h .hand) (r .0) (h .valid) (h .own))
 
 -- once the word is in the sums: where it began, the slot, and what the path sees
 abbrev start : tie.After-commit → tie.Start
@@ -56,9 +58,9 @@ abbrev summed : tie.After-commit → Memory
 summed u = memory (u .commit .last .0) (u .commit .last .1 .0) (start u .args .numbers .now) (u .commit .last .1 .1 .1 .0)
 
 sum-seen : (u : tie.After-commit) {es vs : List ℕ} (c : Hand (start u) es vs) →
-    Seen (start u .args .s .m) (start u .args .s .paths) (slot u .slot-of .result) (summed u) (idsOf (c .hand .rest)) (lastView (c .hand))
+    Seen (start u .args .s .m) (start u .args .s .paths) (slot u .slot-of .result) (summed u) (idsOf (c .hand .rest)) (committed (c .hand))
 unfolding memory cell
-sum-seen u c = end-seen c (slot u .slot-of .ensures .0) (summed u) _ refl (u .commit .ensures .1)
+sum-seen u c = commit-seen (c .hand) (slot u .slot-of .ensures .0) (c .valid) (c .own) (summed u) _ refl (u .commit .ensures .1)
 
 -- the row's spent and cost
 row-spent : (u : tie.After-commit) {es vs : List ℕ} (c : Hand (start u) es vs) →
