@@ -1,6 +1,6 @@
 // The nearest word of a block, and the next after one: the least key, cost before number, among all settings. A block of 8 positions with all indices
-// free, or all but the first, has a search of its own. Relies on the crates tables, passes and short; outer/specs/Words says what the words are,
-// outer/specs/Search what a key is.
+// free has a search of its own, and this or a single parity check (all free but the first) a pair of its own; all else goes by the pass. Relies on the
+// crates tables, passes and short; outer/specs/Words.antt says what the words are, outer/specs/Search.antt what a key is.
 ghost use mathlib.Core.Path.{_≡_};
 ghost use mathlib.Core.Option.{some};
 ghost use Prim.Native.Nat.{ℕ, _+_, _^_, _≤_, _<_};
@@ -137,7 +137,7 @@ fn search_pair(
     find_two(numbers, at, n, 0, &steps, &ties, free, words, sums)
 }
 
-// The nearest word of a block, and the next after it, from one filling of the tables.
+// The nearest word of a block, and the next after it, by one search.
 pub fn nearest_pair(
     numbers: &[i32],
     at: usize,

@@ -1,6 +1,6 @@
-// The nearest word and the next after it, of a block of 8 positions where all indices are free, or all but the first: the words are all bytes, or all
-// of one parity, so the nearest and the next differ from the hard decisions where turning a bit adds least to the key. Relies on bytes.rt;
-// specs/Flips.antt says what is added.
+// The nearest word and the next after it, of a block of 8 positions where all indices are free, or all but the first (a single parity check, or a coset
+// of it): the words are all bytes, or all of one parity, so the nearest and the next differ from the hard decisions where turning a bit adds least to
+// the key. Relies on bytes.rt; specs/Flips.antt says what is added.
 ghost use mathlib.Core.Path.{_≡_};
 ghost use Prim.Native.Nat.{ℕ, _+_, _*_, _%_, _≤_, _<_};
 ghost use lib.ListN.{length};

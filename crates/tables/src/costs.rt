@@ -1,5 +1,5 @@
-// Costs of words by half bytes: for each four values the costs of the sixteen half bytes, then a sum of one entry for each half byte.
-// Relies on a bit's cost (crate polar); outer/specs/Search.antt says what a table of costs holds.
+// Costs of words by half bytes: for each four values the costs of the sixteen half bytes, sums of those of two pairs of bits; then a sum of one
+// entry for each half byte. Relies on a bit's cost (crate polar); outer/specs/Search.antt says what a table of costs holds.
 ghost use mathlib.Core.Path.{_≡_};
 ghost use mathlib.Core.List.{[], _∷_};
 ghost use Prim.Native.Nat.{ℕ, _+_, _*_, _/_, _%_, _≤_, _<_};
