@@ -6,6 +6,14 @@ ghost use lib.ListN.{length, getD, take};
 ghost use Rattle.machine.specs.Queue as Q;
 ghost use Rattle.order.specs.Entries.{keyAt, queueOf, Rising};
 use crate::entries::blocks_of;
+use std::num::wrapping_sub_u64;
+
+// 1 where entry a is below entry b but for their slots, else 0: the highest bit of a difference, since a branch on it could not be foreseen.
+fn below(a: u64, b: u64) -> usize
+    ensures { λ r. ⌜ (r ≤ 1) × (1 ≤ r → a / 256 < b / 256) × (r ≤ 0 → b / 256 ≤ a / 256) ⌝ }
+{
+    (wrapping_sub_u64(a / 256, b / 256) / 9223372036854775808) as usize
+}
 
 // Where an entry goes among the `queued` entries: above those that it comes before.
 fn place(order: &[u64; 256], queued: usize, e: u64) -> usize
@@ -22,14 +30,12 @@ fn place(order: &[u64; 256], queued: usize, e: u64) -> usize
         }
     }
     let mut low: usize = 0;
-    let mut high = queued;
-    while low < high {
-        let mid = (low + high) / 2;
-        if order[mid] < floor {
-            low = mid + 1;
-        } else {
-            high = mid;
-        }
+    let mut left = queued;
+    while left > 0 {
+        let half = (left + 1) / 2;
+        let mid = low + half - 1;
+        low = low + half * below(order[mid], e);
+        left = left - half;
     }
     low
 }

@@ -40,6 +40,22 @@ fn skip(holders: &[u16; 2570], height: usize, most: usize) -> usize
     id
 }
 
+// The first of the 16 counts from `at` on that is 0; 16 if none is. There is no early exit, so that no branch is to be foreseen.
+fn first_of(holders: &[u16; 2570], at: usize) -> usize
+    requires { ⌜ at + 16 ≤ 2570 ⌝ }
+    ensures { λ r. ⌜ (r ≤ 16) × ((k : ℕ) → k < r → 1 ≤ getD (now (holders .entry)) (at + k) 0) × (r < 16 → getD (now (holders .entry)) (at + r) 0 ≡ 0) ⌝ }
+{
+    let mut found: usize = 16;
+    let mut k: usize = 16;
+    while k > 0 {
+        k -= 1;
+        if holders[at + k] == 0 {
+            found = k;
+        }
+    }
+    found
+}
+
 // The first id from 1 on that no path holds at a height; most + 1 if none of the first `most` is free.
 fn first_free(holders: &[u16; 2570], height: usize, most: usize) -> usize
     requires { ⌜ (height ≤ 9) × (most ≤ 256) ⌝ }
@@ -48,6 +64,12 @@ fn first_free(holders: &[u16; 2570], height: usize, most: usize) -> usize
         × (r ≤ most → heldAt (now (holders .entry)) height r ≡ 0) ⌝ }
 {
     let mut id = skip(holders, height, most);
+    if id + 15 <= most {
+        let k = first_of(holders, height * 257 + id);
+        if k < 16 {
+            return id + k;
+        }
+    }
     while id <= most {
         if holders[height * 257 + id] == 0 {
             return id;

@@ -63,13 +63,7 @@ fn twos(t: usize) -> usize
     requires { ⌜ (1 ≤ t) × (t ≤ 512) ⌝ }
     ensures { λ r. ⌜ (r ≤ 9) × ((m : ℕ) → m ≤ 9 → t ≤ 2 ^ m → r ≡ turn (suc m) t) ⌝ }
 {
-    let mut h: usize = 0;
-    let mut left = t;
-    while left % 2 == 0 {
-        left = left / 2;
-        h += 1;
-    }
-    h
+    u32::trailing_zeros(t as u32) as usize
 }
 
 // Block b of the book.
