@@ -1,10 +1,11 @@
 -- The turn of a number is the exponent of the largest power of two that divides it: an odd number of times 2^h has the turn h. By induction down
 -- the tree: the half that holds the number takes away an even number of times 2^h, or the number is 2^h itself. Assumes nothing.
-use mathlib.Core.Path.{_≡_, sym, ap, _∙_}
+use mathlib.Core.Path.{_≡_, refl, sym, ap, _∙_}
 use mathlib.Core.Logic.{_⊎_, inl, inr}
-use Prim.Native.Nat.{ℕ, zero, suc, _+_, _-_, _*_, _%_, _^_, _≤_, _<_}
-use native.Mathlib.Nat.{two-pow-succ, mul-le-mul-right, le-of-mul-le-mul-right, one-mul, add-mul}
+use Prim.Native.Nat.{ℕ, zero, suc, _+_, _-_, _*_, _/_, _%_, _^_, _≤_, _<_}
+use native.Mathlib.Nat.{two-pow-succ, mul-le-mul-right, le-of-mul-le-mul-right, one-mul, mul-one, mul-add, add-mul}
 use native.Mathlib.Omega.{arith}
+use lib.Count.{trailingZeros, under}
 use lib.Pow.{pow-add, pow-mono, pow-pos}
 use Rattle.laws.proofs.Tests.{lt-or}
 use Rattle.polar.specs.Node.{rest}
@@ -51,3 +52,24 @@ turn-odd (suc m) h left t e o l = go (lt-or t (2 ^ m)) (lt-or h m) (turn-odd m h
         level : t ≡ 2 ^ h → (m < h) ⊎ (h ≤ m) → h ≡ m
         level g (inl w) = absurd (omega (arith, pow-mono w))
         level g (inr w) = omega arith
+
+-- ---- the zeros at the end of a number's digits
+
+-- t is an odd number of times 2^h
+pub record OddTimes (t h : ℕ) : Type 0 where
+  pub left : ℕ
+  pub odd : left % 2 ≡ 1
+  pub times : t ≡ left * 2 ^ h
+
+pub odd-times : (d n : ℕ) → 0 < n → n < 2 ^ d → OddTimes n (trailingZeros d n)
+unfolding trailingZeros
+odd-times zero n z l = absurd (omega arith)
+odd-times (suc d) n z l = go (n % 2) refl (odd-times d (n / 2))
+  where
+    go : (r : ℕ) → n % 2 ≡ r → (0 < n / 2 → n / 2 < 2 ^ d → OddTimes (n / 2) (trailingZeros d (n / 2))) → OddTimes n (under r (trailingZeros d (n / 2)))
+    go zero e ih =
+        let x = ih (omega arith) (omega (arith, two-pow-succ d)) in
+        let t = trailingZeros d (n / 2) in
+        let twice : x .left * 2 ^ suc t ≡ x .left * 2 ^ t + x .left * 2 ^ t = ap (λ i. x .left * i) (two-pow-succ t) ∙ mul-add (x .left) (2 ^ t) (2 ^ t) in
+        record { left = x .left; odd = x .odd; times = omega (arith, x .times, twice) }
+    go (suc r) e ih = record { left = n; odd = omega arith; times = omega (arith, mul-one n) }
