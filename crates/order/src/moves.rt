@@ -1,18 +1,28 @@
 // The moves of the queue: a path inserted, the last ones cut off, those with few blocks removed. Entries move within the array; nothing else is
 // touched.
 ghost use mathlib.Core.Path.{_≡_};
-ghost use Prim.Native.Nat.{ℕ, suc, _/_, _≤_, _<_};
+ghost use Prim.Native.Nat.{ℕ, suc, _+_, _/_, _≤_, _<_};
 ghost use lib.ListN.{length, getD, take};
 ghost use Rattle.machine.specs.Queue as Q;
-ghost use Rattle.order.specs.Entries.{keyAt, queueOf, Rising};
+ghost use Rattle.order.specs.Entries.{keyAt, queueOf, Rising, Between};
 use crate::entries::blocks_of;
-use std::num::wrapping_sub_u64;
 
-// 1 where entry a is below entry b but for their slots, else 0: the highest bit of a difference, since a branch on it could not be foreseen.
-fn below(a: u64, b: u64) -> usize
-    ensures { λ r. ⌜ (r ≤ 1) × (1 ≤ r → a / 256 < b / 256) × (r ≤ 0 → b / 256 ≤ a / 256) ⌝ }
+// The place of e among the `queued` entries, which lies from `low` on and at most w places on, lies from the answer on and at most v places on: half as
+// far, by the entry in the middle.
+fn halve(order: &[u64; 256], queued: usize, e: u64, low: usize, half: usize) -> usize
+    requires { ⌜ (length (now order) ≡ 256) × (queued ≤ 256) × Rising (now order) queued × (1 ≤ half) × (low + half ≤ 512) ⌝ }
+    ensures { λ r. ⌜ (r ≤ low + half)
+        × ((w v : ℕ) → w ≤ half + v → half ≤ v + 1 → Between (now (order .entry)) queued e low w → Between (now (order .entry)) queued e r v) ⌝ }
 {
-    (wrapping_sub_u64(a / 256, b / 256) / 9223372036854775808) as usize
+    let next = low + half;
+    if queued < next {
+        return low;
+    }
+    if order[next - 1] < e / 256 * 256 {
+        next
+    } else {
+        low
+    }
 }
 
 // Where an entry goes among the `queued` entries: above those that it comes before.
@@ -29,15 +39,16 @@ fn place(order: &[u64; 256], queued: usize, e: u64) -> usize
             return queued;
         }
     }
-    let mut low: usize = 0;
-    let mut left = queued;
-    while left > 0 {
-        let half = (left + 1) / 2;
-        let mid = low + half - 1;
-        low = low + half * below(order[mid], e);
-        left = left - half;
-    }
-    low
+    // written out, since the compiler makes branches of such a choice in a loop, and they cannot be foreseen
+    let mut low = halve(order, queued, e, 0, 128);
+    low = halve(order, queued, e, low, 64);
+    low = halve(order, queued, e, low, 32);
+    low = halve(order, queued, e, low, 16);
+    low = halve(order, queued, e, low, 8);
+    low = halve(order, queued, e, low, 4);
+    low = halve(order, queued, e, low, 2);
+    low = halve(order, queued, e, low, 1);
+    halve(order, queued, e, low, 1)
 }
 
 // Puts an entry into its place among the `queued` entries.

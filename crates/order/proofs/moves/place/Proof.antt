@@ -1,144 +1,90 @@
--- `order::moves::place` meets its contract. The loop's invariant: the entries below `low` are below e but for their slots, and those `left` places on
--- are not. Assumes nothing.
-use mathlib.Core.Path.{_≡_, ap, _∙_}
-use mathlib.Core.List.{List}
-use mathlib.Core.Logic.{_⊎_, inl, inr}
-use Prim.Native.Nat.{ℕ, _+_, _-_, _*_, _/_, _≤_, _<_}
-use native.Mathlib.Nat.{mul-zero, mul-one}
+-- `order::moves::place` meets its contract: nine halvings of at most 256 places leave one. Assumes nothing.
+use Prim.Native.Nat.{_-_}
 use native.Mathlib.Omega.{arith}
-use lib.ListN.{getD}
 use borrow.Author.Needs.{needs}
-use Rattle.laws.proofs.Tests.{lt-or}
-use Rattle.order.specs.Entries.{Rising}
+use Rattle.order.specs.Entries.{Between}
 use Rattle.order.proofs.Queues.{place-low}
 use Rattle.order.proofs.moves.place.Statement.{statement}
 use Rattle.order.proofs.moves.place.Tie as tie
 
-abbrev Inv-loop : tie.InvT-loop
-Inv-loop order queued e floor low₀ left₀ low left =
-    (low + left ≤ queued) × ((k : ℕ) → k < low → getD order k 0 / 256 < e / 256) × ((k : ℕ) → low + left ≤ k → k < queued → e / 256 ≤ getD order k 0 / 256)
+mul-floor : tie.Need-mul-floor
+mul-floor c = search needs
 
-abbrev μ-loop : tie.MeasureT-loop
-μ-loop order queued e floor low₀ left₀ low left = left
+sub-if2 : tie.Need-sub-if2
+sub-if2 c = search needs
 
--- a half as often as the test says
-times : (h r : ℕ) → r ≤ 1 → ((1 ≤ r) × (h * r ≡ h)) ⊎ ((r ≤ 0) × (h * r ≡ 0))
-times h r l = go (lt-or 0 r)
-  where
-    go : (0 < r) ⊎ (r ≤ 0) → ((1 ≤ r) × (h * r ≡ h)) ⊎ ((r ≤ 0) × (h * r ≡ 0))
-    go (inl m) = let e : r ≡ 1 = omega arith in inl (m, ap (λ (n : ℕ). h * n) e ∙ mul-one h)
-    go (inr m) = let e : r ≡ 0 = omega arith in inr (m, ap (λ (n : ℕ). h * n) e ∙ mul-zero h)
+mul-if2 : tie.Need-mul-if2
+mul-if2 c = search needs
 
-times-le : (h r : ℕ) → r ≤ 1 → h * r ≤ h
-times-le h r l = go (times h r l)
-  where
-    go : ((1 ≤ r) × (h * r ≡ h)) ⊎ ((r ≤ 0) × (h * r ≡ 0)) → h * r ≤ h
-    go (inl m) = omega (arith, m .1)
-    go (inr m) = omega (arith, m .1)
+element-copy-out-if2 : tie.Need-element-copy-out-if2
+element-copy-out-if2 c = search needs
 
--- one halving: the entry in the middle is below e, or it is not
-halved : (order : List ℕ) (queued e low left r : ℕ) → Rising order queued → 0 < left → low + left ≤ queued → ((k : ℕ) → k < low → getD order k 0 / 256 < e / 256)
-    → ((k : ℕ) → low + left ≤ k → k < queued → e / 256 ≤ getD order k 0 / 256) → (let half = (left + 1) / 2 in
-    let mid = low + half - 1 in
-    ((1 ≤ r) × (half * r ≡ half)) ⊎ ((r ≤ 0) × (half * r ≡ 0)) → (1 ≤ r → getD order mid 0 / 256 < e / 256) → (r ≤ 0 → e / 256 ≤ getD order mid 0 / 256)
-    → (low + half * r + (left - half) ≤ queued) × ((k : ℕ) → k < low + half * r → getD order k 0 / 256 < e / 256)
-    × ((k : ℕ) → low + half * r + (left - half) ≤ k → k < queued → e / 256 ≤ getD order k 0 / 256))
-unfolding Rising
-halved order queued e low left r rising some within under over (inl m) f g =
-    let half = (left + 1) / 2 in
-    let mid = low + half - 1 in
-    (omega (arith, m .1), λ k h. omega (arith, rising k mid (omega (arith, m .1)) (omega arith), f (m .0)), λ k h j. over k (omega (arith, m .1)) j)
-halved order queued e low left r rising some within under over (inr m) f g =
-    let half = (left + 1) / 2 in
-    let mid = low + half - 1 in
-    (omega (arith, m .1), λ k h. under k (omega (arith, m .1)), λ k h j. omega (arith, rising mid k (omega (arith, m .1)) j, g (m .0)))
-
-mul-floor : tie.Need-mul-floor Inv-loop μ-loop
-mul-floor c = omega arith
-
-sub-if2 : tie.Need-sub-if2 Inv-loop μ-loop
-sub-if2 c = omega arith
-
-mul-if2 : tie.Need-mul-if2 Inv-loop μ-loop
-mul-if2 c = omega arith
-
-element-copy-out-if2 : tie.Need-element-copy-out-if2 Inv-loop μ-loop
-element-copy-out-if2 c = omega arith
-
-returns : tie.Need-returns Inv-loop μ-loop
+returns : tie.Need-returns
 returns c =
     let s = c .before .before .before in
     let a = s .args in
     let low = place-low (a .order .now) (a .queued) (a .queued - 1) (a .e) (s .pre .1) (omega arith) (c .if2 .taken) in
     (omega arith, λ k h. low k (omega arith), λ k h j. absurd (omega arith))
 
-loop-holds : tie.Need-loop-holds Inv-loop μ-loop
-loop-holds c = (omega arith, λ k h. absurd (omega arith), λ k h j. absurd (omega arith))
+halve-requires : tie.Need-halve-requires
+halve-requires c κs = search needs
 
-add-half : tie.Need-add-half Inv-loop μ-loop
-add-half c = omega arith
+halve-requires-2 : tie.Need-halve-requires-2
+halve-requires-2 c κs = search needs
 
-add-mid : tie.Need-add-mid Inv-loop μ-loop
-add-mid c = omega arith
+halve-requires-3 : tie.Need-halve-requires-3
+halve-requires-3 c κs = search needs
 
-sub-mid : tie.Need-sub-mid Inv-loop μ-loop
-sub-mid c = omega arith
+halve-requires-4 : tie.Need-halve-requires-4
+halve-requires-4 c κs = search needs
 
-mul-below : tie.Need-mul-below Inv-loop μ-loop
-mul-below c = omega arith
+halve-requires-5 : tie.Need-halve-requires-5
+halve-requires-5 c κs = search needs
 
-element-copy-out-below : tie.Need-element-copy-out-below Inv-loop μ-loop
-element-copy-out-below c = omega arith
+halve-requires-6 : tie.Need-halve-requires-6
+halve-requires-6 c κs = search needs
 
-below-requires : tie.Need-below-requires Inv-loop μ-loop
-below-requires c κs = search needs
+halve-requires-7 : tie.Need-halve-requires-7
+halve-requires-7 c κs = search needs
 
-mul-low : tie.Need-mul-low Inv-loop μ-loop
-mul-low c = omega (arith, times-le ((c .before .before .before .loop .left + 1) / 2) (c .below .result) (c .below .ensures .0))
+halve-requires-8 : tie.Need-halve-requires-8
+halve-requires-8 c κs = search needs
 
-add-low : tie.Need-add-low Inv-loop μ-loop
-add-low c = omega (arith, times-le ((c .before .before .before .loop .left + 1) / 2) (c .below .result) (c .below .ensures .0))
+halve-requires-9 : tie.Need-halve-requires-9
+halve-requires-9 c κs = search needs
 
-sub-left : tie.Need-sub-left Inv-loop μ-loop
-sub-left c = omega arith
-
-loop-less : tie.Need-loop-less Inv-loop μ-loop
-loop-less c = omega arith
-
-loop-again : tie.Need-loop-again Inv-loop μ-loop
-loop-again c =
-    let s = c .before .before .before .before .before in
-    let a = s .args in
-    let x = c .before .before .before .loop in
-    let b = c .below .ensures in
-    halved (a .order .now) (a .queued) (a .e) (x .low) (x .left) (c .below .result) (s .pre .1) (omega arith) (x .inv .0) (x .inv .1) (x .inv .2) (times ((x .left + 1) / 2) (c .below .result) (b .0)) (b .1) (b .2)
-
-returns-2 : tie.Need-returns-2 Inv-loop μ-loop
+returns-2 : tie.Need-returns-2
 returns-2 c =
-    let x = c .before .loop in
-    (omega arith, x .inv .1, λ k h j. x .inv .2 k (omega arith) j)
+    let s = c .before .before .before .before .before .before .before .before .before .before in
+    let a = s .args in
+    let x0 : Between (a .order .now) (a .queued) (a .e) 0 256 = record { within = omega arith; under = λ k h. absurd (omega arith); over = λ k h j. absurd (omega (arith, s .pre .0 .1)) } in
+    let x1 = c .before .before .before .before .before .before .before .before .halve .ensures .1 256 128 (omega arith) (omega arith) x0 in
+    let x2 = c .before .before .before .before .before .before .before .halve2 .ensures .1 128 64 (omega arith) (omega arith) x1 in
+    let x3 = c .before .before .before .before .before .before .halve3 .ensures .1 64 32 (omega arith) (omega arith) x2 in
+    let x4 = c .before .before .before .before .before .halve4 .ensures .1 32 16 (omega arith) (omega arith) x3 in
+    let x5 = c .before .before .before .before .halve5 .ensures .1 16 8 (omega arith) (omega arith) x4 in
+    let x6 = c .before .before .before .halve6 .ensures .1 8 4 (omega arith) (omega arith) x5 in
+    let x7 = c .before .before .halve7 .ensures .1 4 2 (omega arith) (omega arith) x6 in
+    let x8 = c .before .halve8 .ensures .1 2 1 (omega arith) (omega arith) x7 in
+    let x9 = c .halve9 .ensures .1 1 0 (omega arith) (omega arith) x8 in
+    (x9 .within, x9 .under, λ k h j. x9 .over k (omega arith) j)
 
 pub place-spec : {M : Type 1} → statement M
 place-spec =
     tie.close
     (tie.spec
-    Inv-loop
-    μ-loop
     mul-floor
     sub-if2
     mul-if2
     element-copy-out-if2
     returns
-    loop-holds
-    add-half
-    add-mid
-    sub-mid
-    mul-below
-    element-copy-out-below
-    below-requires
-    mul-low
-    add-low
-    sub-left
-    loop-less
-    loop-again
+    halve-requires
+    halve-requires-2
+    halve-requires-3
+    halve-requires-4
+    halve-requires-5
+    halve-requires-6
+    halve-requires-7
+    halve-requires-8
+    halve-requires-9
     returns-2)
