@@ -1,3 +1,4 @@
 pub mod Tables
 pub mod Choice
 pub mod Counting
+pub mod Vacant

@@ -15,6 +15,10 @@ idAt rows s h = getD rows (s * 16 + h) 0
 unfoldable pub heldAt : List ℕ → ℕ → ℕ → ℕ
 heldAt holders h i = getD holders (h * 257 + i) 0
 
+-- 1 where a count is 0, else 0
+unfoldable pub vacantBit : ℕ → ℕ
+vacantBit count = cond (eqb count 0) 1 0
+
 -- 1 where two ids are the same, else 0
 unfoldable pub one : ℕ → ℕ → ℕ
 one i k = cond (eqb i k) 1 0

@@ -1,59 +1,50 @@
 // Arrays held, taken, shared and let go. `rows` has 16 numbers for each slot, the ids of its path's arrays by height first; `holders` has 257 for
 // each height, the number of paths that hold each id.
 ghost use mathlib.Core.Path.{_≡_};
-ghost use mathlib.Core.Bool.{false, _&&_};
-ghost use Prim.Native.Nat.{ℕ, _+_, _*_, _≤_, _<_};
+ghost use mathlib.Core.Bool.{_&&_};
+ghost use Prim.Native.Nat.{ℕ, _+_, _*_, _^_, _≤_, _<_};
 ghost use lib.Dec.{ltb, leb};
 ghost use lib.ListN.{length, getD, set};
+ghost use Rattle.laws.specs.Sets.{setOf};
 ghost use Rattle.reader.specs.Arrays.{ownOf};
-ghost use Rattle.sharing.specs.Sharing.{idAt, heldAt, Sizes, Shared, MoreBy, LessBy, Exchanged, Copied};
+ghost use Rattle.sharing.specs.Sharing.{idAt, heldAt, vacantBit, Sizes, Shared, MoreBy, LessBy, Exchanged, Copied};
 
-// Whether one of the 16 counts from `at` on is 0. There is no early exit, so that the compiler compares several at once.
-fn any_free(holders: &[u16; 2570], at: usize) -> bool
-    requires { ⌜ at + 16 ≤ 2570 ⌝ }
-    ensures { λ r. ⌜ (r ≡ false → (k : ℕ) → k < 16 → 1 ≤ getD (now (holders .entry)) (at + k) 0) ⌝ }
+// 2^k where a count is 0, else 0.
+fn mark(count: u16, k: usize) -> u32
+    requires { ⌜ k < 16 ⌝ }
+    ensures { λ r. ⌜ r ≡ vacantBit count * 2 ^ k ⌝ }
 {
-    let mut free: u16 = 0;
-    let mut k: usize = 0;
-    while k < 16 {
-        if holders[at + k] == 0 {
-            free = 1;
-        }
-        k += 1;
-    }
-    free != 0
+    if count == 0 { 1 << k } else { 0 }
 }
 
-// Passes over groups of 16 ids, from 1 on, none of which is free at a height: the first id of the next group, or of the fewer than 16 left.
-// No id below it is free.
+// The set of those of the 16 counts from `at` on that are 0. There is no early exit, so that the compiler compares several at once.
+fn vacancies(holders: &[u16; 2570], at: usize) -> u32
+    requires { ⌜ at + 16 ≤ 2570 ⌝ }
+    ensures { λ r. ⌜ r ≡ setOf 16 (λ k. vacantBit (getD (now (holders .entry)) (at + k) 0)) ⌝ }
+{
+    let mut set: u32 = 0;
+    let mut k: usize = 0;
+    while k < 16 {
+        set = set + mark(holders[at + k], k);
+        k += 1;
+    }
+    set
+}
+
+// Looks for a free id in groups of 16, from 1 on: the first that is free, or the first of the fewer than 16 left. No id below it is free.
 fn skip(holders: &[u16; 2570], height: usize, most: usize) -> usize
     requires { ⌜ (height ≤ 9) × (most ≤ 256) ⌝ }
     ensures { λ r. ⌜ (1 ≤ r) × (r ≤ most + 1) × ((k : ℕ) → 1 ≤ k → k < r → 1 ≤ heldAt (now (holders .entry)) height k) ⌝ }
 {
     let mut id: usize = 1;
     while id + 15 <= most {
-        if any_free(holders, height * 257 + id) {
-            return id;
+        let set = vacancies(holders, height * 257 + id);
+        if set != 0 {
+            return id + u32::trailing_zeros(set) as usize;
         }
         id += 16;
     }
     id
-}
-
-// The first of the 16 counts from `at` on that is 0; 16 if none is. There is no early exit, so that no branch is to be foreseen.
-fn first_of(holders: &[u16; 2570], at: usize) -> usize
-    requires { ⌜ at + 16 ≤ 2570 ⌝ }
-    ensures { λ r. ⌜ (r ≤ 16) × ((k : ℕ) → k < r → 1 ≤ getD (now (holders .entry)) (at + k) 0) × (r < 16 → getD (now (holders .entry)) (at + r) 0 ≡ 0) ⌝ }
-{
-    let mut found: usize = 16;
-    let mut k: usize = 16;
-    while k > 0 {
-        k -= 1;
-        if holders[at + k] == 0 {
-            found = k;
-        }
-    }
-    found
 }
 
 // The first id from 1 on that no path holds at a height; most + 1 if none of the first `most` is free.
@@ -64,12 +55,6 @@ fn first_free(holders: &[u16; 2570], height: usize, most: usize) -> usize
         × (r ≤ most → heldAt (now (holders .entry)) height r ≡ 0) ⌝ }
 {
     let mut id = skip(holders, height, most);
-    if id + 15 <= most {
-        let k = first_of(holders, height * 257 + id);
-        if k < 16 {
-            return id + k;
-        }
-    }
     while id <= most {
         if holders[height * 257 + id] == 0 {
             return id;
