@@ -1,20 +1,20 @@
 -- The two least keys of a pass: what they become with the key of one setting more, for each way that the pass goes; both lie among the
 -- settings, and keys that agree give the same. By cases on what was found before. Assumes nothing.
 use mathlib.Core.Path.{_≡_, refl, sym, ap, ap₂, _∙_, subst}
-use mathlib.Core.Bool.{Bool, cond}
+use mathlib.Core.Bool.{Bool, true, false, cond}
 use mathlib.Core.Logic.{_⊎_, inl, inr}
 use mathlib.Core.Option.{Option, none, some}
 use Prim.Native.Nat.{ℕ, _+_, _≤_, _<_}
 use native.Mathlib.Numerals.{add-one}
 use native.Mathlib.Omega.{arith}
-use lib.Dec.{leb}
-use borrow.Author.Tests.{lt-ltb, le-ltb, le-leb, lt-leb}
+use lib.Dec.{ltb, leb, eqb}
+use borrow.Author.Tests.{lt-ltb, le-ltb, le-leb, lt-leb, eq-eqb, ne-eqb}
 use Rattle.laws.specs.Lists.{May}
 use Rattle.laws.proofs.Tests.{lt-or}
 use Rattle.machine.specs.Choice.{choose, firstOf}
 use Rattle.passes.specs.declared.Two.{Two}
 use Rattle.outer.specs.Search.{tried, lesser, leastFrom}
-use Rattle.passes.specs.Pass.{above, afterFirst, foundKey, foundSetting, twoOf, twoLeast}
+use Rattle.passes.specs.Pass.{opened, above, afterFirst, foundKey, foundSetting, twoOf, twoLeast}
 use Rattle.outer.proofs.Least.{least-below, least-like, least-same, Chosen, least-chosen}
 
 -- ---- the least key from a bound on, with one setting more
@@ -125,6 +125,78 @@ module _ (k : ℕ → ℕ) (b n : ℕ) where
               let m : k w < k n = omega (arith, ap (λ (x : Two). x .first) t) in
               ap (λ (x : Two). record { first = x .first; second = k n; at = x .at; next = n }) t
               ∙ after (some w) (some n) (kept k b n w e (omega arith)) (taken k (k w + 1) n (above k n (some w)) refl (omega arith) (omega (arith, ap (λ (x : Two). x .second) t)))
+
+-- ---- one key more, by choices alone
+
+-- the two least of x, which counts for setting n, and two others
+abbrev pub merged : ℕ → ℕ → Two → Two
+merged x n two =
+    record {
+      first = cond (ltb x (two .first)) x (two .first);
+      second = cond (ltb x (two .first)) (two .first) (cond (ltb x (two .second)) x (two .second));
+      at = cond (ltb x (two .first)) n (two .at);
+      next = cond (ltb x (two .first)) (two .at) (cond (ltb x (two .second)) n (two .next));
+    }
+
+module _ (two : Two) (n x : ℕ) where
+  merged-none : two .first ≤ x → two .second ≤ x → merged x n two ≡ two
+  merged-none h l = rw (le-ltb x (two .first) h, le-ltb x (two .second) l) refl
+
+  merged-ahead : x < two .first → merged x n two ≡ record { first = x; second = two .first; at = n; next = two .at }
+  merged-ahead h = rw (lt-ltb x (two .first) h) refl
+
+  merged-between : two .first ≤ x → x < two .second → merged x n two ≡ record { first = two .first; second = x; at = two .at; next = n }
+  merged-between h l = rw (le-ltb x (two .first) h, lt-ltb x (two .second) l) refl
+
+cond-same : (t : Bool) (x : ℕ) → cond t x x ≡ x
+cond-same true x = refl
+cond-same false x = refl
+
+opened-under : (key b first : ℕ) → key < b → opened key b first ≡ 18446744073709551615
+unfolding opened
+opened-under key b first h = rw (lt-ltb key b h) (cond-same (eqb 18446744073709551615 first) 18446744073709551615)
+
+opened-equal : (key b first : ℕ) → b ≤ key → key ≡ first → opened key b first ≡ 18446744073709551615
+unfolding opened
+opened-equal key b first h e = rw (le-ltb key b h, eq-eqb key first e) refl
+
+opened-key : (key b first : ℕ) → b ≤ key → (key ≡ first → ⊥) → opened key b first ≡ key
+unfolding opened
+opened-key key b first h z = rw (le-ltb key b h, ne-eqb key first z) refl
+
+-- as the code tests it
+pub opened-first : (key b first later : ℕ) → later ≡ cond (ltb key b) 18446744073709551615 key → later ≡ first → 18446744073709551615 ≡ opened key b first
+unfolding opened
+opened-first key b first later e h =
+    let t : 18446744073709551615 ≡ cond (eqb later first) 18446744073709551615 later = rw (eq-eqb later first h) refl in
+    t ∙ ap (λ (y : ℕ). cond (eqb y first) 18446744073709551615 y) e
+
+pub opened-other : (key b first later : ℕ) → later ≡ cond (ltb key b) 18446744073709551615 key → (later ≡ first → ⊥) → later ≡ opened key b first
+unfolding opened
+opened-other key b first later e z =
+    let t : later ≡ cond (eqb later first) 18446744073709551615 later = rw (ne-eqb later first z) refl in
+    t ∙ ap (λ (y : ℕ). cond (eqb y first) 18446744073709551615 y) e
+
+-- four parts of two
+pub two-same : {a a′ b b′ c c′ d d′ : ℕ} → a ≡ a′ → b ≡ b′ → c ≡ c′ → d ≡ d′
+    → _≡_ {A = Two} (record { first = a; second = b; at = c; next = d }) (record { first = a′; second = b′; at = c′; next = d′ })
+two-same p q r t = rw (p, q, r, t) refl
+
+pub merged-least : (k : ℕ → ℕ) (b n : ℕ) (two : Two) → two ≡ twoLeast k b n → k n < 18446744073709551615 → two .first ≤ 18446744073709551615 → two .second ≤ 18446744073709551615
+    → merged (opened (k n) b (two .first)) n two ≡ twoLeast k b (n + 1)
+merged-least k b n two q s f g = go (lt-or (k n) b) (lt-or (k n) (two .first)) (lt-or (two .first) (k n)) (lt-or (k n) (two .second))
+  where
+    by : (x : ℕ) → opened (k n) b (two .first) ≡ x → merged x n two ≡ twoLeast k b (n + 1) → merged (opened (k n) b (two .first)) n two ≡ twoLeast k b (n + 1)
+    by x e p = ap (λ (y : ℕ). merged y n two) e ∙ p
+
+    go : (k n < b) ⊎ (b ≤ k n) → (k n < two .first) ⊎ (two .first ≤ k n) → (two .first < k n) ⊎ (k n ≤ two .first) → (k n < two .second) ⊎ (two .second ≤ k n)
+        → merged (opened (k n) b (two .first)) n two ≡ twoLeast k b (n + 1)
+    go (inl h) u w v = by 18446744073709551615 (opened-under (k n) b (two .first) h) (merged-none two n 18446744073709551615 f g ∙ under k b n two q h)
+    go (inr h) (inl u) w v = by (k n) (opened-key (k n) b (two .first) h (λ e. omega arith)) (merged-ahead two n (k n) u ∙ ahead k b n two q h u)
+    go (inr h) (inr u) (inr w) v =
+        by 18446744073709551615 (opened-equal (k n) b (two .first) h (omega arith)) (merged-none two n 18446744073709551615 f g ∙ equal k b n two q s (omega arith))
+    go (inr h) (inr u) (inl w) (inl v) = by (k n) (opened-key (k n) b (two .first) h (λ e. omega arith)) (merged-between two n (k n) u v ∙ between k b n two q s w v)
+    go (inr h) (inr u) (inl w) (inr v) = by (k n) (opened-key (k n) b (two .first) h (λ e. omega arith)) (merged-none two n (k n) u v ∙ far k b n two q s v)
 
 -- ---- both lie among the settings
 

@@ -5,7 +5,7 @@ use mathlib.Core.Bool.{true, false, cond}
 use mathlib.Core.List.{List}
 use mathlib.Core.Option.{Option, none, some}
 use Prim.Native.Nat.{ℕ, _+_, _*_, _/_, _%_, _<_}
-use lib.Dec.{eqb}
+use lib.Dec.{ltb, eqb}
 use lib.ListN.{getD}
 use Rattle.outer.specs.declared.Candidate.{Candidate}
 use Rattle.outer.specs.Search.{spread, picked, keyOf, leastFrom}
@@ -37,6 +37,12 @@ twoOf key o p = record { first = foundKey key o; second = foundKey key p; at = f
 -- of the first n settings, the two with the least keys from a bound on
 unfoldable pub twoLeast : (ℕ → ℕ) → ℕ → ℕ → Two
 twoLeast key bound n = twoOf key (leastFrom key bound n) (afterFirst key bound n)
+
+-- a key as the pass takes it: the greatest number where it is below the bound, or is the first
+unfoldable pub opened : ℕ → ℕ → ℕ → ℕ
+opened key bound first =
+    let later = cond (ltb key bound) 18446744073709551615 key in
+    cond (eqb later first) 18446744073709551615 later
 
 -- ---- the pass
 

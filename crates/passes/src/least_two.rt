@@ -1,8 +1,10 @@
 // The two least keys of a pass over settings, with the settings: one key more at a time. Relies on no other file.
 ghost use mathlib.Core.Path.{_≡_};
-ghost use Prim.Native.Nat.{ℕ, _+_, _<_};
+ghost use mathlib.Core.Bool.{cond};
+ghost use Prim.Native.Nat.{ℕ, _+_, _≤_, _<_};
 ghost use Rattle.outer.specs.Search.{keyOf};
-ghost use Rattle.passes.specs.Pass.{twoLeast};
+ghost use lib.Dec.{ltb};
+ghost use Rattle.passes.specs.Pass.{twoLeast, opened};
 use crate::Two;
 
 // A cost and a number as one key: the cost counts first.
@@ -24,33 +26,47 @@ pub fn none() -> Two
     }
 }
 
-// The two least with the key of one setting more, by its cost and its number, where it is not below the bound; the earlier of equals.
+// x where a is below b, else y. (That b is at most the greatest number is said for callers that have it in a struct.)
+fn either(a: u64, b: u64, x: u64, y: u64) -> u64
+    ensures { λ r. ⌜ (r ≡ cond (ltb a b) x y) × (b ≤ 18446744073709551615) ⌝ }
+{
+    if a < b { x } else { y }
+}
+
+// The same of settings.
+fn which(a: u64, b: u64, x: usize, y: usize) -> usize
+    ensures { λ r. ⌜ r ≡ cond (ltb a b) x y ⌝ }
+{
+    if a < b { x } else { y }
+}
+
+// A key that is not below the bound, and is not the first; else the greatest number.
+fn open(key: u64, bound: u64, first: u64) -> u64
+    ensures { λ r. ⌜ r ≡ opened key bound first ⌝ }
+{
+    let later = either(key, bound, 18446744073709551615, key);
+    if later == first {
+        18446744073709551615
+    } else {
+        later
+    }
+}
+
+// The two least with the key of one setting more, by its cost and its number, where it is not below the bound; the earlier of equals. It is all choices and
+// no branch, since which keys are least cannot be foreseen.
 pub fn among(two: Two, bound: u64, cost: u32, number: u32, setting: usize) -> Two
     requires { ⌜ cost < 4294967295 ⌝ }
     ensures { λ r. ⌜ ((k : ℕ → ℕ) → two ≡ twoLeast k bound setting → keyOf cost number ≡ k setting → r ≡ twoLeast k bound (setting + 1)) ⌝ }
 {
-    let key = key(cost, number);
-    if two.second <= key {
-        return two;
-    }
-    if key < bound {
-        return two;
-    }
-    if two.first < key {
-        return Two {
-            first: two.first,
-            second: key,
-            at: two.at,
-            next: setting,
-        };
-    }
-    if two.first == key {
-        return two;
-    }
+    let least = two.first;
+    let less = two.second;
+    let x = open(key(cost, number), bound, least);
+    let second = either(x, less, x, less);
+    let next = which(x, less, setting, two.next);
     Two {
-        first: key,
-        second: two.first,
-        at: setting,
-        next: two.at,
+        first: either(x, least, x, least),
+        second: either(x, least, least, second),
+        at: which(x, least, setting, two.at),
+        next: which(x, least, two.at, next),
     }
 }
