@@ -1,4 +1,4 @@
--- `decoder::attempt::judge` meets its contract: the run on the lent part of the workspace is the machine's, the limit decides, and the data is that of the
+-- `attempts::attempt::judge` meets its contract: the run on the lent part of the workspace is the machine's, the limit decides, and the data is that of the
 -- final word, which is of the code. Assumes nothing.
 use mathlib.Core.Path.{_≡_, sym, ap, ap₂, _∙_, subst}
 use mathlib.Core.List.{List, _++_}
@@ -16,10 +16,10 @@ use Rattle.codebook.specs.Book.{freeCount}
 use Rattle.codec.specs.Code.{freeBits, readData}
 use Rattle.codec.proofs.Told.{zeros-part}
 use Rattle.machine.specs.Machine as M
-use Rattle.decoder.specs.Attempt.{Ready}
-use Rattle.decoder.proofs.Judged.{lent-length, written-part, part-cleared, ready-small, ready-free, ready-size, ready-running, numbers-room, bytes-room, found, exact, above, within}
-use Rattle.decoder.proofs.attempt.judge.Statement.{statement}
-use Rattle.decoder.proofs.attempt.judge.Tie as tie
+use Rattle.attempts.specs.Attempt.{Ready}
+use Rattle.attempts.proofs.Judged.{lent-length, written-part, part-cleared, ready-small, ready-free, ready-size, ready-running, numbers-room, bytes-room, found, exact, above, within}
+use Rattle.attempts.proofs.attempt.judge.Statement.{statement}
+use Rattle.attempts.proofs.attempt.judge.Tie as tie
 
 -- where the run is made, and where the call begins
 abbrev start : tie.After-run-cleared-arg6 → tie.Start

@@ -26,7 +26,7 @@ use Rattle.runs.specs.Runs.{Exact}
 use Rattle.runs.proofs.Final.{run-exact}
 use Rattle.heights.specs.Workspace.{Room}
 use Rattle.reading.specs.Running.{Running}
-use Rattle.decoder.specs.Attempt.{Ready, answerOf}
+use Rattle.attempts.specs.Attempt.{Ready, answerOf}
 
 -- ---- parts of buffers
 

@@ -1,5 +1,5 @@
 -- What both decoding calls do before a word is handed out: the answer as far as refusal 10, what the run found, and the buffers with word and data as
--- they were. proofs/Handing.antt shows that plainCall and hookCall are this, and a word handed out. Assumes nothing.
+-- they were. decoder/proofs/Handing shows that plainCall and hookCall are this, and a word handed out. Assumes nothing.
 use mathlib.Core.Path.{_≡_}
 use mathlib.Core.Bool.{Bool, true, false, cond, not, _||_}
 use mathlib.Core.List.{List, []}

@@ -1,8 +1,8 @@
--- `decoder::attempt::refused` meets its contract: by its fields. Assumes nothing.
+-- `attempts::attempt::refused` meets its contract: by its fields. Assumes nothing.
 use mathlib.Core.Path.{refl}
 use Rattle.machine.specs.Calls.{noCounts}
-use Rattle.decoder.proofs.attempt.refused.Statement.{statement}
-use Rattle.decoder.proofs.attempt.refused.Tie as tie
+use Rattle.attempts.proofs.attempt.refused.Statement.{statement}
+use Rattle.attempts.proofs.attempt.refused.Tie as tie
 
 returns : tie.Need-returns
 unfolding noCounts

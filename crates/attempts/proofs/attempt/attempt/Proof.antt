@@ -1,4 +1,4 @@
--- `decoder::attempt::attempt` meets its contract: by the outcome of loading, then of the tests; else the run is judged, and what it leaves is the attempt's.
+-- `attempts::attempt::attempt` meets its contract: by the outcome of loading, then of the tests; else the run is judged, and what it leaves is the attempt's.
 -- Assumes nothing.
 use mathlib.Core.Path.{_≡_, refl, sym, _∙_}
 use mathlib.Core.Logic.{⊎-elim}
@@ -12,14 +12,14 @@ use Rattle.codebook.specs.Progress.{tables}
 use Rattle.codec.proofs.Told.{Known, known-small, sizes-refused, sizes-known}
 use Rattle.machine.specs.Calls.{Input, Lent, barred}
 use Rattle.machine.specs.Machine.{runOf}
-use Rattle.decoder.specs.Given.{given, lent}
-use Rattle.decoder.specs.Attempt.{fitsFor, Ready}
-use Rattle.decoder.proofs.Attempts.{yields-refused, yields-barred, yields-ran, yields-lent}
-use Rattle.decoder.proofs.Judged.{ready-small, ready-free}
-use Rattle.decoder.proofs.Readied.{admission, admission-same, is-barred, not-barred, sized-same, fits-any, fits-record, known-blocks, known-few, load-long, ready}
-use Rattle.decoder.proofs.Unbarred.{Free, nothing-bars}
-use Rattle.decoder.proofs.attempt.attempt.Statement.{statement}
-use Rattle.decoder.proofs.attempt.attempt.Tie as tie
+use Rattle.attempts.specs.Given.{given, lent}
+use Rattle.attempts.specs.Attempt.{fitsFor, Ready}
+use Rattle.attempts.proofs.Attempts.{yields-refused, yields-barred, yields-ran, yields-lent}
+use Rattle.attempts.proofs.Judged.{ready-small, ready-free}
+use Rattle.attempts.proofs.Readied.{admission, admission-same, is-barred, not-barred, sized-same, fits-any, fits-record, known-blocks, known-few, load-long, ready}
+use Rattle.attempts.proofs.Unbarred.{Free, nothing-bars}
+use Rattle.attempts.proofs.attempt.attempt.Statement.{statement}
+use Rattle.attempts.proofs.attempt.attempt.Tie as tie
 
 -- where the book is loaded, and where the call begins
 abbrev start : tie.After-load-tables → tie.Start

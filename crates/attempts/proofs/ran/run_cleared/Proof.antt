@@ -1,4 +1,4 @@
--- `decoder::ran::run_cleared` meets its contract: the run's counts, walk and final word are the machine's, and the workspace is cleared at its whole length.
+-- `attempts::ran::run_cleared` meets its contract: the run's counts, walk and final word are the machine's, and the workspace is cleared at its whole length.
 -- Assumes nothing.
 use mathlib.Core.Path.{refl, ap, ap₂, _∙_}
 use native.Mathlib.Omega.{arith}
@@ -11,9 +11,9 @@ use borrow.Author.Needs.{needs}
 use Rattle.heights.proofs.Spots.{spot-room}
 use Rattle.reading.specs.Running.{arraysOf, received, RanIs}
 use Rattle.reader.specs.Reader as R
-use Rattle.decoder.proofs.Machine.{all-cleared, deep-enough, runs-agree, machine-counts, machine-word}
-use Rattle.decoder.proofs.ran.run_cleared.Statement.{statement}
-use Rattle.decoder.proofs.ran.run_cleared.Tie as tie
+use Rattle.attempts.proofs.Machine.{all-cleared, deep-enough, runs-agree, machine-counts, machine-word}
+use Rattle.attempts.proofs.ran.run_cleared.Statement.{statement}
+use Rattle.attempts.proofs.ran.run_cleared.Tie as tie
 
 -- where the run is made, and where the call begins
 abbrev start : tie.After-run → tie.Start

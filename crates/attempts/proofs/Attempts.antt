@@ -19,7 +19,7 @@ use Rattle.machine.specs.declared.Decoded.{Decoded}
 use Rattle.machine.specs.Machine.{Run, runOf}
 use Rattle.machine.specs.Queue.{Step, Final}
 use Rattle.machine.specs.Calls.{Input, Lent, barred, finalOf, noCounts, numbersNeeded, bytesNeeded, walked, afterRun, isDone}
-use Rattle.decoder.specs.Attempt.{fitsFor, answerOf, ranOf, noRun, unbarred, attemptWith, attempted, Holding}
+use Rattle.attempts.specs.Attempt.{fitsFor, answerOf, ranOf, noRun, unbarred, attemptWith, attempted, Holding}
 
 module _ (hook : Bool) (c : Input) (l : Lent) where
   -- an answer, buffers and what is found, as an attempt leaves them

@@ -24,8 +24,8 @@ ghost use Rattle.codebook.specs.declared.Outcome.the-variants.{Refused as NotDo
 ghost use Rattle.machine.specs.Queue.{Step};
 ghost use Rattle.machine.specs.Machine as M;
 ghost use Rattle.machine.specs.Calls.{finalOf, noCounts, walked};
-ghost use Rattle.decoder.specs.Given.{given, lent};
-ghost use Rattle.decoder.specs.Attempt.{answerOf, attempted, Holding, Ready};
+ghost use Rattle.attempts.specs.Given.{given, lent};
+ghost use Rattle.attempts.specs.Attempt.{answerOf, attempted, Holding, Ready};
 
 // The answer where no run is made.
 fn refused(r: Refusal) -> Decoded

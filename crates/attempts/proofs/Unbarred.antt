@@ -1,6 +1,6 @@
--- What is known where nothing bars a call: its settings are in their ranges, its lengths are right, its values in range; and the attempt is then a run.
+-- What is known where nothing bars a call: its settings are in their ranges, its lengths are right, its values in range.
 -- By the checks' own laws. Assumes nothing.
-use mathlib.Core.Path.{_≡_, sym, ap, _∙_, subst}
+use mathlib.Core.Path.{_≡_, sym, subst}
 use mathlib.Core.Bool.{Bool, _&&_}
 use mathlib.Core.Option.{none}
 use Prim.Native.Nat.{_^_}
@@ -8,12 +8,9 @@ use lib.ListN.{length}
 use lib.Dec.{T}
 use Rattle.laws.proofs.Tests.{and-left, and-right}
 use Rattle.codebook.specs.Book.{Book, freeCount}
-use Rattle.codebook.specs.Loading.{loaded, load}
 use Rattle.machine.specs.Calls.{Input, Lent, settingsOk, lentOk, valuesOk, barred}
 use Rattle.checks.proofs.Fitting.{Ranged, Sized, settings-tell, lengths-tell, settings-fit, lengths-fit, lengthsOf}
 use Rattle.runs.proofs.Handed.{all-pass}
-use Rattle.decoder.specs.Attempt.{fitsFor, ranOf, unbarred, attemptWith, attempted}
-use Rattle.decoder.specs.WholeRun.{machineRun}
 
 -- nothing bars the call
 pub record Free (B : Book) (c : Input) (l : Lent) : Type 0 where
@@ -35,9 +32,3 @@ nothing-bars B c l fits e =
       sized = lengths-tell _ _ _ _ _ _ .out (subst T (sym (lengths-fit B c l)) (and-right fits (lentOk B c l) b));
       valued = v;
     }
-
--- an attempt that nothing bars is a run
-pub attempt-ran : (hook : Bool) (B : Book) (c : Input) (l : Lent) → load (c .book) ≡ loaded B → barred B c l (fitsFor hook B) ≡ none
-    → attempted hook c l ≡ ranOf B c l (machineRun B c)
-unfolding attempted attemptWith unbarred machineRun
-attempt-ran hook B c l e b = ap (λ x. attemptWith hook x c l) e ∙ ap (unbarred B c l) b

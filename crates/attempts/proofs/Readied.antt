@@ -32,8 +32,8 @@ use Rattle.checks.proofs.Admitted.{admittedBy, admitted}
 use Rattle.checks.proofs.Fitting.{Sized, settings-fit, lengthsOf, lengths-fit}
 use Rattle.reading.specs.Running.{Tables}
 use Rattle.extraction.proofs.Counts.{blocks-few}
-use Rattle.decoder.specs.Attempt.{Ready, fitsFor}
-use Rattle.decoder.proofs.Unbarred.{Free}
+use Rattle.attempts.specs.Attempt.{Ready, fitsFor}
+use Rattle.attempts.proofs.Unbarred.{Free}
 
 -- ---- the tables of a loaded book
 
