@@ -3,13 +3,13 @@
 use checks::Checked;
 use checks::Settings;
 use codebook::Outcome;
-use codebook::load;
 use codebook::outcome_number;
 use codebook::refusal_number;
 use codec::HookRecord;
 use codec::status_number;
 use decoder::decode;
 use decoder::decode_hook;
+use loading::load;
 use machine::Counts;
 ghost use mathlib.Core.Path.{_≡_};
 ghost use mathlib.Core.List.{[]};
