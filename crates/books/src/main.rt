@@ -1,16 +1,16 @@
 // Prints a code book as text: each command at its byte offset, then n, k and V; of a bad book the commands up to the faulty one, then the refusal, the trade's
 // word for it and the byte where it stands. What is right or wrong is the proved loader's word alone: a command is good when the book up to its end is
 // refused only because it ends there. So it costs a load for every command. The longest good book has 52,083 bytes; of a longer input the bytes read here
-// are enough to judge it. Relies on codebook::load and crate text.
+// are enough to judge it. Relies on loading::load and crate text.
 mod command;
 
 use codebook::Outcome;
 use codebook::Refusal;
-use codebook::load;
 use codebook::refusal_number;
 use command::print_command;
 use command::width;
 use libc::STDIN_FILENO;
+use loading::load;
 use text::print_number;
 use text::print_words;
 ghost use Prim.Native.Nat.{_+_, _≤_, _<_};

@@ -1,7 +1,6 @@
 // The calls as C sees them: slices are a pointer and a length, and each function answers 0 or the number of the refusal. include/saddlemint.h
 // declares them. Relies on the crates codebook, codec and slices, whose calls these are; specs/Answers.antt says what is new here.
 use codebook::Outcome;
-use codebook::load;
 use codebook::outcome_number;
 use codebook::refusal_number;
 use codec::HookRecord;
@@ -12,6 +11,7 @@ use codec::make_record;
 use codec::read_data;
 use codec::read_record;
 use codec::test;
+use loading::load;
 use slices::decode_hook_slices;
 use slices::decode_slices;
 use slices::put_hook;
@@ -19,7 +19,7 @@ ghost use mathlib.Core.Path.{_≡_};
 ghost use Rattle.codebook.specs.Refusals.{outcomeNumber};
 ghost use Rattle.codec.specs.Record.{statusOf};
 ghost use Rattle.codec.specs.Calls.{encodeCall, testCall, readDataCall};
-ghost use Rattle.decoder.specs.Given.{given, lent};
+ghost use Rattle.attempts.specs.Given.{given, lent};
 ghost use Rattle.slices.specs.Slices.{plainAnswered, hookAnswered};
 ghost use Rattle.capi.specs.Answers.{mismatchNumber, loadAnswer, testedNumber, makeRecordWrote, recordFrom, readRecordAnswer};
 

@@ -3,12 +3,6 @@ pub mod Blocks
 pub mod Commands
 pub mod Loaded
 pub mod Fuel
-pub mod Bytes
-pub mod Signed
-pub mod Over
 pub mod Codes
-pub mod Growing
 pub mod Placing
 pub mod Refused
-pub mod Verdicts
-pub mod Running

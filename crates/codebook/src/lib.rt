@@ -1,5 +1,5 @@
-// The code book: its types, and the loader. specs/Refusals.antt gives document 01's number and word for each refusal; specs/Loading.antt says
-// what loading is, specs/Tables.antt what the loader fills.
+// The code book: its types, and the numbers of refusals. specs/Refusals.antt gives document 01's number and word for each refusal; specs/Loading.antt
+// says what loading is, specs/Tables.antt what the loader (the crate loading) fills.
 
 // Why a call is refused: document 01, "Refusal table".
 pub enum Refusal {
@@ -95,13 +95,7 @@ pub struct Sizes {
     pub blocks: u32,
 }
 
-pub mod loader;
 mod numbers;
-mod reading;
-mod steps;
-mod stores;
 
-pub use loader::load;
-pub use loader::load_tables;
 pub use numbers::outcome_number;
 pub use numbers::refusal_number;

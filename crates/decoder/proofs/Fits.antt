@@ -10,9 +10,9 @@ use Rattle.codebook.specs.Book.{Book}
 use Rattle.codebook.specs.Loading.{Load, refused, loaded, load}
 use Rattle.machine.specs.Calls.{Input, Lent, barred, countsOf, noCounts, plainCall}
 use Rattle.runs.proofs.Ends.{run-steps}
-use Rattle.decoder.specs.Attempt.{fitsFor, ranOf, answerOf, noRun, unbarred, attemptWith, attempted}
+use Rattle.attempts.specs.Attempt.{fitsFor, ranOf, answerOf, noRun, unbarred, attemptWith, attempted}
+use Rattle.attempts.proofs.Unbarred.{nothing-bars}
 use Rattle.decoder.proofs.Handing.{plainOf, plain-handed}
-use Rattle.decoder.proofs.Unbarred.{nothing-bars}
 
 -- so many entries lie within each buffer of the walk
 pub record Within (n : ℕ) (l : Lent) : Type 0 where

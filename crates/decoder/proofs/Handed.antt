@@ -29,12 +29,12 @@ use Rattle.machine.specs.declared.Decoded.{Decoded}
 use Rattle.machine.specs.declared.HookDecoded.{HookDecoded}
 use Rattle.machine.specs.Calls.{Input, Lent, Called, barred, afterRun, isDone, plainCall, hookCall}
 use Rattle.runs.proofs.Final.{run-exact}
-use Rattle.decoder.specs.Attempt.{fitsFor, Attempted, ranOf, noRun, unbarred, attemptWith, attempted, Holding, readAs}
-use Rattle.decoder.specs.Given.{lent}
+use Rattle.attempts.specs.Attempt.{fitsFor, Attempted, ranOf, noRun, unbarred, attemptWith, attempted, Holding, readAs}
+use Rattle.attempts.specs.Given.{lent}
+use Rattle.attempts.proofs.Attempts.{alike, Yields}
+use Rattle.attempts.proofs.Unbarred.{nothing-bars, asked-holds}
 use Rattle.decoder.specs.WholeRun.{WholeRun}
-use Rattle.decoder.proofs.Attempts.{alike, Yields}
 use Rattle.decoder.proofs.Handing.{handed, plainOf, plain-handed, hookOfAttempt, hook-handed}
-use Rattle.decoder.proofs.Unbarred.{nothing-bars, asked-holds}
 use Rattle.decoder.proofs.Whole.{whole-run}
 
 -- ---- word and data

@@ -17,7 +17,7 @@ use Rattle.machine.specs.Machine.{Run, runOf}
 use Rattle.machine.specs.Calls.{Input, Lent, Called, barred, finalOf, countsOf, afterRun, isDone}
 use Rattle.machine.specs.Calls.{plainRan, plainRefused, plainChecked, plainWith, plainCall}
 use Rattle.machine.specs.Calls.{hookOf, hookRan, hookRefused, hookChecked, hookWith, hookCall}
-use Rattle.decoder.specs.Attempt.{fitsFor, Attempted, answerOf, ranOf, noRun, unbarred, attemptWith, attempted, readAs}
+use Rattle.attempts.specs.Attempt.{fitsFor, Attempted, answerOf, ranOf, noRun, unbarred, attemptWith, attempted, readAs}
 
 -- word and data handed out or not, and the other buffers
 unfoldable pub handed : Bool → Final → Lent → Lent

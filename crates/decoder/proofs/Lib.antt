@@ -1,9 +1,4 @@
-pub mod Attempts
 pub mod Fits
 pub mod Handed
 pub mod Handing
-pub mod Judged
-pub mod Machine
-pub mod Readied
-pub mod Unbarred
 pub mod Whole

@@ -3,7 +3,7 @@
 use mathlib.Core.Path.{_≡_, sym, ap, _∙_}
 use mathlib.Core.Bool.{Bool}
 use mathlib.Core.List.{List}
-use mathlib.Core.Option.{some}
+use mathlib.Core.Option.{none, some}
 use Prim.Native.Nat.{_+_, _*_, _^_}
 use native.Mathlib.Omega.{arith}
 use lib.ListN.{take}
@@ -13,13 +13,19 @@ use Rattle.codebook.specs.Book.{Book}
 use Rattle.codebook.specs.Loading.{loaded, load}
 use Rattle.machine.specs.declared.Counts.{Counts}
 use Rattle.machine.specs.Queue.{Step}
-use Rattle.machine.specs.Calls.{Input, Lent, numbersNeeded, finalOf, countsOf, walked, afterRun}
+use Rattle.machine.specs.Calls.{Input, Lent, numbersNeeded, barred, finalOf, countsOf, walked, afterRun}
 use Rattle.heights.specs.Workspace.{Room}
 use Rattle.reader.proofs.Agree.{agree}
 use Rattle.reading.proofs.Received.{received-root}
-use Rattle.decoder.specs.Attempt.{fitsFor, ranOf, answerOf, attempted}
+use Rattle.attempts.specs.Attempt.{fitsFor, ranOf, answerOf, unbarred, attemptWith, attempted}
+use Rattle.attempts.proofs.Unbarred.{Free, nothing-bars}
 use Rattle.decoder.specs.WholeRun.{arraysLent, readerRun, machineRun, WholeRun}
-use Rattle.decoder.proofs.Unbarred.{Free, nothing-bars, attempt-ran}
+
+-- an attempt that nothing bars is a run
+pub attempt-ran : (hook : Bool) (B : Book) (c : Input) (l : Lent) → load (c .book) ≡ loaded B → barred B c l (fitsFor hook B) ≡ none
+    → attempted hook c l ≡ ranOf B c l (machineRun B c)
+unfolding attempted attemptWith unbarred machineRun
+attempt-ran hook B c l e b = ap (λ x. attemptWith hook x c l) e ∙ ap (unbarred B c l) b
 
 -- the workspace lent has room for the arrays
 lent-room : (B : Book) (c : Input) (l : Lent) → Free B c l → Room (B .m) (c .D) (take (numbersNeeded B c) (l .numbers))

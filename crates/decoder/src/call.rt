@@ -1,15 +1,15 @@
-// The decoding calls. Each makes one attempt, and hands out word and data on success alone. Relies on attempt.rt and giving.rt;
+// The decoding calls. Each makes one attempt, and hands out word and data on success alone. Relies on giving.rt and the crate attempts;
 // machine/specs/Calls says what each call answers and leaves, specs/WholeRun what demand 3 asks of it.
-use crate::attempt::attempt;
 use crate::giving::give;
 use crate::giving::read_found;
+use attempts::attempt::attempt;
 use machine::Decoded;
 use machine::HookDecoded;
 ghost use mathlib.Core.Path.{_≡_};
 ghost use mathlib.Core.Bool.{true, false};
 ghost use Rattle.machine.specs.Calls.{plainCall, hookCall};
-ghost use Rattle.decoder.specs.Given.{given, lent};
-ghost use Rattle.decoder.specs.Attempt.{fitsFor};
+ghost use Rattle.attempts.specs.Given.{given, lent};
+ghost use Rattle.attempts.specs.Attempt.{fitsFor};
 ghost use Rattle.decoder.specs.WholeRun.{WholeRun};
 
 // The plain decoding call.

@@ -13,7 +13,7 @@ ghost use Rattle.laws.specs.Lists.{All};
 ghost use Rattle.polar.specs.Bits.{Bit};
 ghost use Rattle.polar.specs.Layers.{part};
 ghost use Rattle.machine.specs.Calls.{isDone};
-ghost use Rattle.decoder.specs.Attempt.{readAs};
+ghost use Rattle.attempts.specs.Attempt.{readAs};
 
 // On success word and data become the start of what was found; else they stay.
 pub fn give(outcome: Outcome, found: &[u8], info: &[u8], word: &mut [u8], bits: &mut [u8])

@@ -1,8 +1,6 @@
 // The decoding calls: the plain call, which hands out word and data, and the hook call, which reads the record besides. Both make one attempt.
-pub mod attempt;
 pub mod call;
 pub mod giving;
-pub mod ran;
 
 pub use call::decode;
 pub use call::decode_hook;

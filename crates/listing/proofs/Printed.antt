@@ -9,7 +9,7 @@ use Rattle.codebook.specs.Loading.{Load, refused, loaded, load, shapeOf}
 use Rattle.codebook.proofs.Loaded.{loaded-valid}
 use Rattle.machine.specs.declared.Decoded.{Decoded}
 use Rattle.machine.specs.Calls.{Input, Lent, plainCall}
-use Rattle.decoder.proofs.Judged.{free-most}
+use Rattle.attempts.proofs.Judged.{free-most}
 use Rattle.decoder.proofs.Fits.{Within, plain-within}
 
 pub free-within : (x : Shape) (bytes : List ℕ) → x ≡ shapeOf (load bytes) → x .k ≤ x .n

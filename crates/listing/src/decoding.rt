@@ -1,4 +1,4 @@
-// One input from its bytes to its listing. Relies on input.rt, lines.rt, text::bytes, codebook::load and decoder::decode.
+// One input from its bytes to its listing. Relies on input.rt, lines.rt, text::bytes, loading::load and decoder::decode.
 use crate::input::Cut;
 use crate::input::book_length;
 use crate::input::read_values;
@@ -7,9 +7,9 @@ use crate::lines::print_walk;
 use crate::lines::print_word;
 use codebook::Outcome;
 use codebook::Shape;
-use codebook::load;
 use codebook::refusal_number;
 use decoder::decode;
+use loading::load;
 use text::bytes::four;
 use text::bytes::two;
 ghost use Prim.Native.Nat.{_+_, _≤_};

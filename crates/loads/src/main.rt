@@ -1,5 +1,5 @@
 // Replays recorded load cases: reads a stream of operations on standard input (reference/README.md has its format), and prints for each case what
-// the load call answers. The output is held to what the independent reference printed. Relies on codebook::load and text::bytes.
+// the load call answers. The output is held to what the independent reference printed. Relies on loading::load and text::bytes.
 use codebook::Shape;
 use libc::STDIN_FILENO;
 use libc::STDOUT_FILENO;
@@ -71,7 +71,7 @@ fn change(s: &[u8], at: usize, book: &mut [u8]) -> usize
 // The case of the book's first bytes.
 fn load_case(case: u64, book: &[u8], count: usize) {
     if count <= book.len() {
-        print_case(case, codebook::load(&book[..count]));
+        print_case(case, loading::load(&book[..count]));
     }
 }
 

@@ -18,8 +18,8 @@ use Rattle.machine.specs.Queue.{Step}
 use Rattle.machine.specs.Calls.{Input, Lent, settingsOk, walkNeeded, barred, countsOf, noCounts, walked, afterRun}
 use Rattle.runs.proofs.Ends.{run-steps}
 use Rattle.checks.proofs.Fitting.{settings-tell, settings-fit}
-use Rattle.decoder.specs.Attempt.{fitsFor, Attempted, ranOf, answerOf, noRun, unbarred, attemptWith, attempted}
-use Rattle.decoder.proofs.Unbarred.{nothing-bars}
+use Rattle.attempts.specs.Attempt.{fitsFor, Attempted, ranOf, answerOf, noRun, unbarred, attemptWith, attempted}
+use Rattle.attempts.proofs.Unbarred.{nothing-bars}
 use Rattle.decoder.proofs.Whole.{Left}
 use Rattle.screen.specs.Screen.{stepsUnbarred, stepsWith, stepsOf, fewWith, few, Fitting}
 

@@ -12,7 +12,7 @@ use Rattle.codebook.specs.declared.Shape.{Shape}
 use Rattle.codebook.specs.Loading.{Load, refused, loaded, load, shapeOf}
 use Rattle.machine.specs.Calls.{Input, settingsOk, walkNeeded}
 use Rattle.checks.specs.Checks.{settingsFit}
-use Rattle.decoder.specs.Given.{given}
+use Rattle.attempts.specs.Given.{given}
 use Rattle.screen.specs.Screen.{fewWith, few}
 
 -- the values are not looked at

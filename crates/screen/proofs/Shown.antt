@@ -18,7 +18,7 @@ use Rattle.machine.specs.declared.Decoded.{Decoded}
 use Rattle.machine.specs.declared.HookDecoded.{HookDecoded}
 use Rattle.machine.specs.Queue.{Step}
 use Rattle.machine.specs.Calls.{Input, Lent, Called, barred, noCounts, plainCall, plainRefused, hookCall, hookRefused}
-use Rattle.decoder.specs.Attempt.{fitsFor}
+use Rattle.attempts.specs.Attempt.{fitsFor}
 use Rattle.decoder.specs.WholeRun.{machineRun, WholeRun}
 use Rattle.decoder.proofs.Handing.{plainOf, hookOfAttempt, handed, plain-handed, hook-handed}
 use Rattle.decoder.proofs.Whole.{Left, whole-run}

@@ -14,7 +14,7 @@ use borrow.Author.Tests.{ltb-true, ltb-false, lt-ltb, le-ltb}
 use Rattle.machine.specs.declared.Decoded.{Decoded}
 use Rattle.machine.specs.Queue.{Step}
 use Rattle.machine.specs.Calls.{Input, Lent, plainCall}
-use Rattle.decoder.specs.Attempt.{fitsFor}
+use Rattle.attempts.specs.Attempt.{fitsFor}
 use Rattle.decoder.specs.WholeRun.{WholeRun}
 use Rattle.decoder.proofs.Whole.{Left}
 use Rattle.screen.specs.declared.StepRecord.{StepRecord}

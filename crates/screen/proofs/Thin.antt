@@ -42,7 +42,7 @@ use denote.Signature.{plain}
 use Rattle.machine.specs.declared.Counts.{Counts}
 use Rattle.machine.specs.Calls.{Input, Lent}
 use Rattle.machine.proofs.Counts.Laws as C′
-use Rattle.decoder.specs.Given.{given, lent}
+use Rattle.attempts.specs.Given.{given, lent}
 use Rattle.screen.specs.declared.StepRecord.{StepRecord}
 use Rattle.screen.specs.Records.{copied}
 use Rattle.screen.specs.Screen.{Fitting}

@@ -18,7 +18,7 @@ use Rattle.machine.specs.declared.HookDecoded.{HookDecoded}
 use Rattle.machine.specs.Queue.{Step}
 use Rattle.machine.specs.Machine.{runOf}
 use Rattle.machine.specs.Calls.{Input, Lent, Called, settingsOk, walkNeeded, barred, plainCall, plainRefused, hookCall, hookRefused}
-use Rattle.decoder.specs.Attempt.{fitsFor}
+use Rattle.attempts.specs.Attempt.{fitsFor}
 use Rattle.decoder.specs.WholeRun.{readerRun, Agreed}
 use Rattle.screen.specs.declared.StepRecord.{StepRecord}
 use Rattle.screen.specs.declared.step.StepDecoded.{StepDecoded}

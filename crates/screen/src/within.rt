@@ -3,18 +3,18 @@ use checks::Checked;
 use checks::Settings;
 use codebook::Outcome;
 use codebook::Refusal;
-use codebook::load;
 use codec::HookRecord;
 use codec::Status;
 use decoder::decode;
 use decoder::decode_hook;
+use loading::load;
 use machine::Counts;
 use machine::Decoded;
 use machine::HookDecoded;
 ghost use mathlib.Core.Path.{_≡_};
 ghost use mathlib.Core.List.{[]};
 ghost use Rattle.machine.specs.Calls.{noCounts};
-ghost use Rattle.decoder.specs.Given.{given, lent};
+ghost use Rattle.attempts.specs.Given.{given, lent};
 ghost use Rattle.screen.specs.Screen.{few, plainWithin, hookWithin, Fitting};
 
 // Whether so many records are too few, where neither the book nor a setting is at fault before.

@@ -15,7 +15,7 @@ use Rattle.codebook.specs.Refusals.{number, outcomeNumber}
 use Rattle.codebook.specs.Book.{Book}
 use Rattle.codebook.specs.Loading.{Load, load, refused, loaded}
 use Rattle.machine.specs.Calls.{Input, Lent, settingsOk, plainCall, hookCall}
-use Rattle.decoder.specs.Given.{given}
+use Rattle.attempts.specs.Given.{given}
 use Rattle.slices.specs.Slices.{countsSlice, recordSlice, Answered, mismatchWith, mismatchNumber, mismatch, plainAnswered, hookAnswered}
 
 -- ---- a choice by a length

@@ -3,18 +3,18 @@
 use checks::Checked;
 use checks::Settings;
 use codebook::Outcome;
-use codebook::load;
 use codebook::outcome_number;
 use codebook::refusal_number;
 use codec::HookRecord;
 use codec::status_number;
 use decoder::decode;
 use decoder::decode_hook;
+use loading::load;
 use machine::Counts;
 ghost use mathlib.Core.Path.{_≡_};
 ghost use mathlib.Core.List.{[]};
 ghost use lib.ListN.{length};
-ghost use Rattle.decoder.specs.Given.{given, lent};
+ghost use Rattle.attempts.specs.Given.{given, lent};
 ghost use Rattle.slices.specs.Slices.{countsSlice, recordSlice, mismatchNumber, plainAnswered, hookAnswered};
 
 // The number where counts or record have a wrong length.

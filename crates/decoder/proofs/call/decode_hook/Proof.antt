@@ -6,7 +6,7 @@ use native.Mathlib.Omega.{arith}
 use lib.ListN.{length}
 use borrow.Author.Needs.{needs}
 use Rattle.machine.specs.Calls.{Input, Lent}
-use Rattle.decoder.specs.Given.{given, lent}
+use Rattle.attempts.specs.Given.{given, lent}
 use Rattle.decoder.proofs.Handed.{read-fits, hook-fits, hook-done}
 use Rattle.decoder.proofs.call.decode_hook.Statement.{statement}
 use Rattle.decoder.proofs.call.decode_hook.Tie as tie

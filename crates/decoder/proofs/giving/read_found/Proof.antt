@@ -2,9 +2,9 @@
 use mathlib.Core.Path.{sym, ap, _∙_}
 use borrow.Author.Needs.{needs}
 use Rattle.polar.specs.Layers.{part}
-use Rattle.decoder.specs.Attempt.{readAs}
+use Rattle.attempts.specs.Attempt.{readAs}
+use Rattle.attempts.proofs.Judged.{lent-length}
 use Rattle.decoder.proofs.Handed.{done}
-use Rattle.decoder.proofs.Judged.{lent-length}
 use Rattle.decoder.proofs.giving.read_found.Statement.{statement}
 use Rattle.decoder.proofs.giving.read_found.Tie as tie
 

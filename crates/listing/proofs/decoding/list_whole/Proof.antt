@@ -1,5 +1,5 @@
 -- `listing::decoding::list_whole` lends as many values as were read, and word and data of the lengths that the book says. Assumes nothing.
-use Rattle.decoder.proofs.Judged.{lent-length}
+use Rattle.attempts.proofs.Judged.{lent-length}
 use native.Mathlib.Omega.{arith}
 use borrow.Author.Needs.{needs}
 use Rattle.listing.proofs.decoding.list_whole.Statement.{statement}

@@ -2,7 +2,7 @@
 -- Assumes nothing.
 use borrow.Author.Needs.{needs}
 use Rattle.machine.specs.Calls.{Input, Lent}
-use Rattle.decoder.specs.Given.{given, lent}
+use Rattle.attempts.specs.Given.{given, lent}
 use Rattle.screen.proofs.Stepped.{step-fits, step-says}
 use Rattle.screen.proofs.step.decode_step.Statement.{statement}
 use Rattle.screen.proofs.step.decode_step.Tie as tie

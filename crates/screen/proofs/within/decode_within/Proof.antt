@@ -3,7 +3,7 @@ use mathlib.Core.Path.{_≡_, sym, _∙_}
 use mathlib.Core.List.{[]}
 use borrow.Author.Needs.{needs}
 use Rattle.machine.specs.Calls.{Input, Lent}
-use Rattle.decoder.specs.Given.{given, lent}
+use Rattle.attempts.specs.Given.{given, lent}
 use Rattle.screen.specs.Screen.{few}
 use Rattle.screen.proofs.Few.{few-any}
 use Rattle.screen.proofs.Shown.{plain-few, plain-enough}

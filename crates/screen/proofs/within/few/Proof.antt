@@ -9,7 +9,7 @@ use borrow.Author.Needs.{needs}
 use Rattle.machine.specs.Calls.{Input}
 use Rattle.checks.specs.Checks.{settingsFit}
 use Rattle.checks.proofs.Admitted.{none-made, these-made, in-ranges}
-use Rattle.decoder.specs.Given.{given}
+use Rattle.attempts.specs.Given.{given}
 use Rattle.screen.proofs.Few.{few-refused, few-unset, few-told}
 use Rattle.screen.proofs.within.few.Statement.{statement}
 use Rattle.screen.proofs.within.few.Tie as tie

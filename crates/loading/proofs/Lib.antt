@@ -1,0 +1,6 @@
+pub mod Bytes
+pub mod Signed
+pub mod Over
+pub mod Growing
+pub mod Verdicts
+pub mod Running

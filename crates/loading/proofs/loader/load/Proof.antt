@@ -1,0 +1,28 @@
+-- `loading::loader::load` meets its contract: the shape is a part of the sizes. Assumes nothing.
+use mathlib.Core.Path.{_≡_, ap}
+use borrow.Author.Needs.{needs}
+use denote.Ref.{now}
+use Rattle.codebook.specs.declared.Shape.{Shape}
+use Rattle.codebook.specs.declared.Sizes.{Sizes}
+use Rattle.codebook.specs.Loading.{Load, refused, loaded, load, shapeOf}
+use Rattle.codebook.specs.Tables.{sizesOf}
+use Rattle.loading.proofs.loader.load.Statement.{statement}
+use Rattle.loading.proofs.loader.load.Tie as tie
+
+-- the shape that the sizes hold
+abbrev shape : Sizes → Shape
+shape x = record { outcome = x .outcome; n = x .n; k = x .k; blocks = x .blocks }
+
+shape-sizes : (l : Load) (x : Sizes) → x ≡ sizesOf l → shape x ≡ shapeOf l
+unfolding sizesOf shapeOf
+shape-sizes (refused r) x e = ap shape e
+shape-sizes (loaded B) x e = ap shape e
+
+load-tables-requires : tie.Need-load-tables-requires
+load-tables-requires c κs = search needs
+
+returns : tie.Need-returns
+returns c = shape-sizes (load (now (c .before .before .before .before .before .before .before .before .args .book))) (c .load-tables .result) (c .load-tables .ensures .0)
+
+pub load-spec : {M : Type 1} → statement M
+load-spec = tie.close (tie.spec load-tables-requires returns)

@@ -1,0 +1,9 @@
+// The loader of code books: a command is read, judged and obeyed, and so the next, to the end. Relies on the crate codebook; codebook/specs/Loading says
+// what loading is, codebook/specs/Tables what the loader fills.
+mod commands;
+pub mod loader;
+mod obeying;
+mod stores;
+
+pub use loader::load;
+pub use loader::load_tables;

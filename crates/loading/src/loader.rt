@@ -1,0 +1,146 @@
+// A code book is loaded: its bytes are read once, command by command, and the first faulty one decides. Relies on commands.rt and obeying.rt;
+// codebook/specs/Loading says what loading is, codebook/specs/Tables what the tables hold.
+use crate::commands::read_command;
+use crate::obeying::obey;
+use codebook::Outcome;
+use codebook::Progress;
+use codebook::Read;
+use codebook::Refusal;
+use codebook::Shape;
+use codebook::Sizes;
+use codebook::Step;
+ghost use mathlib.Core.Path.{_≡_};
+ghost use mathlib.Core.Bool.{cond};
+ghost use Prim.Native.Nat.{_<_};
+ghost use Rattle.codebook.specs.Loading.{load, refused, shapeOf};
+ghost use Rattle.codebook.specs.Tables.{sizesOf, Filled};
+ghost use Rattle.codebook.specs.Progress.{Sized, tables, sizesAt};
+
+// A contract knows the length of an array by value, and not of one behind a reference: so the arrays are read whole once, and nothing is done
+// with them.
+fn held(
+    kinds: [u8; 512],
+    terms: [u32; 512],
+    heights: [u8; 512],
+    starts: [u16; 512],
+    biases: [i32; 512],
+    frees: [u8; 512],
+)
+    ensures { λ _. ⌜ Sized (tables kinds terms heights starts biases frees) ⌝ }
+{}
+
+// The same of arrays behind references.
+fn sized(
+    kinds: &[u8; 512],
+    terms: &[u32; 512],
+    heights: &[u8; 512],
+    starts: &[u16; 512],
+    biases: &[i32; 512],
+    frees: &[u8; 512],
+)
+    ensures { λ _. ⌜ Sized (tables (now (kinds .entry)) (now (terms .entry)) (now (heights .entry)) (now (starts .entry)) (now (biases .entry)) (now (frees .entry))) ⌝ }
+{
+    held(*kinds, *terms, *heights, *starts, *biases, *frees);
+}
+
+// The answer of a refusal: zeros beside it.
+fn refuse(r: Refusal) -> Sizes
+    ensures { λ x. ⌜ x ≡ sizesOf (refused r) ⌝ }
+{
+    Sizes {
+        outcome: Outcome::Refused(r),
+        m: 0,
+        n: 0,
+        k: 0,
+        blocks: 0,
+    }
+}
+
+// The sizes at the end command, after which nothing may follow.
+fn finish(p: Progress, follows: bool) -> Sizes
+    ensures { λ x. ⌜ x ≡ cond follows (sizesOf (refused Refusal.Misplaced)) (sizesAt p) ⌝ }
+{
+    if follows {
+        return refuse(Refusal::Misplaced);
+    }
+    Sizes {
+        outcome: Outcome::Done,
+        m: p.m,
+        n: p.n,
+        k: p.free,
+        blocks: p.blocks,
+    }
+}
+
+// Loads a book into tables that the caller owns. Where it is refused, what the tables then hold means nothing.
+pub fn load_tables(
+    book: &[u8],
+    kinds: &mut [u8; 512],
+    terms: &mut [u32; 512],
+    heights: &mut [u8; 512],
+    starts: &mut [u16; 512],
+    biases: &mut [i32; 512],
+    frees: &mut [u8; 512],
+) -> Sizes
+    ensures answer { λ r. ⌜ r ≡ sizesOf (load (now (book .entry))) ⌝ }
+    ensures filled { λ _. ⌜ Filled (load (now (book .entry))) (tables (now (kinds .entry)) (now (terms .entry)) (now (heights .entry)) (now (starts .entry)) (now (biases .entry)) (now (frees .entry))) (tables (now (kinds .exit)) (now (terms .exit)) (now (heights .exit)) (now (starts .exit)) (now (biases .exit)) (now (frees .exit))) ⌝ }
+{
+    sized(kinds, terms, heights, starts, biases, frees);
+    let mut p = Progress {
+        m: 0,
+        n: 0,
+        filled: 0,
+        ties: 0,
+        tying: false,
+        free: 0,
+        blocks: 0,
+        covered: 0,
+    };
+    let mut at = 0;
+    while at < book.len() {
+        let Read::Found(c, next, whole) = read_command(book, at) else {
+            return refuse(Refusal::Unknown);
+        };
+        match obey(c, whole, p, kinds, terms, heights, starts, biases, frees) {
+            Step::Next(q) => {
+                p = q;
+                at = next;
+            }
+            Step::End(q) => {
+                return finish(q, next < book.len());
+            }
+            Step::Refused(r) => {
+                return refuse(r);
+            }
+        }
+    }
+    refuse(Refusal::Truncated)
+}
+
+// Loads a book: the answer alone.
+pub fn load(book: &[u8]) -> Shape
+    ensures { λ r. ⌜ r ≡ shapeOf (load (now (book .entry))) ⌝ }
+{
+    let mut kinds = [0u8; 512];
+    let mut terms = [0u32; 512];
+    let mut heights = [0u8; 512];
+    let mut starts = [0u16; 512];
+    let mut biases = [0i32; 512];
+    let mut frees = [0u8; 512];
+    let x = load_tables(
+        book,
+        &mut kinds,
+        &mut terms,
+        &mut heights,
+        &mut starts,
+        &mut biases,
+        &mut frees,
+    );
+    let outcome = x.outcome;
+    Shape {
+        outcome,
+        n: x.n,
+        k: x.k,
+        blocks: x.blocks,
+    }
+}
