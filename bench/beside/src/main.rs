@@ -3,8 +3,10 @@
 //! builds the library that it links: the proved loader and run, lent under
 //! their own `requires`.
 //!
-//! "run" is the decoder alone, the book made ready before; "whole" is loading
-//! (and, for the reference, readying), the run, and the workspace cleared.
+//! "Readied and run" is what the proved run does too, since it finds each
+//! block's words as it goes: the reference readies the loaded book, then runs.
+//! "Run alone" has the reference's book made ready before. "Whole" is loading
+//! (and readying), the run, and the workspace cleared.
 
 use reference::answer::{Input, Lent, Reader};
 use reference::book;
@@ -207,9 +209,10 @@ fn beside(setup: &Setup, decibel: f64, rounds: usize) {
     }
     let per = extractions as f64 / INPUTS as f64;
 
-    let mut workspace = Workspace::new();
-    let mut narrow = Workspace::new();
-    narrow.narrow();
+    let (mut readied, mut alone) = (Workspace::new(), Workspace::new());
+    let (mut readied_narrow, mut alone_narrow) = (Workspace::new(), Workspace::new());
+    readied_narrow.narrow();
+    alone_narrow.narrow();
     let mut whole = Proved::new(m, numbers, work, entries);
     let t = times(
         rounds,
@@ -218,10 +221,18 @@ fn beside(setup: &Setup, decibel: f64, rounds: usize) {
                 std::hint::black_box(ready.run(l, d, &inputs[i]));
             },
             &mut |i| {
-                std::hint::black_box(workspace.run(&plan, l, d, &inputs[i], &mut ()));
+                let plan = Plan::new(&book);
+                std::hint::black_box(readied.run(&plan, l, d, &inputs[i], &mut ()));
             },
             &mut |i| {
-                std::hint::black_box(narrow.run(&plan, l, d, &inputs[i], &mut ()));
+                let plan = Plan::new(&book);
+                std::hint::black_box(readied_narrow.run(&plan, l, d, &inputs[i], &mut ()));
+            },
+            &mut |i| {
+                std::hint::black_box(alone.run(&plan, l, d, &inputs[i], &mut ()));
+            },
+            &mut |i| {
+                std::hint::black_box(alone_narrow.run(&plan, l, d, &inputs[i], &mut ()));
             },
             &mut |i| {
                 whole.load(&bytes);
@@ -232,7 +243,7 @@ fn beside(setup: &Setup, decibel: f64, rounds: usize) {
         ],
     );
     println!(
-        "| ({},{}) | {} | {} | {} | {decibel:.1} | {per:.1} | {:.0} | {:.0} | {:.0} | {:.1} | {:.0} | {:.0} | {:.2} |",
+        "| ({},{}) | {} | {} | {} | {decibel:.1} | {per:.1} | {:.0} | {:.0} | {:.0} | {:.2} | {:.2} | {:.0} | {:.0} | {:.0} | {:.0} | {:.2} |",
         setup.n,
         setup.k,
         book.v(),
@@ -241,18 +252,24 @@ fn beside(setup: &Setup, decibel: f64, rounds: usize) {
         t[0] / per,
         t[1] / per,
         t[2] / per,
+        t[0] / t[1],
         t[0] / t[2],
-        t[3],
-        t[4],
-        t[3] / t[4],
+        t[3] / per,
+        t[4] / per,
+        t[5],
+        t[6],
+        t[5] / t[6],
     );
 }
 
 fn main() {
     let rounds = std::env::args().nth(1).and_then(|s| s.parse().ok());
     let rounds = rounds.unwrap_or(15);
-    println!("| code | V | L | D | dB | extractions | proved run, ns each | reference, wide | reference, narrow | to narrow | proved whole, ns | reference whole | to it |");
-    println!("|---|---|---|---|---|---|---|---|---|---|---|---|---|");
+    println!(
+        "| code | V | L | D | dB | extractions | proved run, ns an extraction | reference readied and run, wide | narrow \
+         | to wide | to narrow | its run alone, wide | narrow | proved whole, ns | reference whole | to it |"
+    );
+    println!("|{}", "---|".repeat(16));
     for setup in &setups() {
         for decibel in [1.5, 2.5, 4.0] {
             beside(setup, decibel, rounds);
