@@ -69,6 +69,15 @@ struct Record {
     status: u32,
 }
 
+const STATUS: [&str; 5] = ["passed", "held for laboratory", "held for veterinarian", "held for owner", "condemned"];
+
+impl fmt::Display for Record {
+    fn fmt(&self, f: &mut fmt::Formatter) -> fmt::Result {
+        let side = if self.right { "right" } else { "left" };
+        write!(f, "plant {}, carcass {}, {side} side, {}", self.plant, self.carcass, STATUS[self.status as usize])
+    }
+}
+
 /// A decoder with its workspace, for one book, n and number of blocks.
 struct Decoder<'a> {
     book: &'a [u8],
@@ -133,7 +142,7 @@ fn main() {
     let mut decoder = Decoder::new(BOOK, 64, 5, 8, 16);
     for limit in [1000, 100, 1048577] {
         match decoder.decode(&RECEIVED, limit) {
-            Ok(record) => println!("limit {limit}: {record:?}"),
+            Ok(record) => println!("limit {limit}: {record}"),
             Err(refusal) => println!("limit {limit}: {refusal}"),
         }
     }
