@@ -10,9 +10,7 @@ use lib.Seq.{getD-set-same}
 use borrow.Author.Tests.{lt-ltb, le-ltb, le-leb, lt-leb, eq-eqb, ne-eqb}
 use Rattle.laws.specs.Lists.{keep}
 use Rattle.laws.proofs.Tests.{lt-or}
-use Rattle.codebook.specs.Book.{Book}
 use Rattle.machine.specs.Queue.{Key, ahead, behind, staying, outrunBy, visit}
-use Rattle.reader.specs.Paths.{Path, keyOf}
 
 module _ {A : Type 0} (key : A → Key) (b : ℕ) where
   -- ---- one path more
@@ -55,11 +53,11 @@ pub visit-seen : (visits : List ℕ) (b : ℕ) → b < length visits → getD (v
 unfolding visit
 visit-seen visits b h = getD-set-same visits b (suc (getD visits b 0)) 0 h
 
-module _ (B : Book) (L b : ℕ) (visits : List ℕ) (ps : List Path) where
-  pub stay-all : (getD visits b 0 ≡ L → ⊥) → (staying (keyOf B) L b visits ps ≡ ps) × (outrunBy (keyOf B) L b visits ps ≡ [])
+module _ {A : Type 0} (key : A → Key) (L b : ℕ) (visits : List ℕ) (ps : List A) where
+  pub stay-all : (getD visits b 0 ≡ L → ⊥) → (staying key L b visits ps ≡ ps) × (outrunBy key L b visits ps ≡ [])
   unfolding staying outrunBy
   stay-all h = rw (ne-eqb (getD visits b 0) L h) (refl, refl)
 
-  pub stay-ahead : getD visits b 0 ≡ L → (staying (keyOf B) L b visits ps ≡ ahead (keyOf B) b ps) × (outrunBy (keyOf B) L b visits ps ≡ behind (keyOf B) b ps)
+  pub stay-ahead : getD visits b 0 ≡ L → (staying key L b visits ps ≡ ahead key b ps) × (outrunBy key L b visits ps ≡ behind key b ps)
   unfolding staying outrunBy
   stay-ahead h = rw (eq-eqb (getD visits b 0) L h) (refl, refl)

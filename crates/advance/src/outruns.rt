@@ -70,7 +70,8 @@ pub fn outrun(
     requires { ⌜ Rising (now order) (t .queued) ⌝ }
     ensures { λ r. ⌜ (length (now (holders .exit)) ≡ 2570) × (length (now (order .exit)) ≡ 256) × (length (now (vacant .exit)) ≡ 256)
         × (now (visits .exit) ≡ visit (now (visits .entry)) b) × (r .next ≡ t .next) × (r .extractions ≡ t .extractions) × (r .crowded ≡ t .crowded)
-        × (r .queued ≤ s .paths) ⌝ }
+        × (r .queued ≤ s .paths)
+        × (queueOf (now (order .exit)) (r .queued) ≡ staying keyAt (s .visits) b (visit (now (visits .entry)) b) (queueOf (now (order .entry)) (t .queued))) ⌝ }
     ensures { λ r. ⌜ ((numbers : List ℤ) (bytes : List ℕ)
         (c : Queued (s .m) (s .paths) (memory (now (rows .entry)) (now (holders .entry)) numbers bytes) (queueOf (now (order .entry)) (t .queued)) (queueOf (now (vacant .entry)) (s .paths - t .queued)))
         → (let left = staying (keyOf (c .book)) (s .visits) b (visit (now (visits .entry)) b) (c .paths) in

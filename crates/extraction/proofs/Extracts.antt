@@ -18,8 +18,8 @@ use Rattle.order.specs.Entries.{keyAt}
 use Rattle.standing.specs.Seen.{Memory}
 use Rattle.standing.specs.Standing.{Stands}
 use Rattle.words.specs.declared.Block.{Block}
-use Rattle.words.specs.declared.Kept.{Kept}
-use Rattle.words.specs.Kept.{KeptIs}
+use Rattle.words.specs.Kept.{Kepts}
+use Rattle.words.proofs.Kepts.{kepts-staying}
 use Rattle.steps.specs.Steps.{Queued}
 use Rattle.extraction.specs.Extraction.{Seconding, Thirding, Extracting}
 use Rattle.extraction.proofs.Counts.{blocks-few}
@@ -30,7 +30,7 @@ pub visit-length : (visits : List ℕ) (b : ℕ) → length (visit visits b) ≡
 unfolding visit
 visit-length visits b = length-set visits b (suc (getD visits b 0))
 
-module _ {m N : ℕ} {x : Memory} {e : ℕ} {es vs kinds terms : List ℕ} {last at : Block} {kept : Kept} (c : Extracting m N x e es vs kinds terms last at kept) where
+module _ {m N : ℕ} {x : Memory} {e : ℕ} {es vs kinds terms : List ℕ} {last at : Block} {kept : List ℕ} (c : Extracting m N x e es vs kinds terms last at kept) where
   abbrev book : Book
   book = c .hand .book
 
@@ -61,17 +61,18 @@ module _ {m N : ℕ} {x : Memory} {e : ℕ} {es vs kinds terms : List ℕ} {last
       }
 
   -- the copy, its number n; the crowded before and after; and the memory that stands for it
-  module _ (n before : ℕ) {queued n′ crowded : ℕ} {y : Memory} {qs ws : List ℕ}
+  module _ (n before : ℕ) (kept′ : List ℕ) {queued n′ crowded : ℕ} {y : Memory} {qs ws : List ℕ}
       (done : let o = extract-seconding in
       let k = copy (o .hand .book) N (o .hand .arrays) (o .hand .taken) (o .hand .rest) n (o .hand .taken .blocks) in
       (queued ≡ length (k .queue)) × (n′ ≡ k .next) × (crowded ≡ before + length (k .crowded))
-      × Stands (o .hand .book) N y (e ∷ qs) ws (k .arrays) (o .hand .taken ∷ k .queue)) where
+      × Stands (o .hand .book) N y (e ∷ qs) ws (k .arrays) (o .hand .taken ∷ k .queue)
+      × Kepts (o .hand .book) (k .arrays) kept′ qs (k .queue)) where
     abbrev second : Cut
     second = copy book N arrays path rest n (path .blocks)
 
     -- ---- step 3
 
-    pub extract-thirding : Thirding m N y e qs ws kinds terms last at
+    pub extract-thirding : Thirding m N y e qs ws kinds terms last at kept′
     unfolding extract-seconding
     extract-thirding =
         let ok = c .booked .valid in
@@ -86,25 +87,22 @@ module _ {m N : ℕ} {x : Memory} {e : ℕ} {es vs kinds terms : List ℕ} {last
                 last-is = c .last-is;
                 fit = fit-copied book N arrays path rest n (path .blocks) (extract-seconding .fit);
               };
+          known = done .4;
           booked = c .booked;
           word = found .0;
           found = found .1;
           total = found .2;
         }
 
-    -- the word kept then
-    pub extract-kept : {rows : List ℕ} {numbers′ : List ℤ} {k : Kept} → KeptIs (extract-thirding .moving .hand .book) m rows numbers′ k → KeptIs book m rows numbers′ k
-    unfolding extract-thirding
-    extract-kept h = h
-
-    -- the memory then, with the entries qs′ queued
-    abbrev pub MovedTo : Memory → List ℕ → Type 0
-    MovedTo z qs′ =
+    -- the memory and the words kept then, with the entries qs′ queued
+    abbrev pub MovedTo : Memory → List ℕ → List ℕ → Type 0
+    MovedTo z qs′ words =
         let h = extract-thirding .moving .hand in
         let k = move (h .book) (h .arrays) (h .taken) (h .rest) in
         Stands (h .book) N z qs′ ws (k .arrays) (insert (keyOf (h .book)) (k .path) (h .rest))
+        × Kepts (h .book) (k .arrays) words qs′ (insert (keyOf (h .book)) (k .path) (h .rest))
 
-    module _ {z : Memory} {qs′ : List ℕ} (moved : MovedTo z qs′) where
+    module _ {z : Memory} {qs′ : List ℕ} (words : List ℕ) (moved : MovedTo z qs′ words) where
       abbrev third : Moved
       third = move book (second .arrays) path (second .queue)
 
@@ -113,23 +111,23 @@ module _ {m N : ℕ} {x : Memory} {e : ℕ} {es vs kinds terms : List ℕ} {last
       pub extract-queued : Queued m N z qs′ ws
       unfolding extract-thirding
       extract-queued =
-          record { book = book; arrays = third .arrays; paths = insert (keyOf book) (third .path) (second .queue); deep = c .hand .deep; stands = moved }
+          record { book = book; arrays = third .arrays; paths = insert (keyOf book) (third .path) (second .queue); deep = c .hand .deep; stands = moved .0 }
 
       -- what the extraction has to come to
       abbrev Comes : List ℕ → ℕ → ℕ → ℕ → Memory → List ℕ → List ℕ → Extracted → Type 0
       Comes visits left gone outrun w es′ vs′ k =
           (left ≡ length (k .state .queue)) × (n′ ≡ k .state .next) × (visits ≡ k .state .visits)
           × (crowded ≡ before + length (k .step .crowded)) × (outrun ≡ gone + length (k .step .outrun))
-          × Stands book N w es′ vs′ (k .state .arrays) (k .state .queue)
+          × Stands book N w es′ vs′ (k .state .arrays) (k .state .queue) × Kepts book (k .state .arrays) words es′ (k .state .queue)
 
-      pub extract-done : (L : ℕ) (visits : List ℕ) (gone b : ℕ) {left outrun : ℕ} {w : Memory} {es′ vs′ : List ℕ} → b ≡ keyAt e .blocks →
+      pub extract-done : (L : ℕ) (visits : List ℕ) (gone b : ℕ) {left outrun : ℕ} {w : Memory} {es′ vs′ : List ℕ} → b ≡ keyAt e .blocks → es′ ≡ staying keyAt L b (visit visits b) qs′ →
           (let o = extract-queued in
           let stay = staying (keyOf (o .book)) L b (visit visits b) (o .paths) in
           (left ≡ length stay) × (outrun ≡ gone + length (outrunBy (keyOf (o .book)) L b (visit visits b) (o .paths)))
           × Stands (o .book) N w es′ vs′ (o .arrays) stay) →
           Comes (visit visits b) left gone outrun w es′ vs′ (extract book L N arrays path rest n visits)
       unfolding extract extract-seconding extract-thirding extract-queued numbers
-      extract-done L visits gone b {left} {outrun} {w} {es′} {vs′} q h =
+      extract-done L visits gone b {left} {outrun} {w} {es′} {vs′} q stayed h =
           let o = extract-queued in
           let same : b ≡ path .blocks = q ∙ hand-blocks (c .hand) in
           let Left : ℕ → Type 0 = λ i.
@@ -137,6 +135,8 @@ module _ {m N : ℕ} {x : Memory} {e : ℕ} {es vs kinds terms : List ℕ} {last
           (left ≡ length stay) × (outrun ≡ gone + length (outrunBy (keyOf book) L i (visit visits i) (o .paths)))
           × Stands book N w es′ vs′ (third .arrays) stay in
           let k : Left (path .blocks) = subst Left same h in
+          let own : es′ ≡ staying keyAt L (path .blocks) (visit visits (path .blocks)) qs′ = stayed ∙ ap (λ i. staying keyAt L i (visit visits i) qs′) same in
+          let kepts = kepts-staying book words (third .arrays) L (path .blocks) (visit visits (path .blocks)) qs′ (o .paths) (moved .1) in
           let behind : List Path = outrunBy (keyOf book) L (path .blocks) (visit visits (path .blocks)) (o .paths) in (
             k .0,
             done .1,
@@ -144,4 +144,5 @@ module _ {m N : ℕ} {x : Memory} {e : ℕ} {es vs kinds terms : List ℕ} {last
             done .2,
             omega (arith, k .1, length-map behind (λ (p : Path). keyOf book p .number)),
             k .2,
+            rw own kepts,
           )

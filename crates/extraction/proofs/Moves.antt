@@ -15,7 +15,7 @@ use Rattle.codebook.specs.Book.{Book, blockAt}
 use Rattle.machine.specs.Queue.{Key, insert}
 use Rattle.outer.specs.declared.Candidate.{Candidate}
 use Rattle.outer.specs.Search.{Searchable}
-use Rattle.outer.specs.Words.{Word, nearest}
+use Rattle.outer.specs.Words.{Word, nearest, nextAfter}
 use Rattle.outer.specs.Blocks.{paritySet, Bits, BlockTabled, candidateOf}
 use Rattle.outer.proofs.Entries.{block-low, block-walkable}
 use Rattle.reader.specs.Arrays.{Arrays, View, valsOf}
@@ -44,7 +44,7 @@ unfolding FitFor
 fit-parities B A p zero f = f .parities
 fit-parities B A p (suc b) f = f .parities
 
-module _ {m N : ℕ} {x : Memory} {e : ℕ} {es vs kinds terms : List ℕ} {last at : Block} (c : Thirding m N x e es vs kinds terms last at) where
+module _ {m N : ℕ} {x : Memory} {e : ℕ} {es vs kinds terms : List ℕ} {last at : Block} {kept : List ℕ} (c : Thirding m N x e es vs kinds terms last at kept) where
   abbrev book : Book
   book = c .moving .hand .book
 
@@ -57,6 +57,20 @@ module _ {m N : ℕ} {x : Memory} {e : ℕ} {es vs kinds terms : List ℕ} {last
   -- what it sees then
   abbrev pub view : View
   view = nextView book (idsOf rest) (c .moving .hand .arrays) path (path .blocks)
+
+  -- the path with the nearest word of its next block
+  abbrev pub moved : Path
+  moved =
+      record {
+        number = path .number;
+        blocks = suc (path .blocks);
+        spent = path .spent + path .cost;
+        cost = c .word .cost;
+        setting = c .word .setting;
+        earlier = path .parities;
+        parities = c .word .parities;
+        ids = view .ids;
+      }
 
   abbrev height : ℕ
   height = blockAt book (path .blocks) .j
@@ -140,7 +154,16 @@ module _ {m N : ℕ} {x : Memory} {e : ℕ} {es vs kinds terms : List ℕ} {last
           small = subst (All (Within 1048064)) (sym values-are) (ready .1);
         }
 
-    -- ---- the word found
+    -- ---- the words found
+
+    -- the next after the nearest
+    pub third-second : {second : Candidate} →
+        (let ws = part (spot m (idAt (y .rows) (slotAt e) (at .height)) (at .height)) (2 ^ at .height) (y .numbers) in
+        (w : Word) → nearest book ws (path .parities) (path .blocks) ≡ some w → second ≡ candidateOf book (nextAfter w book ws (path .parities) (path .blocks))) →
+        second ≡ candidateOf book (nextAfter (c .word) book (valsOf view height) (path .parities) (path .blocks))
+    third-second {second} h =
+        subst (λ ws. (w : Word) → nearest book ws (path .parities) (path .blocks) ≡ some w → second ≡ candidateOf book (nextAfter w book ws (path .parities) (path .blocks)))
+        values-are h (c .word) (c .found)
 
     module _ {found : Candidate}
         (is : found ≡ candidateOf book (nearest book (part (spot m (idAt (y .rows) (slotAt e) (at .height)) (at .height)) (2 ^ at .height) (y .numbers)) (path .parities) (path .blocks))) where
@@ -155,20 +178,6 @@ module _ {m N : ℕ} {x : Memory} {e : ℕ} {es vs kinds terms : List ℕ} {last
 
       pub third-total : cell (y .rows) (slotAt e) 10 + cell (y .rows) (slotAt e) 11 + found .cost ≤ 1048064
       third-total = omega (arith, third-spent, third-cost, cost-is, c .total)
-
-      -- the path with that word
-      abbrev moved : Path
-      moved =
-          record {
-            number = path .number;
-            blocks = suc (path .blocks);
-            spent = path .spent + path .cost;
-            cost = c .word .cost;
-            setting = c .word .setting;
-            earlier = path .parities;
-            parities = c .word .parities;
-            ids = view .ids;
-          }
 
       word-is : (k : ℕ) → suc (path .blocks) ≡ suc k → found .number ≡ number (lastWord book moved k)
       unfolding candidateOf lastWord
@@ -206,16 +215,17 @@ module _ {m N : ℕ} {x : Memory} {e : ℕ} {es vs kinds terms : List ℕ} {last
 
       -- ---- the row written, and the entry queued
 
-      pub third-queued : {d : ℕ} {s : ℤ} {rows′ : List ℕ} →
-          s ≡ negℤ (pos (cell (y .rows) (slotAt e) 10 + cell (y .rows) (slotAt e) 11 + found .cost)) -ℤ at .bias →
-          Packed d (record { score = s; blocks = keyAt e .blocks + 1; number = keyAt e .number }) (slotAt e) →
+      pub third-packed : {d : ℕ} {s : ℤ} → s ≡ negℤ (pos (cell (y .rows) (slotAt e) 10 + cell (y .rows) (slotAt e) 11 + found .cost)) -ℤ at .bias →
+          Packed d (record { score = s; blocks = keyAt e .blocks + 1; number = keyAt e .number }) (slotAt e) → Packed d (keyOf book moved) (slotAt e)
+      third-packed {d} score packed = subst (λ (k : Key). Packed d k (slotAt e)) (key-is score) packed
+
+      pub third-queued : {d : ℕ} {rows′ : List ℕ} → Packed d (keyOf book moved) (slotAt e) →
           PutRow (slotAt e) (y .rows) rows′ (cell (y .rows) (slotAt e) 10 + cell (y .rows) (slotAt e) 11) (found .cost) (found .number) (cell (y .rows) (slotAt e) 14) (found .parities) →
           let k = move book (c .moving .hand .arrays) path rest in
           Stands book N (memory rows′ (y .holders) (y .numbers) (y .bytes)) (insert keyAt d es) vs (k .arrays) (insert (keyOf book) (k .path) rest)
       unfolding move moveWith withIds
-      third-queued {d} {rows′ = rows′} score packed put =
-          let own : Packed d (keyOf book moved) (slotAt e) = subst (λ (k : Key). Packed d k (slotAt e)) (key-is score) packed in
+      third-queued {d} {rows′} packed put =
           let Ends : Option Word → Type 0 = λ o.
           let k = moveWith (c .moving .hand .arrays) path view o in
           Stands book N (memory rows′ (y .holders) (y .numbers) (y .bytes)) (insert keyAt d es) vs (k .arrays) (insert (keyOf book) (k .path) rest) in
-          subst Ends (sym (c .found)) (stands-insert (stands-put st (c .booked .valid .high) put (third-made own) refl))
+          subst Ends (sym (c .found)) (stands-insert (stands-put st (c .booked .valid .high) put (third-made packed) refl))

@@ -15,7 +15,7 @@ use Rattle.standing.specs.Seen.{Memory}
 use Rattle.standing.specs.Standing.{Stands, InHand}
 use Rattle.standing.proofs.Sizes.{stands-length}
 use Rattle.words.specs.declared.Block.{Block}
-use Rattle.words.specs.declared.Kept.{Kept}
+use Rattle.words.specs.Kept.{Kepts}
 use Rattle.steps.specs.Steps.{Copying}
 use Rattle.extraction.specs.Extraction.{Seconding}
 
@@ -28,24 +28,25 @@ pub hand-blocks : {m N : ℕ} {x : Memory} {e : ℕ} {es vs : List ℕ} (c : InH
 unfolding keyOf
 hand-blocks c = ap (λ (k : Key). k .blocks) (hand-key c)
 
-module _ {m N : ℕ} {x : Memory} {e : ℕ} {es vs kinds terms : List ℕ} {last : Block} {kept : Kept} (c : Seconding m N x e es vs kinds terms last kept) where
+module _ {m N : ℕ} {x : Memory} {e : ℕ} {es vs kinds terms : List ℕ} {last : Block} {kept : List ℕ} (c : Seconding m N x e es vs kinds terms last kept) where
   -- what the step has to come to: so many queued, the next number, the count, and memory
-  abbrev Comes : ℕ → ℕ → ℕ → ℕ → Memory → List ℕ → List ℕ → Cut → Type 0
-  Comes queued n before after y qs ws k =
+  abbrev Comes : ℕ → ℕ → ℕ → ℕ → Memory → List ℕ → List ℕ → List ℕ → Cut → Type 0
+  Comes queued n before after y qs ws kept′ k =
       (queued ≡ length (k .queue)) × (n ≡ k .next) × (after ≡ before + length (k .crowded))
       × Stands (c .hand .book) N y (e ∷ qs) ws (k .arrays) (c .hand .taken ∷ k .queue)
+      × Kepts (c .hand .book) (k .arrays) kept′ qs (k .queue)
 
   -- the reader's copy, of a path with so many blocks
   abbrev copied : ℕ → ℕ → Cut
   copied n blocks = copy (c .hand .book) N (c .hand .arrays) (c .hand .taken) (c .hand .rest) n blocks
 
   -- the empty path
-  pub second-none : (n crowded : ℕ) → keyAt e .blocks ≡ 0 → Comes (length es) n crowded crowded x es vs (copied n (c .hand .taken .blocks))
-  unfolding copy
+  pub second-none : (n crowded : ℕ) → keyAt e .blocks ≡ 0 → Comes (length es) n crowded crowded x es vs kept (copied n (c .hand .taken .blocks))
+  unfolding copy Paired
   second-none n crowded q =
       let none : 0 ≡ c .hand .taken .blocks = omega (arith, hand-blocks (c .hand)) in
       let level : length es ≡ length (c .hand .rest) = omega (arith, stands-length (c .hand .stands)) in
-      subst (λ (i : ℕ). Comes (length es) n crowded crowded x es vs (copied n i)) none (level, refl, omega arith, c .hand .stands)
+      subst (λ (i : ℕ). Comes (length es) n crowded crowded x es vs kept (copied n i)) none (level, refl, omega arith, c .hand .stands, c .known .1)
 
   -- a path with a last block
   module _ {b : ℕ} (q : keyAt e .blocks ≡ suc b) where
@@ -66,12 +67,13 @@ module _ {m N : ℕ} {x : Memory} {e : ℕ} {es vs kinds terms : List ℕ} {last
           total = λ y. c .total b y blocks-are;
         }
 
-    pub second-done : (n before : ℕ) {queued n′ after : ℕ} {y : Memory} {qs ws : List ℕ} →
+    pub second-done : (n before : ℕ) (kept′ : List ℕ) {queued n′ after : ℕ} {y : Memory} {qs ws : List ℕ} →
         (let o = second-copying in
         let k = copy (o .hand .book) N (o .hand .arrays) (o .hand .taken) (o .hand .rest) n (suc b) in
         (queued ≡ length (k .queue)) × (n′ ≡ k .next) × (after ≡ before + length (k .crowded))
-        × Stands (o .hand .book) N y (e ∷ qs) ws (k .arrays) (o .hand .taken ∷ k .queue)) →
-        Comes queued n′ before after y qs ws (copied n (c .hand .taken .blocks))
+        × Stands (o .hand .book) N y (e ∷ qs) ws (k .arrays) (o .hand .taken ∷ k .queue)
+        × Kepts (o .hand .book) (k .arrays) kept′ qs (k .queue)) →
+        Comes queued n′ before after y qs ws kept′ (copied n (c .hand .taken .blocks))
     unfolding second-copying
-    second-done n before {queued} {n′} {after} {y} {qs} {ws} h =
-        subst (λ (i : ℕ). Comes queued n′ before after y qs ws (copied n i)) (sym blocks-are) h
+    second-done n before kept′ {queued} {n′} {after} {y} {qs} {ws} h =
+        subst (λ (i : ℕ). Comes queued n′ before after y qs ws kept′ (copied n i)) (sym blocks-are) h

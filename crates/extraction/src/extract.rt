@@ -10,9 +10,8 @@ ghost use Rattle.reader.specs.Paths.{keyOf};
 ghost use Rattle.order.specs.Entries.{queueOf, Rising};
 ghost use Rattle.standing.specs.Seen.{memory, Lent};
 ghost use Rattle.standing.specs.Standing.{Stands};
-ghost use Rattle.words.specs.Kept.{KeptIs};
+ghost use Rattle.words.specs.Kept.{Kepts};
 ghost use Rattle.extraction.specs.Extraction.{Seconding, Thirding, Extracting};
-use crate::Extracted;
 use advance::outruns::outrun;
 use advance::values::calculate;
 use order::entries::blocks_of;
@@ -24,7 +23,7 @@ use steps::Setting;
 use steps::Tally;
 use steps::copies::copy;
 use words::Block;
-use words::Kept;
+use words::keep;
 use words::nearest_words;
 use words::put;
 use words::score;
@@ -43,25 +42,26 @@ fn second(
     t: Tally,
     e: u64,
     last: Block,
-    kept: Kept,
+    kept: &mut [u32; 1024],
     words: &mut [u32; 256],
     sets: &mut [u32; 256],
     sums: &mut [u32; 128],
 ) -> Tally
-    requires { ⌜ Lent (s .m) (s .paths) (memory (now rows) (now holders) (now numbers) (now bytes)) × (length (now order) ≡ 256) × (length (now vacant) ≡ 256) ⌝ }
+    requires { ⌜ Lent (s .m) (s .paths) (memory (now rows) (now holders) (now numbers) (now bytes)) × (length (now order) ≡ 256) × (length (now vacant) ≡ 256) × (length (now kept) ≡ 1024) ⌝ }
     requires { ⌜ Scratch (now words) (now sets) (now sums) × (2 ≤ s .paths) × (t .queued + 1 ≤ s .paths) × (t .next < 32768) × (t .crowded < 65536) ⌝ }
     requires { ⌜ Seconding (s .m) (s .paths) (memory (now rows) (now holders) (now numbers) (now bytes)) e (queueOf (now order) (t .queued))
-        (queueOf (now vacant) (s .paths - (t .queued + 1))) (now kinds) (now terms) last kept ⌝ }
+        (queueOf (now vacant) (s .paths - (t .queued + 1))) (now kinds) (now terms) last (now kept) ⌝ }
     requires { ⌜ Rising (now order) (t .queued) ⌝ }
     ensures { λ _. ⌜ Lent (s .m) (s .paths) (memory (now (rows .exit)) (now (holders .exit)) (now (numbers .exit)) (now (bytes .entry)))
-        × (length (now (order .exit)) ≡ 256) × (length (now (vacant .exit)) ≡ 256) × Scratch (now (words .exit)) (now (sets .exit)) (now (sums .exit)) ⌝ }
+        × (length (now (order .exit)) ≡ 256) × (length (now (vacant .exit)) ≡ 256) × (length (now (kept .exit)) ≡ 1024) × Scratch (now (words .exit)) (now (sets .exit)) (now (sums .exit)) ⌝ }
     ensures { λ r. ⌜ (r .extractions ≡ t .extractions) × (r .outrun ≡ t .outrun) × (r .queued + 1 ≤ s .paths) ⌝ }
     ensures { λ r. ⌜ ((c : Seconding (s .m) (s .paths) (memory (now (rows .entry)) (now (holders .entry)) (now (numbers .entry)) (now (bytes .entry))) e (queueOf (now (order .entry)) (t .queued))
-        (queueOf (now (vacant .entry)) (s .paths - (t .queued + 1))) (now (kinds .entry)) (now (terms .entry)) last kept)
+        (queueOf (now (vacant .entry)) (s .paths - (t .queued + 1))) (now (kinds .entry)) (now (terms .entry)) last (now (kept .entry)))
         → (let k = R.copy (c .hand .book) (s .paths) (c .hand .arrays) (c .hand .taken) (c .hand .rest) (t .next) (c .hand .taken .blocks) in
         (r .queued ≡ length (k .queue)) × (r .next ≡ k .next) × (r .crowded ≡ t .crowded + length (k .crowded))
         × Stands (c .hand .book) (s .paths) (memory (now (rows .exit)) (now (holders .exit)) (now (numbers .exit)) (now (bytes .entry))) (e ∷ queueOf (now (order .exit)) (r .queued))
-        (queueOf (now (vacant .exit)) (s .paths - (r .queued + 1))) (k .arrays) (c .hand .taken ∷ k .queue))) ⌝ }
+        (queueOf (now (vacant .exit)) (s .paths - (r .queued + 1))) (k .arrays) (c .hand .taken ∷ k .queue)
+        × Kepts (c .hand .book) (k .arrays) (now (kept .exit)) (queueOf (now (order .exit)) (r .queued)) (k .queue))) ⌝ }
     ensures { λ r. ⌜ Rising (now (order .exit)) (r .queued) ⌝ }
 {
     let blocks = blocks_of(e);
@@ -104,20 +104,21 @@ fn third(
     e: u64,
     last: Block,
     at: Block,
+    kept: &mut [u32; 1024],
     words: &mut [u32; 256],
     sets: &mut [u32; 256],
     sums: &mut [u32; 128],
-) -> Kept
-    requires { ⌜ Lent m paths (memory (now rows) (now holders) (now numbers) (now bytes)) × (length (now order) ≡ 256) × (queued + 1 ≤ paths) × Scratch (now words) (now sets) (now sums) ⌝ }
-    requires { ⌜ ((vs : List ℕ) × Thirding m paths (memory (now rows) (now holders) (now numbers) (now bytes)) e (queueOf (now order) queued) vs (now kinds) (now terms) last at) ⌝ }
+)
+    requires { ⌜ Lent m paths (memory (now rows) (now holders) (now numbers) (now bytes)) × (length (now order) ≡ 256) × (queued + 1 ≤ paths) × (length (now kept) ≡ 1024) × Scratch (now words) (now sets) (now sums) ⌝ }
+    requires { ⌜ ((vs : List ℕ) × Thirding m paths (memory (now rows) (now holders) (now numbers) (now bytes)) e (queueOf (now order) queued) vs (now kinds) (now terms) last at (now kept)) ⌝ }
     requires { ⌜ Rising (now order) queued ⌝ }
     ensures { λ _. ⌜ Lent m paths (memory (now (rows .exit)) (now (holders .exit)) (now (numbers .exit)) (now (bytes .exit)))
-        × (length (now (order .exit)) ≡ 256) × Scratch (now (words .exit)) (now (sets .exit)) (now (sums .exit)) ⌝ }
-    ensures { λ r. ⌜ ((vs : List ℕ) (c : Thirding m paths (memory (now (rows .entry)) (now (holders .entry)) (now (numbers .entry)) (now (bytes .entry))) e (queueOf (now (order .entry)) queued) vs (now (kinds .entry)) (now (terms .entry)) last at)
+        × (length (now (order .exit)) ≡ 256) × (length (now (kept .exit)) ≡ 1024) × Scratch (now (words .exit)) (now (sets .exit)) (now (sums .exit)) ⌝ }
+    ensures { λ _. ⌜ ((vs : List ℕ) (c : Thirding m paths (memory (now (rows .entry)) (now (holders .entry)) (now (numbers .entry)) (now (bytes .entry))) e (queueOf (now (order .entry)) queued) vs (now (kinds .entry)) (now (terms .entry)) last at (now (kept .entry)))
         → (let h = c .moving .hand in let k = R.move (h .book) (h .arrays) (h .taken) (h .rest) in
         Stands (h .book) paths (memory (now (rows .exit)) (now (holders .exit)) (now (numbers .exit)) (now (bytes .exit))) (queueOf (now (order .exit)) (suc queued)) vs
         (k .arrays) (Q.insert (keyOf (h .book)) (k .path) (h .rest))
-        × KeptIs (h .book) m (now (rows .exit)) (now (numbers .exit)) r)) ⌝ }
+        × Kepts (h .book) (k .arrays) (now (kept .exit)) (queueOf (now (order .exit)) (suc queued)) (Q.insert (keyOf (h .book)) (k .path) (h .rest)))) ⌝ }
     ensures { λ _. ⌜ Rising (now (order .exit)) (suc queued) ⌝ }
 {
     calculate(rows, holders, numbers, bytes, m, paths, e, last, at);
@@ -143,8 +144,8 @@ fn third(
         slot,
     );
     insert(order, queued, d);
-    let word = found.second;
-    Kept { entry: d, word }
+    let next = found.second;
+    keep(kept, slot, next);
 }
 
 // Steps 2 to 4 for the path of entry e, which is no longer queued.
@@ -163,29 +164,29 @@ pub fn extract(
     e: u64,
     last: Block,
     at: Block,
-    kept: Kept,
+    kept: &mut [u32; 1024],
     words: &mut [u32; 256],
     sets: &mut [u32; 256],
     sums: &mut [u32; 128],
-) -> Extracted
-    requires { ⌜ Lent (s .m) (s .paths) (memory (now rows) (now holders) (now numbers) (now bytes)) × (length (now order) ≡ 256) × (length (now vacant) ≡ 256) × (length (now visits) ≡ 512) ⌝ }
+) -> Tally
+    requires { ⌜ Lent (s .m) (s .paths) (memory (now rows) (now holders) (now numbers) (now bytes)) × (length (now order) ≡ 256) × (length (now vacant) ≡ 256) × (length (now visits) ≡ 512) × (length (now kept) ≡ 1024) ⌝ }
     requires { ⌜ Scratch (now words) (now sets) (now sums) × (2 ≤ s .paths) × (t .queued + 1 ≤ s .paths) × (t .next < 32768) × (t .crowded < 65536) × (t .outrun < 16777216) ⌝ }
     requires { ⌜ ((b : ℕ) → getD (now visits) b 0 < 65536) ⌝ }
     requires { ⌜ Extracting (s .m) (s .paths) (memory (now rows) (now holders) (now numbers) (now bytes)) e (queueOf (now order) (t .queued))
-        (queueOf (now vacant) (s .paths - (t .queued + 1))) (now kinds) (now terms) last at kept ⌝ }
+        (queueOf (now vacant) (s .paths - (t .queued + 1))) (now kinds) (now terms) last at (now kept) ⌝ }
     requires { ⌜ Rising (now order) (t .queued) ⌝ }
     ensures { λ _. ⌜ Lent (s .m) (s .paths) (memory (now (rows .exit)) (now (holders .exit)) (now (numbers .exit)) (now (bytes .exit)))
-        × (length (now (order .exit)) ≡ 256) × (length (now (vacant .exit)) ≡ 256) × (length (now (visits .exit)) ≡ 512) × Scratch (now (words .exit)) (now (sets .exit)) (now (sums .exit)) ⌝ }
-    ensures { λ r. ⌜ (r .tally .extractions ≡ t .extractions) × (r .tally .queued ≤ s .paths) ⌝ }
+        × (length (now (order .exit)) ≡ 256) × (length (now (vacant .exit)) ≡ 256) × (length (now (visits .exit)) ≡ 512) × (length (now (kept .exit)) ≡ 1024) × Scratch (now (words .exit)) (now (sets .exit)) (now (sums .exit)) ⌝ }
+    ensures { λ r. ⌜ (r .extractions ≡ t .extractions) × (r .queued ≤ s .paths) ⌝ }
     ensures { λ r. ⌜ ((c : Extracting (s .m) (s .paths) (memory (now (rows .entry)) (now (holders .entry)) (now (numbers .entry)) (now (bytes .entry))) e (queueOf (now (order .entry)) (t .queued))
-        (queueOf (now (vacant .entry)) (s .paths - (t .queued + 1))) (now (kinds .entry)) (now (terms .entry)) last at kept)
+        (queueOf (now (vacant .entry)) (s .paths - (t .queued + 1))) (now (kinds .entry)) (now (terms .entry)) last at (now (kept .entry)))
         → (let k = R.extract (c .hand .book) (s .visits) (s .paths) (c .hand .arrays) (c .hand .taken) (c .hand .rest) (t .next) (now (visits .entry)) in
-        (r .tally .queued ≡ length (k .state .queue)) × (r .tally .next ≡ k .state .next) × (now (visits .exit) ≡ k .state .visits)
-        × (r .tally .crowded ≡ t .crowded + length (k .step .crowded)) × (r .tally .outrun ≡ t .outrun + length (k .step .outrun))
-        × Stands (c .hand .book) (s .paths) (memory (now (rows .exit)) (now (holders .exit)) (now (numbers .exit)) (now (bytes .exit))) (queueOf (now (order .exit)) (r .tally .queued))
-        (queueOf (now (vacant .exit)) (s .paths - r .tally .queued)) (k .state .arrays) (k .state .queue)
-        × KeptIs (c .hand .book) (s .m) (now (rows .exit)) (now (numbers .exit)) (r .kept))) ⌝ }
-    ensures { λ r. ⌜ Rising (now (order .exit)) (r .tally .queued) ⌝ }
+        (r .queued ≡ length (k .state .queue)) × (r .next ≡ k .state .next) × (now (visits .exit) ≡ k .state .visits)
+        × (r .crowded ≡ t .crowded + length (k .step .crowded)) × (r .outrun ≡ t .outrun + length (k .step .outrun))
+        × Stands (c .hand .book) (s .paths) (memory (now (rows .exit)) (now (holders .exit)) (now (numbers .exit)) (now (bytes .exit))) (queueOf (now (order .exit)) (r .queued))
+        (queueOf (now (vacant .exit)) (s .paths - r .queued)) (k .state .arrays) (k .state .queue)
+        × Kepts (c .hand .book) (k .state .arrays) (now (kept .exit)) (queueOf (now (order .exit)) (r .queued)) (k .state .queue))) ⌝ }
+    ensures { λ r. ⌜ Rising (now (order .exit)) (r .queued) ⌝ }
 {
     let m = s.m;
     let paths = s.paths;
@@ -208,7 +209,7 @@ pub fn extract(
         sums,
     );
     let queued = x.queued;
-    let next = third(
+    third(
         rows,
         holders,
         order,
@@ -222,12 +223,13 @@ pub fn extract(
         e,
         last,
         at,
+        kept,
         words,
         sets,
         sums,
     );
     x.queued = queued + 1;
-    let tally = outrun(
+    outrun(
         rows,
         holders,
         order,
@@ -236,6 +238,5 @@ pub fn extract(
         s,
         x,
         blocks_of(e) as usize,
-    );
-    Extracted { tally, kept: next }
+    )
 }

@@ -1,4 +1,4 @@
--- The words that the reader finds: each is the word of its setting; the next block always has a nearest word; and
+-- The words that the reader finds: each is the word of its setting, one of those that the block has; the next block always has a nearest word; and
 -- with a word found the path's total stays within range. A word found matches the machine's, so that the total is the costs of the machine's
 -- bits. Assumes nothing.
 use mathlib.Core.Path.{_≡_, refl, sym, ap, _∙_, subst}
@@ -46,10 +46,17 @@ use Rattle.reader.proofs.Reached.{Headed, reached-headed}
 module _ (test : Word → Bool) (B : Book) (vs : List ℤ) (x : Parities) (b : ℕ) (y : Word) (e : nearestWith test B vs x b ≡ some y) where
   pub word-made : y ≡ wordOf B vs x b (y .setting)
   unfolding nearestWith wordOf May
-  word-made = subst (May Made) e (first-may Made nearer test (wordOf B vs x b) (2 ^ freeCount (kindsOf B b)) (λ w. refl))
+  word-made = subst (May Made) e (first-may Made nearer test (wordOf B vs x b) (2 ^ freeCount (kindsOf B b)) (λ w _. refl))
     where
       Made : Word → Type 0
       Made z = z ≡ wordOf B vs x b (z .setting)
+
+  pub made-few : y .setting < 2 ^ freeCount (kindsOf B b)
+  unfolding nearestWith wordOf May
+  made-few = subst (May Few) e (first-may Few nearer test (wordOf B vs x b) (2 ^ freeCount (kindsOf B b)) (λ w l. l))
+    where
+      Few : Word → Type 0
+      Few z = z .setting < 2 ^ freeCount (kindsOf B b)
 
   pub made-number : y .number ≡ number (transform (blockAt B b .j) (fillBlock B x b (y .setting) .bits))
   unfolding wordOf
@@ -65,6 +72,10 @@ module _ (B : Book) (vs : List ℤ) (x : Parities) (b : ℕ) (y : Word) where
       y .number ≡ number (transform (blockAt B b .j) (fillBlock B x b (y .setting) .bits))
   unfolding nextAfter
   next-number own e = made-number _ B vs x b y e
+
+  pub next-few : (own : Word) → nextAfter own B vs x b ≡ some y → y .setting < 2 ^ freeCount (kindsOf B b)
+  unfolding nextAfter
+  next-few own e = made-few _ B vs x b y e
 
 -- the next block of p has a nearest word, at what p sees of it among others, and the total with that word is within range
 abbrev pub MoveFound : Book → List (ℕ → ℕ) → Arrays → Path → Type 0

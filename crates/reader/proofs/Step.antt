@@ -50,6 +50,16 @@ module _ (B : Book) (ys : List ℤ) (A : Arrays) (q : M.Path) (p : Path) (h : St
   unfolding M.keyOf keyOf plain
   stands-key = ap {B = Key} (λ (x : M.Path). record { score = x .score; blocks = x .blocks; number = x .number }) (h .same)
 
+-- the way of p to its block b, and the array for its word, leave what the others see
+pub next-kept : (B : Book) (others : List (ℕ → ℕ)) (A : Arrays) (p : Path) (b : ℕ) → Kept others A (nextView B others A p b .arrays)
+next-kept B others A p b =
+    let j : ℕ = blockAt B b .j in
+    let v₁ : View = commit B others p b (viewOf A p) in
+    let v₂ : View = downTo B others A p b in
+    kept-on others A (v₂ .arrays) _
+    (kept-on others A (v₁ .arrays) (v₂ .arrays) (commit-kept B others p b (viewOf A p)) (descend-kept others (B .m - j) (B .m) (startOf (B .blocks) b) v₁))
+    (claim-kept others (place B b) v₂ j)
+
 -- the reader's extraction x′ is the machine's x
 pub record StepIs (B : Book) (ys : List ℤ) (x : M.Extracted) (x′ : R.Extracted) : Type 0 where
   pub queue : Paired (StandsFor B ys (x′ .state .arrays)) (x .state .queue) (x′ .state .queue)
@@ -240,7 +250,6 @@ module _ (B : Book) (ys : List ℤ) (ok : Valid B) (ly : length ys ≡ 2 ^ (B .m
           let t : ℕ = startOf (B .blocks) b in
           let o : Placed B b = placed B ok b l in
           let others : List (ℕ → ℕ) = idsOf ps in
-          let v₁ : View = commit B others p b (viewOf A p) in
           let v₂ : View = downTo B others A p b in
           let v : View = nextView B others A p b in
           let lt : t < 2 ^ m = start-less B ok b l in
@@ -249,11 +258,7 @@ module _ (B : Book) (ys : List ℤ) (ok : Valid B) (ly : length ys ≡ 2 ^ (B .m
           let sums : Sums (suc m) u t (sumsOf v) =
           subst (Sums (suc m) u t) (sym (claim-sums others (place B b) v₂ j))
           (root-turn d j m t (o .small) (o .starts) u (sumsOf v₂) lost (sums-unroot m u t (sumsOf v₂) lt (good .1))) in
-          let kept : Kept others A (v .arrays) =
-          kept-on others A (v₂ .arrays) (v .arrays)
-          (kept-on others A (v₁ .arrays) (v₂ .arrays) (commit-kept B others p b (viewOf A p)) (descend-kept others d m t v₁))
-          (claim-kept others (place B b) v₂ j) in
-          moveWith-is v (valsOf v₂) _ _ kept (down-root A u p others h l) (good .0) (claim-vals others (place B b) v₂ j)
+          moveWith-is v (valsOf v₂) _ _ (next-kept B others A p b) (down-root A u p others h l) (good .0) (claim-vals others (place B b) v₂ j)
           (claim-own others (place B b) v₂ j) sums (near-matches A u p others h l)
 
   -- ---- step 4, and the whole extraction

@@ -27,6 +27,7 @@ use Rattle.order.proofs.Queues.{queue-first, queue-length}
 use Rattle.standing.specs.Seen.{Memory}
 use Rattle.standing.specs.Standing.{Stands}
 use Rattle.standing.proofs.Sizes.{stands-room}
+use Rattle.words.specs.Kept.{Kepts}
 use Rattle.steps.specs.declared.Tally.{Tally}
 use Rattle.start.proofs.Begun.{zeros}
 use Rattle.reading.proofs.Visits.{run-wide}
@@ -42,7 +43,7 @@ abbrev pub outrunBy : Step → ℕ
 outrunBy s = length (s .outrun)
 
 -- the rest of a run of B
-pub record Going (B : Book) (values : List ℤ) (L N : ℕ) (whole : R.Run) (x : Memory) (order vacant visits : List ℕ) (t : Tally) (e : ℕ)
+pub record Going (B : Book) (values : List ℤ) (L N : ℕ) (whole : R.Run) (x : Memory) (order vacant visits kept : List ℕ) (t : Tally) (e : ℕ)
     (path₀ blocks₀ score₀ path blocks score : List ℤ) : Type 0 where
   pub arrays : Arrays
   pub taken : Path
@@ -51,6 +52,7 @@ pub record Going (B : Book) (values : List ℤ) (L N : ℕ) (whole : R.Run) (x :
   pub done : List Step
   pub stands : Stands B N x (e ∷ queueOf order (t .queued)) (queueOf vacant (N - (t .queued + 1))) arrays (taken ∷ rest)
   pub reached : Reached B values N arrays (taken ∷ rest)
+  pub known : Kepts B arrays kept (e ∷ queueOf order (t .queued)) (taken ∷ rest)
   pub count : length done + suc fuel ≡ L * length (B .blocks) + 1
   pub steps : whole .steps ≡ done ++ R.run (suc fuel) B L N arrays (taken ∷ rest) (t .next) visits .steps
   pub ends : whole .final ≡ R.run (suc fuel) B L N arrays (taken ∷ rest) (t .next) visits .final
@@ -96,12 +98,12 @@ module _ (B : Book) (L N : ℕ) where
 
 -- ---- at first
 
-pub going-first : (B : Book) (values : List ℤ) (L N : ℕ) (A : Arrays) (x : Memory) (order vacant : List ℕ) (e : ℕ) (path₀ blocks₀ score₀ : List ℤ) → Valid B →
+pub going-first : (B : Book) (values : List ℤ) (L N : ℕ) (A : Arrays) (x : Memory) (order vacant kept : List ℕ) (e : ℕ) (path₀ blocks₀ score₀ : List ℤ) → Valid B →
     1 ≤ N → A .vals (B .m) 1 ≡ values → Stands B N x (e ∷ []) (queueOf vacant (N - 1)) A (firstPath B ∷ []) →
-    Going B values L N (R.runOf B L N A) x order vacant (replicate 512 0)
+    Going B values L N (R.runOf B L N A) x order vacant (replicate 512 0) kept
     (record { queued = 0; next = 1; extractions = 0; crowded = 0; outrun = 0 }) e path₀ blocks₀ score₀ path₀ blocks₀ score₀
-unfolding queueOf sum
-going-first B values L N A x order vacant e path₀ blocks₀ score₀ ok some′ root st =
+unfolding queueOf sum Paired firstPath
+going-first B values L N A x order vacant kept e path₀ blocks₀ score₀ ok some′ root st =
     let V′ : ℕ = length (B .blocks) in
     let w = run-wide B L N A (blocks-few B ok) ∙ ap (λ n. R.run n B L N A (firstPath B ∷ []) 1 (replicate 512 0)) (add-one (L * V′)) in
     record {
@@ -112,6 +114,7 @@ going-first B values L N A x order vacant e path₀ blocks₀ score₀ ok some�
       done = [];
       stands = st;
       reached = first-reached B values N A root some′;
+      known = (record { key = st .queue .0 .key; next = λ b q. absurd (omega arith) }, tt);
       count = omega arith;
       steps = ap (λ (r : R.Run). r .steps) w;
       ends = ap (λ (r : R.Run). r .final) w;
@@ -127,8 +130,8 @@ going-first B values L N A x order vacant e path₀ blocks₀ score₀ ok some�
 
 -- ---- under way
 
-module _ {B : Book} {values : List ℤ} {L N : ℕ} {whole : R.Run} {x : Memory} {order vacant visits : List ℕ} {t : Tally} {e : ℕ}
-    {path₀ blocks₀ score₀ path blocks score : List ℤ} (g : Going B values L N whole x order vacant visits t e path₀ blocks₀ score₀ path blocks score) where
+module _ {B : Book} {values : List ℤ} {L N : ℕ} {whole : R.Run} {x : Memory} {order vacant visits kept : List ℕ} {t : Tally} {e : ℕ}
+    {path₀ blocks₀ score₀ path blocks score : List ℤ} (g : Going B values L N whole x order vacant visits kept t e path₀ blocks₀ score₀ path blocks score) where
   -- the entry in hand is the path's
   pub going-key : keyAt e ≡ keyOf B (g .taken)
   unfolding Paired
@@ -204,10 +207,11 @@ module _ {B : Book} {values : List ℤ} {L N : ℕ} {whole : R.Run} {x : Memory}
       pub going-some : 1 ≤ r .queued
       going-some = omega (arith, queued-is, ap length (later .queue-is))
 
-      module _ (y : Memory) (order′ vacant′ visits′ : List ℕ) (next-is : r .next ≡ made .state .next) (visits-is : visits′ ≡ made .state .visits)
+      module _ (y : Memory) (order′ vacant′ visits′ kept′ : List ℕ) (next-is : r .next ≡ made .state .next) (visits-is : visits′ ≡ made .state .visits)
           (crowded-is : r .crowded ≡ t .crowded + length (made .step .crowded)) (outrun-is : r .outrun ≡ t .outrun + length (made .step .outrun))
           (extractions-is : r .extractions ≡ t .extractions + 1)
-          (st : Stands B N y (queueOf order′ (r .queued)) (queueOf vacant′ (N - r .queued)) (made .state .arrays) (made .state .queue)) where
+          (st : Stands B N y (queueOf order′ (r .queued)) (queueOf vacant′ (N - r .queued)) (made .state .arrays) (made .state .queue))
+          (words : Kepts B (made .state .arrays) kept′ (queueOf order′ (r .queued)) (made .state .queue)) where
         taken-stands : Stands B N y (getD order′ (r .queued - 1) 0 ∷ queueOf order′ (r .queued - 1)) (queueOf vacant′ (N - (r .queued - 1 + 1)))
             (made .state .arrays) (later .taken ∷ later .rest)
         taken-stands =
@@ -216,7 +220,7 @@ module _ {B : Book} {values : List ℤ} {L N : ℕ} {whole : R.Run} {x : Memory}
 
         pub going-next : {path′ blocks′ score′ : List ℤ} → Long (L * length (B .blocks) + 1) path₀ blocks₀ score₀ →
             Noted (t .extractions) (keyAt e) path blocks score path′ blocks′ score′ →
-            Going B values L N whole y order′ vacant′ visits′
+            Going B values L N whole y order′ vacant′ visits′ kept′
             (record { queued = r .queued - 1; next = r .next; extractions = r .extractions; crowded = r .crowded; outrun = r .outrun })
             (getD order′ (r .queued - 1) 0) path₀ blocks₀ score₀ path′ blocks′ score′
         unfolding R.after
@@ -233,6 +237,7 @@ module _ {B : Book} {values : List ℤ} {L N : ℕ} {whole : R.Run} {x : Memory}
               stands = taken-stands;
               reached =
                   rw (later .queue-is) at (extract-reached B values ok size L N two (g .arrays) (g .taken) (g .rest) (t .next) visits (g .reached) more);
+              known = rw (queue-first (r .queued) order′ going-some, later .queue-is) at words;
               count = omega (arith, g .count, later .fuel-is);
               steps = g .steps ∙ ap (λ (z : R.Run). g .done ++ z .steps) run ∙ sym (append-assoc (g .done) (s ∷ []) _);
               ends = g .ends ∙ ap (λ (z : R.Run). z .final) run;

@@ -27,8 +27,7 @@ use Rattle.heights.specs.Workspace.{spot, Id}
 use Rattle.standing.specs.Seen.{Memory, memory}
 use Rattle.standing.specs.Standing.{Stands, InHand}
 use Rattle.words.specs.declared.Block.{Block}
-use Rattle.words.specs.declared.Kept.{Kept}
-use Rattle.words.specs.Kept.{KeptIs}
+use Rattle.words.specs.Kept.{Kepts}
 use Rattle.steps.specs.declared.Setting.{Setting}
 use Rattle.steps.specs.declared.Tally.{Tally}
 use Rattle.steps.specs.Steps.{BlockIs, committed}
@@ -85,28 +84,24 @@ module _ {s : Setting} {values : List ℤ} {kinds terms heights starts : List �
 
   -- ---- at first
 
-  module _ (rows holders vacant : List ℕ) (numbers : List ℤ) (bytes : List ℕ) (e : ℕ) (order : List ℕ) (path₀ blocks₀ score₀ : List ℤ) where
+  module _ (rows holders vacant : List ℕ) (numbers : List ℤ) (bytes : List ℕ) (e : ℕ) (order kept : List ℕ) (path₀ blocks₀ score₀ : List ℤ) where
     pub run-first : 1 ≤ s .paths → s .paths ≤ 256 → rows ≡ set (replicate 4096 0) (s .m) 1 →
         ((h i : ℕ) → h ≤ 9 → i ≤ 256 → heldAt holders h i ≡ firstHeld (s .m) h i) → ((k : ℕ) → k + 1 < s .paths → getD vacant k 0 ≡ k + 1) →
         Packed e (record { score = pos 0; blocks = 0; number = 0 }) 0 → arraysOf (s .m) numbers bytes .vals (s .m) 1 ≡ values →
         Going (c .book) values (s .visits) (s .paths) (R.runOf (c .book) (s .visits) (s .paths) (arraysOf (s .m) numbers bytes))
-        (memory rows holders numbers bytes) order vacant (replicate 512 0)
+        (memory rows holders numbers bytes) order vacant (replicate 512 0) kept
         (record { queued = 0; next = 1; extractions = 0; crowded = 0; outrun = 0 }) e path₀ blocks₀ score₀ path₀ blocks₀ score₀
     run-first some′ most is held free p root =
         let A : Arrays = arraysOf (s .m) numbers bytes in
         let k : Packed e (keyOf (c .book) (firstPath (c .book))) 0 = first-key (c .book) e p in
-        going-first (c .book) values (s .visits) (s .paths) A (memory rows holders numbers bytes) order vacant e path₀ blocks₀ score₀ ok some′
+        going-first (c .book) values (s .visits) (s .paths) A (memory rows holders numbers bytes) order vacant kept e path₀ blocks₀ score₀ ok some′
         (ap (λ n. A .vals n 1) (c .deep) ∙ root)
         (first-stands (c .book) (s .m) (s .paths) ok (c .deep) some′ most rows holders vacant is held free e k numbers bytes)
 
-  -- nothing is kept for an entry that has no blocks
-  pub run-nothing : (rows : List ℕ) (numbers : List ℤ) (kept : Kept) → keyAt (kept .entry) .blocks ≡ 0 → KeptIs (c .book) (s .m) rows numbers kept
-  run-nothing rows numbers kept q = record { next = λ b h p high key. absurd (omega (arith, q, key)) }
-
   -- ---- under way
 
-  module _ {whole : R.Run} {x : Memory} {order vacant visits : List ℕ} {t : Tally} {e : ℕ} {path₀ blocks₀ score₀ path blocks score : List ℤ}
-      (g : Going (c .book) values (s .visits) (s .paths) whole x order vacant visits t e path₀ blocks₀ score₀ path blocks score) where
+  module _ {whole : R.Run} {x : Memory} {order vacant visits kept : List ℕ} {t : Tally} {e : ℕ} {path₀ blocks₀ score₀ path blocks score : List ℤ}
+      (g : Going (c .book) values (s .visits) (s .paths) whole x order vacant visits kept t e path₀ blocks₀ score₀ path blocks score) where
     -- the path in hand
     abbrev pub run-hand : InHand (s .m) (s .paths) x e (queueOf order (t .queued)) (queueOf vacant (s .paths - (t .queued + 1)))
     run-hand = record { book = c .book; arrays = g .arrays; taken = g .taken; rest = g .rest; deep = c .deep; stands = g .stands }
@@ -125,10 +120,10 @@ module _ {s : Setting} {values : List ℤ} {kinds terms heights starts : List �
     run-within d = omega (arith, run-next d, going-blocks g, c .blocks)
 
     -- what an extraction needs
-    abbrev pub run-extracting : (last at : Block) (kept : Kept) (i b : ℕ) → KeptIs (c .book) (s .m) (x .rows) (x .numbers) kept → b ≡ keyAt e .blocks → i ≡ b - 1 → (keyAt e .blocks ≡ s .blocks → ⊥) →
+    abbrev pub run-extracting : (last at : Block) (i b : ℕ) → b ≡ keyAt e .blocks → i ≡ b - 1 → (keyAt e .blocks ≡ s .blocks → ⊥) →
         ReadAt heights starts biases i last → ReadAt heights starts biases b at →
         Extracting (s .m) (s .paths) x e (queueOf order (t .queued)) (queueOf vacant (s .paths - (t .queued + 1))) kinds terms last at kept
-    run-extracting last at kept i b w p q d l a =
+    run-extracting last at i b p q d l a =
         record {
           hand = run-hand;
           booked = c .tables .booked;
@@ -136,7 +131,7 @@ module _ {s : Setting} {values : List ℤ} {kinds terms heights starts : List �
           size = c .size ∙ ap (λ n. 2 ^ n) (sym (c .deep));
           range = c .range;
           reached = g .reached;
-          known = w;
+          known = g .known;
           next =
               subst (λ n. BlockIs (c .book) n at) (p ∙ going-blocks g) (a (c .book) kinds terms ok (c .tables) (omega (arith, run-within d, c .blocks)));
           last-is = λ k h.
@@ -162,18 +157,19 @@ module _ {s : Setting} {values : List ℤ} {kinds terms heights starts : List �
       pub run-some : r .queued ≡ length (run-made .state .queue) → 1 ≤ r .queued
       run-some q = going-some g ok (c .size ∙ ap (λ n. 2 ^ n) (sym (c .deep))) two most (found .0) (found .1) (run-next d) r q
 
-      pub run-turn : (y : Memory) (order′ vacant′ visits′ : List ℕ) →
+      pub run-turn : (y : Memory) (order′ vacant′ visits′ kept′ : List ℕ) →
           (r .queued ≡ length (run-made .state .queue)) × (r .next ≡ run-made .state .next) × (visits′ ≡ run-made .state .visits)
           × (r .crowded ≡ t .crowded + length (run-made .step .crowded)) × (r .outrun ≡ t .outrun + length (run-made .step .outrun))
-          × Stands (c .book) (s .paths) y (queueOf order′ (r .queued)) (queueOf vacant′ (s .paths - r .queued)) (run-made .state .arrays) (run-made .state .queue) →
+          × Stands (c .book) (s .paths) y (queueOf order′ (r .queued)) (queueOf vacant′ (s .paths - r .queued)) (run-made .state .arrays) (run-made .state .queue)
+          × Kepts (c .book) (run-made .state .arrays) kept′ (queueOf order′ (r .queued)) (run-made .state .queue) →
           r .extractions ≡ t .extractions + 1 →
           (s .visits * s .blocks + 1 ≤ length path₀) × (s .visits * s .blocks + 1 ≤ length blocks₀) × (s .visits * s .blocks + 1 ≤ length score₀) →
           {path′ blocks′ score′ : List ℤ} → Noted (t .extractions) (keyAt e) path blocks score path′ blocks′ score′ →
-          Going (c .book) values (s .visits) (s .paths) whole y order′ vacant′ visits′
+          Going (c .book) values (s .visits) (s .paths) whole y order′ vacant′ visits′ kept′
           (record { queued = r .queued - 1; next = r .next; extractions = r .extractions; crowded = r .crowded; outrun = r .outrun })
           (getD order′ (r .queued - 1) 0) path₀ blocks₀ score₀ path′ blocks′ score′
-      run-turn y order′ vacant′ visits′ x more l n =
-          going-next g ok (c .size ∙ ap (λ n. 2 ^ n) (sym (c .deep))) two most (found .0) (found .1) (run-next d) r (x .0) y order′ vacant′ visits′ (x .1) (x .2) (x .3) (x .4) more (x .5)
+      run-turn y order′ vacant′ visits′ kept′ x more l n =
+          going-next g ok (c .size ∙ ap (λ n. 2 ^ n) (sym (c .deep))) two most (found .0) (found .1) (run-next d) r (x .0) y order′ vacant′ visits′ kept′ (x .1) (x .2) (x .3) (x .4) more (x .5) (x .6)
           (long-enough l) n
 
     -- ---- the end

@@ -20,7 +20,6 @@ use heights::arrays::power;
 use order::entries::blocks_of;
 use order::entries::entry;
 use order::entries::slot_of;
-use outer::Candidate;
 use start::begin;
 use start::block_at;
 use start::fill_vacant;
@@ -31,27 +30,12 @@ use steps::Tally;
 use views::view::commit;
 use views::view::id_of;
 use words::Block;
-use words::Kept;
 
 // The block before one; of the first, itself.
 fn before(b: usize) -> usize
     ensures { λ r. ⌜ r ≡ b - 1 ⌝ }
 {
     if b == 0 { 0 } else { b - 1 }
-}
-
-// What is kept for the entry of the first path, which has no last block: no word.
-fn nothing(e: u64) -> Kept
-    ensures { λ r. ⌜ r .entry ≡ e ⌝ }
-{
-    let word = Candidate {
-        some: false,
-        setting: 0,
-        parities: 0,
-        cost: 0,
-        number: 0,
-    };
-    Kept { entry: e, word }
 }
 
 // The end: the last word of the path of entry e goes into the sums of the root.
@@ -132,6 +116,7 @@ pub fn run(
     let mut order = [0u64; 256];
     let mut vacant = [0u8; 256];
     let mut visits = [0u32; 512];
+    let mut kept = [0u32; 1024];
     let mut words = [0u32; 256];
     let mut sets = [0u32; 256];
     let mut sums = [0u32; 128];
@@ -146,7 +131,6 @@ pub fn run(
         outrun: 0,
     };
     let mut e = entry(0, 0, 0, 0);
-    let mut kept = nothing(e);
     while blocks_of(e) as usize != blocks {
         note(
             walk_path,
@@ -159,7 +143,7 @@ pub fn run(
         let b = blocks_of(e) as usize;
         let last = block_at(heights, starts, biases, before(b));
         let at = block_at(heights, starts, biases, b);
-        let x = extract(
+        t = extract(
             &mut rows,
             &mut holders,
             &mut order,
@@ -174,13 +158,11 @@ pub fn run(
             e,
             last,
             at,
-            kept,
+            &mut kept,
             &mut words,
             &mut sets,
             &mut sums,
         );
-        t = x.tally;
-        kept = x.kept;
         let left = t.queued - 1;
         t.queued = left;
         e = order[left];

@@ -97,7 +97,7 @@ module _ (B : Book) (ok : Valid B) where
 
   nearest-fits : (test : Ranked → Bool) (ys : List ℤ) (u : List ℕ) (b : ℕ) → b < length (B .blocks) → Filling B (startOf (B .blocks) b) u → May (Word b) (nearestWith test B ys u b)
   unfolding nearestWith
-  nearest-fits test ys u b l f = first-may (Word b) nearer test (setting B ys u b) _ (λ w. setting-fits ys u b w l f)
+  nearest-fits test ys u b l f = first-may (Word b) nearer test (setting B ys u b) _ (λ w _. setting-fits ys u b w l f)
 
   next-fits : (ys : List ℤ) (u : List ℕ) (b : ℕ) → b < length (B .blocks) → Filling B (startOf (B .blocks) (suc b)) u → May (Word b) (nextAfter B ys u b)
   unfolding nextAfter

@@ -6,6 +6,7 @@ use mathlib.Core.List.{List}
 use mathlib.Core.Option.{Option, none, some}
 use Prim.Native.Nat.{ℕ, zero, suc, _-_, _<_}
 use native.Mathlib.Nat.{lt-irrefl}
+use native.Mathlib.Omega.{arith}
 use lib.Pow.{pow-pos}
 use lib.ListN.{take}
 use lib.IntN.{ℤ}
@@ -22,14 +23,14 @@ use Rattle.runs.proofs.Order.{all-insert, all-staying}
 -- ---- words that are found
 
 -- what is chosen is one of those tried, in any order
-pub first-may : {A : Type 0} (P : A → Type 0) (order : A → A → Bool) (test : A → Bool) (word : ℕ → A) (n : ℕ) → ((w : ℕ) → P (word w)) → May P (firstOf order test word n)
+pub first-may : {A : Type 0} (P : A → Type 0) (order : A → A → Bool) (test : A → Bool) (word : ℕ → A) (n : ℕ) → ((w : ℕ) → w < n → P (word w)) → May P (firstOf order test word n)
 unfolding firstOf May choose
 first-may P order test word zero h = tt
-first-may {A} P order test word (suc n) h = go (test (word n)) (firstOf order test word n) (first-may P order test word n h)
+first-may {A} P order test word (suc n) h = go (test (word n)) (firstOf order test word n) (first-may P order test word n (λ w l. h w (omega arith)))
   where
     go : (b : Bool) (o : Option A) → May P o → May P (choose order b (word n) o)
-    go true none k = h n
-    go true (some y) k = cond-case P (order (word n) y) (λ _. h n) (λ _. k)
+    go true none k = h n (omega arith)
+    go true (some y) k = cond-case P (order (word n) y) (λ _. h n (omega arith)) (λ _. k)
     go false none k = tt
     go false (some y) k = k
 

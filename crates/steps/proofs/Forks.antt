@@ -2,7 +2,8 @@
 -- hand, has one of its own where its word will go, and is queued. Each is a law of crates/standing for that change of memory; the reader's own cut
 -- of the queue leaves it whole, since there is room. Assumes nothing.
 use mathlib.Core.Path.{_≡_, refl, sym, ap, ap₂, _∙_, subst}
-use mathlib.Core.List.{List, [], _∷_}
+use mathlib.Core.List.{List, [], _∷_, map}
+use mathlib.Core.Logic.{_≢_}
 use mathlib.Core.Option.{some}
 use Prim.Native.Nat.{ℕ, zero, suc, _+_, _-_, _^_, _≤_, _<_}
 use native.Mathlib.Omega.{arith}
@@ -14,19 +15,23 @@ use Rattle.polar.specs.Bits.{number}
 use Rattle.polar.specs.Layers.{Within}
 use Rattle.codebook.specs.Book.{Book, startOf, blockAt}
 use Rattle.codebook.specs.Book as K
+use Rattle.laws.specs.Lists.{All, Distinct}
+use Rattle.laws.proofs.Lists.{all-front}
 use Rattle.laws.specs.Pairs.{Paired}
 use Rattle.machine.specs.Queue.{roomFor, insert}
 use Rattle.outer.specs.declared.Candidate.{Candidate}
 use Rattle.outer.specs.Blocks.{candidateOf}
 use Rattle.outer.proofs.Blocks.{start-less}
-use Rattle.reader.specs.Arrays.{View, claim}
+use Rattle.reader.specs.Arrays.{Arrays, View, claim}
 use Rattle.reader.specs.Paths.{Path, scoreOf, keyOf, lastWord, place, idsOf, viewOf}
 use Rattle.reader.specs.Reader.{copyWith}
+use Rattle.reader.proofs.Arrays.{Kept, claim-kept}
 use Rattle.reader.proofs.Descent.{place-most}
 use Rattle.order.specs.Entries.{keyAt, slotAt, Packed}
 use Rattle.sharing.specs.Sharing.{idAt, heldAt, Copied, MoreBy}
 use Rattle.standing.specs.Seen.{Memory, memory, Lent, Seen, Viewed, Turned, IdsOnly}
 use Rattle.standing.specs.Standing.{cell, Row, Stands, withIds, PutRow, Made}
+use Rattle.standing.proofs.Slots.{distinct-forward}
 use Rattle.standing.proofs.Sizes.{slots-apart}
 use Rattle.standing.proofs.Leaving.{stands-held, stands-few}
 use Rattle.standing.proofs.Views.{stands-seen, stands-view}
@@ -34,6 +39,8 @@ use Rattle.standing.proofs.Places.{stands-insert-second}
 use Rattle.standing.proofs.Written.{stands-share}
 use Rattle.views.specs.Steps.{Claimable}
 use Rattle.words.specs.declared.Block.{Block}
+use Rattle.words.specs.Kept.{keptCell, Keeps, OneKept, KeptFor, Kepts}
+use Rattle.words.proofs.Kepts.{kepts-other, kepts-frame, kepts-insert}
 use Rattle.steps.specs.Steps.{Forking}
 
 -- a block has an index at least, so that no book has more than 512
@@ -186,6 +193,24 @@ module _ {m N : ℕ} {x : Memory} {e t : ℕ} {es vs : List ℕ} {last : Block} 
         subst (λ (qs : List Path). Taken z qs (blockAt book b .j) (place book b)) room
         (subst (λ (j : ℕ). Taken z (c .hand .rest) j (place book b)) (o .height)
         (subst (λ (h : ℕ). Taken z (c .hand .rest) (last .height) h) (o .word) (taken st only turned)))
+
+    -- no word is kept for it, and those of the others are as they were
+    pub fork-kepts : {old new : List ℕ} → OneKept t old new → keptCell new t 0 ≡ 0 → Kepts book (c .hand .arrays) old es (c .hand .rest) →
+        let k = copyWith book N (c .hand .arrays) path b (c .hand .rest) n (some (c .word)) in
+        Kepts book (k .arrays) new (insert keyAt d es) (k .queue)
+    unfolding copyWith roomFor keyOf scoreOf Keeps All Distinct withIds
+    fork-kepts {old} {new} one none kept =
+        let A : Arrays = c .hand .arrays in
+        let qs : List Path = c .hand .rest in
+        let room : qs ≡ roomFor N qs = sym (take-all (N - 2) qs (omega (arith, c .room))) in
+        let slots : List ℕ = map slotAt (e ∷ es) in
+        let apart : All (λ (s : ℕ). t ≢ s) slots = all-front (λ (s : ℕ). t ≢ s) slots vs (distinct-forward slots t vs (c .hand .stands .apart) .0) in
+        let v : View = claimed qs (blockAt book b .j) (place book b) in
+        let same : Kept (path .ids ∷ idsOf qs) A (v .arrays) = claim-kept (path .ids ∷ idsOf qs) (place book b) (viewOf A path) (blockAt book b .j) in
+        let own : KeptFor book (v .arrays) new d (withIds (made n) (v .ids)) =
+        record { key = packed .key; next = λ k q l. absurd (omega (arith, none, ap (λ (s : ℕ). keptCell new s 0) (packed .slot))) } in
+        subst (λ (ps : List Path). let w = claimed ps (blockAt book b .j) (place book b) in Kepts book (w .arrays) new (insert keyAt d es) (insert (keyOf book) (withIds (made n) (w .ids)) ps)) room
+        (kepts-insert book new (v .arrays) d (withIds (made n) (v .ids)) es qs own (kepts-frame book new A (v .arrays) es qs (same .1) (kepts-other book A one es qs (apart .1) kept)))
 
   -- ---- what sharing needs
 

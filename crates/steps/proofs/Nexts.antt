@@ -7,13 +7,15 @@ use mathlib.Core.List.{List, _∷_}
 use mathlib.Core.Option.{Option, none, some}
 use Prim.Native.Nat.{ℕ, suc, _+_, _-_, _^_, _≤_, _<_}
 use native.Mathlib.Omega.{arith}
+use lib.IntN.{ℤ}
 use lib.ListN.{length, take, drop, length-map, length-append, take-append-drop}
 use lib.Seq.{take-take}
 use Rattle.laws.specs.Lists.{All}
 use Rattle.laws.specs.Pairs.{Paired}
+use Rattle.laws.proofs.Pairs.{paired-take}
 use Rattle.polar.specs.Layers.{part, Within}
 use Rattle.codebook.specs.Book.{Book, blockAt}
-use Rattle.machine.specs.Queue.{Key, numbers, roomFor, crowdedOut}
+use Rattle.machine.specs.Queue.{numbers, roomFor, crowdedOut}
 use Rattle.runs.proofs.Order.{insert-length}
 use Rattle.outer.specs.declared.Candidate.{Candidate}
 use Rattle.outer.specs.Search.{Searchable}
@@ -25,7 +27,7 @@ use Rattle.reader.specs.Paths.{Path, keyOf, ownWord, viewOf}
 use Rattle.reader.specs.Reader.{Cut, copyWith, copy}
 use Rattle.reader.proofs.Descent.{place-own, place-most}
 use Rattle.reader.proofs.Found.{next-number}
-use Rattle.order.specs.Entries.{keyAt, slotAt}
+use Rattle.order.specs.Entries.{slotAt}
 use Rattle.sharing.specs.Sharing.{idAt, HasIds}
 use Rattle.heights.specs.Workspace.{spot, Id, Parts}
 use Rattle.heights.proofs.Spots.{spot-room}
@@ -33,7 +35,7 @@ use Rattle.standing.specs.Seen.{Memory, Lent}
 use Rattle.standing.specs.Standing.{cell, Row, Stands}
 use Rattle.standing.proofs.Sizes.{stands-length}
 use Rattle.words.specs.declared.Block.{Block}
-use Rattle.words.specs.declared.Kept.{Kept}
+use Rattle.words.specs.Kept.{Keeps, Kepts}
 use Rattle.steps.specs.Steps.{Forking, Copying}
 
 -- ---- a word as the search answers it
@@ -48,7 +50,7 @@ unfolding candidateOf
 none-word B none r e t = refl
 none-word B (some y) r e t = let z : _≡_ {A = ℕ} 0 1 = cc in absurd (omega arith)
 
-module _ {m N : ℕ} {x : Memory} {e : ℕ} {es vs kinds terms : List ℕ} {last : Block} {kept : Kept} {b : ℕ}
+module _ {m N : ℕ} {x : Memory} {e : ℕ} {es vs kinds terms : List ℕ} {last : Block} {kept : List ℕ} {b : ℕ}
     (c : Copying m N x e es vs kinds terms last kept b) where
   -- the book, the path in hand, and the paths queued
   abbrev book : Book
@@ -74,11 +76,6 @@ module _ {m N : ℕ} {x : Memory} {e : ℕ} {es vs kinds terms : List ℕ} {last
   pub copy-row : Row book (x .rows) (slotAt e) path
   unfolding Paired
   copy-row = c .hand .stands .queue .0 .row
-
-  -- the entry has the path's blocks
-  pub copy-blocks : keyAt e .blocks ≡ suc b
-  unfolding Paired keyOf
-  copy-blocks = ap (λ (k : Key). k .blocks) (c .hand .stands .queue .0 .key) ∙ c .own .blocks
 
   low : last .height ≤ book .m
   low =
@@ -124,27 +121,38 @@ module _ {m N : ℕ} {x : Memory} {e : ℕ} {es vs kinds terms : List ℕ} {last
   -- ---- what it answers
 
   pub copy-found : {found : Candidate} →
-      found ≡ candidateOf book (nextAfter (ownWord book path b) book (part (spot m (idAt (x .rows) (slotAt e) (last .height)) (last .height)) (2 ^ last .height) (x .numbers)) (path .earlier) b) →
-      found ≡ candidateOf book next
-  copy-found q = q ∙ ap (λ vs. candidateOf book (nextAfter (ownWord book path b) book vs (path .earlier) b)) values-are
+      (let w = candidateOf book (nextAfter (ownWord book path b) book (part (spot m (idAt (x .rows) (slotAt e) (last .height)) (last .height)) (2 ^ last .height) (x .numbers)) (path .earlier) b) in
+      Keeps kept (slotAt e) w → found ≡ w) → found ≡ candidateOf book next
+  unfolding Paired
+  copy-found {found} q =
+      let Found : List ℤ → Type 0 = λ vs. let w = candidateOf book (nextAfter (ownWord book path b) book vs (path .earlier) b) in Keeps kept (slotAt e) w → found ≡ w in
+      subst Found values-are q (c .known .0 .next b (c .own .blocks))
+
+  -- ---- the words kept, of the paths queued
+
+  -- where the queue is cut
+  pub copy-kept : Kepts book (c .hand .arrays) kept (roomFor N es) (roomFor N rest)
+  unfolding Paired roomFor
+  copy-kept = paired-take _ (N - 2) es rest (c .known .1)
 
   -- as many are queued as there are entries
   rest-length : length es ≡ length rest
   rest-length = omega (arith, stands-length (c .hand .stands))
 
   -- what the step has to come to: so many queued, the next number, the count, and memory
-  abbrev Comes : ℕ → ℕ → ℕ → ℕ → Memory → List ℕ → List ℕ → Cut → Type 0
-  Comes queued n before after y qs ws k =
+  abbrev Comes : ℕ → ℕ → ℕ → ℕ → Memory → List ℕ → List ℕ → List ℕ → Cut → Type 0
+  Comes queued n before after y qs ws kept′ k =
       (queued ≡ length (k .queue)) × (n ≡ k .next) × (after ≡ before + length (k .crowded))
       × Stands book N y (e ∷ qs) ws (k .arrays) (path ∷ k .queue)
+      × Kepts book (k .arrays) kept′ qs (k .queue)
 
   -- no next word: nothing changes
   pub copy-none : {found : Candidate} (n crowded : ℕ) → found ≡ candidateOf book next → found .some ≡ false →
-      Comes (length es) n crowded crowded x es vs (copy book N (c .hand .arrays) path rest n (suc b))
-  unfolding copy copyWith
+      Comes (length es) n crowded crowded x es vs kept (copy book N (c .hand .arrays) path rest n (suc b))
+  unfolding copy copyWith Paired
   copy-none n crowded is not-one =
-      subst (λ (o : Option Word). Comes (length es) n crowded crowded x es vs (copyWith book N (c .hand .arrays) path b rest n o)) (sym (none-word book next _ is not-one))
-      (rest-length, refl, omega arith, c .hand .stands)
+      subst (λ (o : Option Word). Comes (length es) n crowded crowded x es vs kept (copyWith book N (c .hand .arrays) path b rest n o)) (sym (none-word book next _ is not-one))
+      (rest-length, refl, omega arith, c .hand .stands, c .known .1)
 
   -- ---- a next word, the queue cut
 
@@ -187,13 +195,15 @@ module _ {m N : ℕ} {x : Memory} {e : ℕ} {es vs kinds terms : List ℕ} {last
         )
 
     -- the copy, as made among those left, is the reader's
-    pub copy-done : (n crowded : ℕ) {z : Memory} {qs′ : List ℕ} →
+    pub copy-done : (n crowded : ℕ) (kept′ : List ℕ) {z : Memory} {qs′ : List ℕ} → qs ≡ roomFor N es →
         (let o = copy-fork in
         let k = copyWith (o .hand .book) N (o .hand .arrays) (o .hand .taken) b (o .hand .rest) n (some (o .word)) in
-        Stands (o .hand .book) N z (e ∷ qs′) ws (k .arrays) (o .hand .taken ∷ k .queue)) →
-        Comes (suc left) (suc n) crowded (crowded + (length es - left)) z qs′ ws (copy book N (c .hand .arrays) path rest n (suc b))
+        Stands (o .hand .book) N z (e ∷ qs′) ws (k .arrays) (o .hand .taken ∷ k .queue)
+        × (Kepts (o .hand .book) (o .hand .arrays) kept qs (o .hand .rest) → Kepts (o .hand .book) (k .arrays) kept′ qs′ (k .queue))) →
+        Comes (suc left) (suc n) crowded (crowded + (length es - left)) z qs′ ws kept′ (copy book N (c .hand .arrays) path rest n (suc b))
     unfolding copy copyWith roomFor copy-fork
-    copy-done n crowded {z} {qs′} h =
+    copy-done n crowded kept′ {z} {qs′} cut h =
         let twice : roomFor N (roomFor N rest) ≡ roomFor N rest = take-take (N - 2) (N - 2) rest (omega arith) in
-        subst (λ (o : Option Word). Comes (suc left) (suc n) crowded (crowded + (length es - left)) z qs′ ws (copyWith book N (c .hand .arrays) path b rest n o)) (sym word-is)
-        (ap suc count ∙ sym (insert-length (keyOf book) _ (roomFor N rest)), refl, omega (arith, crowded-is), rw twice at h)
+        let words = h .1 (subst (λ (l : List ℕ). Kepts book (c .hand .arrays) kept l (roomFor N rest)) (sym cut) copy-kept) in
+        subst (λ (o : Option Word). Comes (suc left) (suc n) crowded (crowded + (length es - left)) z qs′ ws kept′ (copyWith book N (c .hand .arrays) path b rest n o)) (sym word-is)
+        (ap suc count ∙ sym (insert-length (keyOf book) _ (roomFor N rest)), refl, omega (arith, crowded-is), rw twice at (h .0), rw twice at words)

@@ -21,8 +21,7 @@ use Rattle.reader.specs.Fit.{Fit, FitFor}
 use Rattle.standing.specs.Seen.{Memory}
 use Rattle.standing.specs.Standing.{Stands, InHand}
 use Rattle.words.specs.declared.Block.{Block}
-use Rattle.words.specs.declared.Kept.{Kept}
-use Rattle.words.specs.Kept.{KeptIs}
+use Rattle.words.specs.Kept.{Kepts}
 
 -- x is block b of the book
 pub record BlockIs (B : Book) (b : ℕ) (x : Block) : Type 0 where
@@ -60,12 +59,12 @@ pub record Forking (m N : ℕ) (x : Memory) (e t : ℕ) (es vs : List ℕ) (last
   pub total : hand .taken .spent + word .cost ≤ 1048064
   pub room : length (hand .rest) + 2 ≤ N
 
--- a path in hand whose last block may have a next word, and the word kept; no next word costs too much
-pub record Copying (m N : ℕ) (x : Memory) (e : ℕ) (es vs : List ℕ) (kinds terms : List ℕ) (last : Block) (kept : Kept) (b : ℕ) : Type 0 where
+-- a path in hand whose last block may have a next word, and the words kept; no next word costs too much
+pub record Copying (m N : ℕ) (x : Memory) (e : ℕ) (es vs : List ℕ) (kinds terms : List ℕ) (last : Block) (kept : List ℕ) (b : ℕ) : Type 0 where
   pub hand : InHand m N x e es vs
   pub booked : Booked (hand .book) kinds terms
   pub own : Last hand last b
-  pub known : KeptIs (hand .book) m (x .rows) (x .numbers) kept
+  pub known : Kepts (hand .book) (hand .arrays) kept (e ∷ es) (hand .taken ∷ hand .rest)
   pub total : (y : Word) → nextAfter (ownWord (hand .book) (hand .taken) b) (hand .book) (valsOf (viewOf (hand .arrays) (hand .taken)) (blockAt (hand .book) b .j)) (hand .taken .earlier) b ≡ some y
       → hand .taken .spent + y .cost ≤ 1048064
 

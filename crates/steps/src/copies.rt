@@ -9,6 +9,7 @@ ghost use Rattle.reader.specs.Reader as R;
 ghost use Rattle.order.specs.Entries.{queueOf, Rising};
 ghost use Rattle.standing.specs.Seen.{memory, Lent};
 ghost use Rattle.standing.specs.Standing.{Stands};
+ghost use Rattle.words.specs.Kept.{Kepts};
 ghost use Rattle.steps.specs.Steps.{Forking, Copying};
 use crate::Setting;
 use crate::Tally;
@@ -20,18 +21,19 @@ use outer::Candidate;
 use sharing::holders::share;
 use views::view::claim;
 use words::Block;
-use words::Kept;
+use words::forget;
 use words::other_word;
 use words::put;
 use words::score;
 
-// A copy of the path of entry e, with the word found, in the slot `to`; it is inserted.
+// A copy of the path of entry e, with the word found, in the slot `to`; it is inserted. No word is kept for it.
 fn fork(
     rows: &mut [u32; 4096],
     holders: &mut [u16; 2570],
     order: &mut [u64; 256],
     numbers: &mut [i32],
     bytes: &[u8],
+    kept: &mut [u32; 1024],
     m: usize,
     paths: usize,
     e: u64,
@@ -42,14 +44,16 @@ fn fork(
     blocks: u32,
     number: u32,
 )
-    requires { ⌜ Lent m paths (memory (now rows) (now holders) (now numbers) (now bytes)) × (length (now order) ≡ 256) × (queued + 2 ≤ paths) × (number < 32768) ⌝ }
+    requires { ⌜ Lent m paths (memory (now rows) (now holders) (now numbers) (now bytes)) × (length (now order) ≡ 256) × (queued + 2 ≤ paths) × (number < 32768) × (length (now kept) ≡ 1024) ⌝ }
     requires { ⌜ ((b : ℕ) × (blocks ≡ suc b) × (vs : List ℕ) × Forking m paths (memory (now rows) (now holders) (now numbers) (now bytes)) e to (queueOf (now order) queued) vs last found b) ⌝ }
     requires { ⌜ Rising (now order) queued ⌝ }
-    ensures { λ _. ⌜ Lent m paths (memory (now (rows .exit)) (now (holders .exit)) (now (numbers .exit)) (now (bytes .entry))) × (length (now (order .exit)) ≡ 256) ⌝ }
+    ensures { λ _. ⌜ Lent m paths (memory (now (rows .exit)) (now (holders .exit)) (now (numbers .exit)) (now (bytes .entry))) × (length (now (order .exit)) ≡ 256) × (length (now (kept .exit)) ≡ 1024) ⌝ }
     ensures { λ _. ⌜ ((b : ℕ) (vs : List ℕ) (c : Forking m paths (memory (now (rows .entry)) (now (holders .entry)) (now (numbers .entry)) (now (bytes .entry))) e to (queueOf (now (order .entry)) queued) vs last found b)
         → blocks ≡ suc b → (let k = R.copyWith (c .hand .book) paths (c .hand .arrays) (c .hand .taken) b (c .hand .rest) number (some (c .word)) in
         Stands (c .hand .book) paths (memory (now (rows .exit)) (now (holders .exit)) (now (numbers .exit)) (now (bytes .entry))) (e ∷ queueOf (now (order .exit)) (suc queued)) vs
-        (k .arrays) (c .hand .taken ∷ k .queue))) ⌝ }
+        (k .arrays) (c .hand .taken ∷ k .queue)
+        × (Kepts (c .hand .book) (c .hand .arrays) (now (kept .entry)) (queueOf (now (order .entry)) queued) (c .hand .rest)
+        → Kepts (c .hand .book) (k .arrays) (now (kept .exit)) (queueOf (now (order .exit)) (suc queued)) (k .queue)))) ⌝ }
     ensures { λ _. ⌜ Rising (now (order .exit)) (suc queued) ⌝ }
 {
     let slot = slot_of(e);
@@ -72,6 +76,7 @@ fn fork(
         last.place,
     );
     insert(order, queued, d);
+    forget(kept, to);
 }
 
 // The tally once the queue is cut to `left` paths and a copy is queued.
@@ -104,25 +109,26 @@ pub fn copy(
     e: u64,
     blocks: u32,
     last: Block,
-    kept: Kept,
+    kept: &mut [u32; 1024],
     words: &mut [u32; 256],
     sets: &mut [u32; 256],
     sums: &mut [u32; 128],
 ) -> Tally
-    requires { ⌜ Lent (s .m) (s .paths) (memory (now rows) (now holders) (now numbers) (now bytes)) × (length (now order) ≡ 256) × (length (now vacant) ≡ 256) ⌝ }
+    requires { ⌜ Lent (s .m) (s .paths) (memory (now rows) (now holders) (now numbers) (now bytes)) × (length (now order) ≡ 256) × (length (now vacant) ≡ 256) × (length (now kept) ≡ 1024) ⌝ }
     requires { ⌜ Scratch (now words) (now sets) (now sums) × (2 ≤ s .paths) × (t .queued + 1 ≤ s .paths) × (t .next < 32768) × (t .crowded < 65536) ⌝ }
     requires { ⌜ ((b : ℕ) × (blocks ≡ suc b) × Copying (s .m) (s .paths) (memory (now rows) (now holders) (now numbers) (now bytes)) e (queueOf (now order) (t .queued))
-        (queueOf (now vacant) (s .paths - (t .queued + 1))) (now kinds) (now terms) last kept b) ⌝ }
+        (queueOf (now vacant) (s .paths - (t .queued + 1))) (now kinds) (now terms) last (now kept) b) ⌝ }
     requires { ⌜ Rising (now order) (t .queued) ⌝ }
     ensures { λ _. ⌜ Lent (s .m) (s .paths) (memory (now (rows .exit)) (now (holders .exit)) (now (numbers .exit)) (now (bytes .entry)))
-        × (length (now (order .exit)) ≡ 256) × (length (now (vacant .exit)) ≡ 256) × Scratch (now (words .exit)) (now (sets .exit)) (now (sums .exit)) ⌝ }
+        × (length (now (order .exit)) ≡ 256) × (length (now (vacant .exit)) ≡ 256) × (length (now (kept .exit)) ≡ 1024) × Scratch (now (words .exit)) (now (sets .exit)) (now (sums .exit)) ⌝ }
     ensures { λ r. ⌜ (r .extractions ≡ t .extractions) × (r .outrun ≡ t .outrun) × (r .queued + 1 ≤ s .paths) ⌝ }
     ensures { λ r. ⌜ ((b : ℕ) (c : Copying (s .m) (s .paths) (memory (now (rows .entry)) (now (holders .entry)) (now (numbers .entry)) (now (bytes .entry))) e (queueOf (now (order .entry)) (t .queued))
-        (queueOf (now (vacant .entry)) (s .paths - (t .queued + 1))) (now (kinds .entry)) (now (terms .entry)) last kept b)
+        (queueOf (now (vacant .entry)) (s .paths - (t .queued + 1))) (now (kinds .entry)) (now (terms .entry)) last (now (kept .entry)) b)
         → blocks ≡ suc b → (let k = R.copy (c .hand .book) (s .paths) (c .hand .arrays) (c .hand .taken) (c .hand .rest) (t .next) (suc b) in
         (r .queued ≡ length (k .queue)) × (r .next ≡ k .next) × (r .crowded ≡ t .crowded + length (k .crowded))
         × Stands (c .hand .book) (s .paths) (memory (now (rows .exit)) (now (holders .exit)) (now (numbers .exit)) (now (bytes .entry))) (e ∷ queueOf (now (order .exit)) (r .queued))
-        (queueOf (now (vacant .exit)) (s .paths - (r .queued + 1))) (k .arrays) (c .hand .taken ∷ k .queue))) ⌝ }
+        (queueOf (now (vacant .exit)) (s .paths - (r .queued + 1))) (k .arrays) (c .hand .taken ∷ k .queue)
+        × Kepts (c .hand .book) (k .arrays) (now (kept .exit)) (queueOf (now (order .exit)) (r .queued)) (k .queue))) ⌝ }
     ensures { λ r. ⌜ Rising (now (order .exit)) (r .queued) ⌝ }
 {
     let m = s.m;
@@ -152,6 +158,7 @@ pub fn copy(
         order,
         numbers,
         bytes,
+        kept,
         m,
         paths,
         e,

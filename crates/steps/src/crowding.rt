@@ -28,7 +28,7 @@ pub fn crowd(
     requires { ⌜ ((e : ℕ) × (numbers : List ℤ) × (bytes : List ℕ) × InHand m paths (memory (now rows) (now holders) numbers bytes) e (queueOf (now order) queued) (queueOf (now vacant) (paths - (queued + 1)))) ⌝ }
     requires { ⌜ Rising (now order) queued ⌝ }
     ensures { λ r. ⌜ (length (now (holders .exit)) ≡ 2570) × (length (now (order .exit)) ≡ 256) × (length (now (vacant .exit)) ≡ 256)
-        × (r ≤ queued) × (r + 2 ≤ paths) ⌝ }
+        × (r ≤ queued) × (r + 2 ≤ paths) × (queueOf (now (order .exit)) r ≡ roomFor paths (queueOf (now (order .entry)) queued)) ⌝ }
     ensures { λ r. ⌜ ((e : ℕ) (numbers : List ℤ) (bytes : List ℕ)
         (c : InHand m paths (memory (now (rows .entry)) (now (holders .entry)) numbers bytes) e (queueOf (now (order .entry)) queued) (queueOf (now (vacant .entry)) (paths - (queued + 1))))
         → (r ≡ length (roomFor paths (c .rest)))

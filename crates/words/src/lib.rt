@@ -1,7 +1,8 @@
 // The words of a path's block, found from what its row and the workspace hold; its score; and its row written.
 ghost use mathlib.Core.Path.{_≡_};
 ghost use mathlib.Core.Option.{some};
-ghost use Prim.Native.Nat.{ℕ, suc, _+_, _^_, _≤_, _<_};
+ghost use Prim.Native.Nat.{ℕ, suc, _+_, _-_, _/_, _%_, _^_, _≤_, _<_};
+ghost use lib.Dec.{eqb};
 ghost use lib.ListN.{length};
 ghost use lib.IntN.{pos, negℤ, _-ℤ_};
 ghost use Rattle.polar.specs.Layers.{part, Within};
@@ -12,11 +13,11 @@ ghost use Rattle.outer.specs.Blocks.{paritySet, Bits, BlockTabled, candidateOf}
 ghost use Rattle.outer.specs.Words as W;
 ghost use Rattle.outer.specs.Words.{Word};
 ghost use Rattle.reader.specs.Paths.{Path, ownWord};
-ghost use Rattle.order.specs.Entries.{keyAt, slotAt};
+ghost use Rattle.order.specs.Entries.{slotAt};
 ghost use Rattle.sharing.specs.Sharing.{idAt};
 ghost use Rattle.heights.specs.Workspace.{spot, Id};
 ghost use Rattle.standing.specs.Standing.{cell, Row, PutRow};
-ghost use Rattle.words.specs.Kept.{KeptIs};
+ghost use Rattle.words.specs.Kept.{keptCell, keptAt, OneKept, Keeps};
 use heights::arrays::place;
 use order::entries::slot_of;
 use outer::Candidate;
@@ -30,12 +31,6 @@ pub struct Block {
     pub height: usize,
     pub bias: i32,
     pub place: usize,
-}
-
-// A word kept for the path of an entry: the next of its last block after its own.
-pub struct Kept {
-    pub entry: u64,
-    pub word: Candidate,
 }
 
 // R less the bias of the last block.
@@ -153,7 +148,68 @@ pub fn next_word(
     )
 }
 
-// The next word of the last block of the path of entry e: the word kept, if it was kept for this entry, else by a search.
+// What cell 0 of a slot holds where this word is kept.
+fn mark(word: Candidate) -> u32
+    requires { ⌜ word .setting < 1073741824 ⌝ }
+    ensures { λ r. ⌜ (0 < r) × (eqb (r % 2) 0 ≡ word .some) × ((r - 1) / 2 ≡ word .setting) ⌝ }
+{
+    let twice = word.setting * 2;
+    if word.some { twice + 2 } else { twice + 1 }
+}
+
+// Keeps a word for the path in a slot.
+pub fn keep(kept: &mut [u32; 1024], slot: usize, word: Candidate)
+    requires { ⌜ (length (now kept) ≡ 1024) × (slot < 256) × (word .setting < 1073741824) ⌝ }
+    ensures { λ _. ⌜ OneKept slot (now (kept .entry)) (now (kept .exit)) × (keptAt (now (kept .exit)) slot ≡ word) ⌝ }
+{
+    let at = slot * 4;
+    let parities = word.parities;
+    let cost = word.cost;
+    let number = word.number;
+    kept[at] = mark(word);
+    kept[at + 1] = parities;
+    kept[at + 2] = cost;
+    kept[at + 3] = number;
+}
+
+// Keeps no word for the path in a slot.
+pub fn forget(kept: &mut [u32; 1024], slot: usize)
+    requires { ⌜ (length (now kept) ≡ 1024) × (slot < 256) ⌝ }
+    ensures { λ _. ⌜ OneKept slot (now (kept .entry)) (now (kept .exit)) × (keptCell (now (kept .exit)) slot 0 ≡ 0) ⌝ }
+{
+    kept[slot * 4] = 0;
+}
+
+// The word kept in a slot that keeps one.
+fn recall(kept: &[u32; 1024], slot: usize) -> Candidate
+    requires { ⌜ (length (now kept) ≡ 1024) × (slot < 256) × (0 < keptCell (now kept) slot 0) ⌝ }
+    ensures { λ r. ⌜ r ≡ keptAt (now (kept .entry)) slot ⌝ }
+{
+    let at = slot * 4;
+    let marked = kept[at];
+    let setting = (marked - 1) / 2;
+    let parities = kept[at + 1];
+    let cost = kept[at + 2];
+    let number = kept[at + 3];
+    if marked % 2 == 0 {
+        return Candidate {
+            some: true,
+            setting,
+            parities,
+            cost,
+            number,
+        };
+    }
+    Candidate {
+        some: false,
+        setting,
+        parities,
+        cost,
+        number,
+    }
+}
+
+// The next word of the last block of the path of entry e: the word kept in its slot, if one is, else by a search.
 pub fn other_word(
     rows: &[u32; 4096],
     numbers: &[i32],
@@ -162,23 +218,23 @@ pub fn other_word(
     m: usize,
     e: u64,
     last: Block,
-    kept: Kept,
+    kept: &[u32; 1024],
     words: &mut [u32; 256],
     sets: &mut [u32; 256],
     sums: &mut [u32; 128],
 ) -> Candidate
-    requires { ⌜ (length (now rows) ≡ 4096) × (m ≤ 9) × (last .height ≤ m) × Id 256 (idAt (now rows) (slotAt e) (last .height)) ⌝ }
+    requires { ⌜ (length (now rows) ≡ 4096) × (m ≤ 9) × (last .height ≤ m) × Id 256 (idAt (now rows) (slotAt e) (last .height)) × (length (now kept) ≡ 1024) ⌝ }
     requires { ⌜ Searchable (now numbers) (spot m (idAt (now rows) (slotAt e) (last .height)) (last .height)) (now kinds) (last .start) (last .height) ⌝ }
     requires { ⌜ Scratch (now words) (now sets) (now sums) × (cell (now rows) (slotAt e) 11 < 4294967295) ⌝ }
     ensures { λ _. ⌜ Scratch (now (words .exit)) (now (sets .exit)) (now (sums .exit)) ⌝ }
-    ensures { λ r. ⌜ ((B : Book) (b : ℕ) (p : Path) → KeptIs B m (now (rows .entry)) (now (numbers .entry)) kept
-        → BlockTabled B b (now (kinds .entry)) (now (terms .entry)) (last .start) (last .height)
-        → Bits (p .earlier) → Row B (now (rows .entry)) (slotAt e) p → keyAt e .blocks ≡ suc b → p .blocks ≡ suc b
-        → r ≡ candidateOf B (W.nextAfter (ownWord B p b) B (part (spot m (idAt (now (rows .entry)) (slotAt e) (last .height)) (last .height)) (2 ^ (last .height)) (now (numbers .entry))) (p .earlier) b)) ⌝ }
+    ensures { λ r. ⌜ ((B : Book) (b : ℕ) (p : Path) → BlockTabled B b (now (kinds .entry)) (now (terms .entry)) (last .start) (last .height)
+        → Bits (p .earlier) → Row B (now (rows .entry)) (slotAt e) p → p .blocks ≡ suc b
+        → (let next = W.nextAfter (ownWord B p b) B (part (spot m (idAt (now (rows .entry)) (slotAt e) (last .height)) (last .height)) (2 ^ (last .height)) (now (numbers .entry))) (p .earlier) b in
+        Keeps (now (kept .entry)) (slotAt e) (candidateOf B next) → r ≡ candidateOf B next)) ⌝ }
 {
-    let known = kept.entry;
-    if known == e {
-        return kept.word;
+    let slot = slot_of(e);
+    if kept[slot * 4] != 0 {
+        return recall(kept, slot);
     }
     next_word(
         rows,
@@ -186,7 +242,7 @@ pub fn other_word(
         kinds,
         terms,
         m,
-        slot_of(e),
+        slot,
         last,
         words,
         sets,

@@ -1,12 +1,13 @@
 -- `words::put` meets its contract: the five stores are those of a list of five numbers, one after the other. Assumes nothing.
-use mathlib.Core.Path.{_≡_, refl}
-use mathlib.Core.List.{List, [], _∷_}
-use Prim.Native.Nat.{ℕ, _+_, _*_, _<_}
+use mathlib.Core.Path.{refl}
+use mathlib.Core.List.{[], _∷_}
+use Prim.Native.Nat.{ℕ, _+_, _*_}
 use native.Mathlib.Omega.{arith}
-use lib.ListN.{length, getD, set}
+use lib.ListN.{getD}
 use borrow.Author.Needs.{needs}
-use Rattle.laws.proofs.Stores.{Stored, stored-none, stored-more}
+use Rattle.laws.proofs.Stores.{stored-none}
 use Rattle.standing.specs.Standing.{cell}
+use Rattle.words.proofs.Cells.{store-next, store-read}
 use Rattle.words.proofs.put.Statement.{statement}
 use Rattle.words.proofs.put.Tie as tie
 
@@ -58,13 +59,6 @@ mul-rows-5 c = search needs
 element-write-rows-5 : tie.Need-element-write-rows-5
 element-write-rows-5 c = search needs
 
--- a store of the run, and a cell of it, at an index that an equation tells
-next : {old new : List ℕ} {from i : ℕ} {f : ℕ → ℕ} (at v : ℕ) → Stored old new from f i → at ≡ from + i → at < length old → v ≡ f i → Stored old (set new at v) from f (i + 1)
-next at v s q h e = rw q (stored-more v s (omega arith) e)
-
-read : {old new : List ℕ} {from i : ℕ} {f : ℕ → ℕ} (at k : ℕ) → Stored old new from f i → at ≡ from + k → k < i → getD new at 0 ≡ f k
-read at k s q h = rw q (s .done k h)
-
 -- the five numbers
 abbrev value : tie.Start → ℕ → ℕ
 value c k = getD (c .args .spent ∷ c .args .cost ∷ c .args .word ∷ c .args .earlier ∷ c .args .parities ∷ []) k 0
@@ -75,18 +69,18 @@ returns c =
     let a = c .args in
     let at = a .slot * 16 in
     let none = stored-none (a .rows .now) (at + 10) (value c) in
-    let one = next (at + 10) (a .spent) none (omega arith) (omega arith) refl in
-    let two = next (at + 11) (a .cost) one (omega arith) (omega arith) refl in
-    let three = next (at + 12) (a .word) two (omega arith) (omega arith) refl in
-    let four = next (at + 13) (a .earlier) three (omega arith) (omega arith) refl in
-    let all = next (at + 14) (a .parities) four (omega arith) (omega arith) refl in
+    let one = store-next (at + 10) (a .spent) none (omega arith) (omega arith) refl in
+    let two = store-next (at + 11) (a .cost) one (omega arith) (omega arith) refl in
+    let three = store-next (at + 12) (a .word) two (omega arith) (omega arith) refl in
+    let four = store-next (at + 13) (a .earlier) three (omega arith) (omega arith) refl in
+    let all = store-next (at + 14) (a .parities) four (omega arith) (omega arith) refl in
     record {
       size = all .size;
-      spent = read (at + 10) 0 all (omega arith) (omega arith);
-      cost = read (at + 11) 1 all (omega arith) (omega arith);
-      word = read (at + 12) 2 all (omega arith) (omega arith);
-      earlier = read (at + 13) 3 all (omega arith) (omega arith);
-      parities = read (at + 14) 4 all (omega arith) (omega arith);
+      spent = store-read (at + 10) 0 all (omega arith) (omega arith);
+      cost = store-read (at + 11) 1 all (omega arith) (omega arith);
+      word = store-read (at + 12) 2 all (omega arith) (omega arith);
+      earlier = store-read (at + 13) 3 all (omega arith) (omega arith);
+      parities = store-read (at + 14) 4 all (omega arith) (omega arith);
       before = all .before;
       after = λ k h. all .after k (omega arith);
     }

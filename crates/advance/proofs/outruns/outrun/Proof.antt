@@ -8,6 +8,7 @@ use borrow.Author.Needs.{needs}
 use lib.ListN.{length, getD, set}
 use Rattle.machine.specs.Queue.{ahead, visit}
 use Rattle.reader.specs.Paths.{keyOf}
+use Rattle.order.specs.Entries.{keyAt, queueOf}
 use Rattle.order.proofs.Queues.{queue-length}
 use Rattle.standing.proofs.Sizes.{stands-length}
 use Rattle.advance.proofs.Sides.{sides-length, visit-seen, stay-all, stay-ahead}
@@ -39,11 +40,22 @@ returns c =
     let t = c .before .before .before in
     let a = t .args in
     let s = t .pre .0 in
-    let seen = visit-seen (a .visits .now) (a .b) (omega arith) in (
-      (s .0 .holders-size, s .1, s .2, visited t, refl, refl, refl, omega arith),
+    let seen = visit-seen (a .visits .now) (a .b) (omega arith) in
+    let entries = queueOf (a .order .now) (a .t .queued) in (
+      (
+        s .0 .holders-size,
+        s .1,
+        s .2,
+        visited t,
+        refl,
+        refl,
+        refl,
+        omega arith,
+        sym (stay-all keyAt (a .s .visits) (a .b) (visit (a .visits .now) (a .b)) entries (omega (arith, seen, c .if1 .taken)) .0),
+      ),
       (
         λ numbers bytes x.
-            let stay = stay-all (x .book) (a .s .visits) (a .b) (visit (a .visits .now) (a .b)) (x .paths) (omega (arith, seen, c .if1 .taken)) in
+            let stay = stay-all (keyOf (x .book)) (a .s .visits) (a .b) (visit (a .visits .now) (a .b)) (x .paths) (omega (arith, seen, c .if1 .taken)) in
             let level : a .t .queued ≡ length (x .paths) = omega (arith, stands-length (x .stands), queue-length (a .t .queued) (a .order .now)) in
             (rw (stay .0) level, rw (stay .1) (omega arith), rw (stay .0) (x .stands)),
         t .pre .1 .1 .1,
@@ -74,13 +86,25 @@ returns-2 c =
     let a = t .args in
     let gone = c .before .before .before .dismiss in
     let left = c .before .sift in
-    let seen = visit-seen (a .visits .now) (a .b) (omega arith) in (
-      (gone .ensures .0 .0, left .ensures .0 .0, gone .ensures .0 .1, visited t, refl, refl, refl, omega (arith, left .ensures .0 .1)),
+    let seen = visit-seen (a .visits .now) (a .b) (omega arith) in
+    let lth : getD (visit (a .visits .now) (a .b)) (a .b) 0 ≡ a .s .visits = omega (arith, seen, c .before .before .before .before .before .before .before .if1 .left) in
+    let entries = queueOf (a .order .now) (a .t .queued) in (
+      (
+        gone .ensures .0 .0,
+        left .ensures .0 .0,
+        gone .ensures .0 .1,
+        visited t,
+        refl,
+        refl,
+        refl,
+        omega (arith, left .ensures .0 .1),
+        left .ensures .0 .2 ∙ sym (stay-ahead keyAt (a .s .visits) (a .b) (visit (a .visits .now) (a .b)) entries lth .0),
+      ),
       (
         λ numbers bytes x.
             let w = gone .ensures .1 numbers bytes x in
             let stay =
-            stay-ahead (x .book) (a .s .visits) (a .b) (visit (a .visits .now) (a .b)) (x .paths) (omega (arith, seen, c .before .before .before .before .before .before .before .if1 .left)) in
+            stay-ahead (keyOf (x .book)) (a .s .visits) (a .b) (visit (a .visits .now) (a .b)) (x .paths) lth in
             let level : length (x .paths) ≡ a .t .queued = omega (arith, stands-length (x .stands), queue-length (a .t .queued) (a .order .now)) in
             let many : left .result ≡ length (ahead (keyOf (x .book)) (a .b) (x .paths)) =
             sym (queue-length (left .result) (left .last .0)) ∙ ap length (left .ensures .0 .2) ∙ stands-length (w .1) in

@@ -11,9 +11,9 @@ use Rattle.reader.specs.Reader.{copy}
 use Rattle.order.specs.Entries.{queueOf, Rising}
 use Rattle.standing.specs.Seen.{Memory, memory}
 use Rattle.standing.specs.Standing.{Stands}
-use Rattle.words.specs.Kept.{KeptIs}
+use Rattle.words.specs.Kept.{Kepts}
 use Rattle.extraction.specs.Extraction.{Extracting}
-use Rattle.extraction.proofs.Extracts.{visit-length, extract-blocks, extract-seconding, extract-thirding, extract-kept, MovedTo, extract-queued, extract-done}
+use Rattle.extraction.proofs.Extracts.{visit-length, extract-blocks, extract-seconding, extract-thirding, MovedTo, extract-queued, extract-done}
 use Rattle.extraction.proofs.extract.extract.Statement.{statement}
 use Rattle.extraction.proofs.extract.extract.Tie as tie
 
@@ -25,21 +25,21 @@ abbrev Extract : tie.Start → Type 0
 Extract s =
     let a = s .args in
     Extracting (a .s .m) (a .s .paths) (at-start s) (a .e) (queueOf (a .order .now) (a .t .queued)) (queueOf (a .vacant .now) (a .s .paths - (a .t .queued + 1)))
-    (a .kinds .now) (a .terms .now) (a .last) (a .at) (a .kept)
+    (a .kinds .now) (a .terms .now) (a .last) (a .at) (a .kept .now)
 
 own : (s : tie.Start) → Extract s
 own s = s .pre .1 .1 .1 .0
 
 second-requires : tie.Need-second-requires
 second-requires c κs =
-    let s = c .before .before .before .before .before .before .before .before .before .before in
+    let s = c .before .before .before .before .before .before .before .before .before .before .before in
     let p = s .pre .0 in
     let q = s .pre .1 .0 in
-    ((p .0, p .1, p .2), ((q .0, q .1, q .2, q .3, q .4), (extract-seconding (own s), s .pre .1 .1 .1 .1)))
+    ((p .0, p .1, p .2, p .4), ((q .0, q .1, q .2, q .3, q .4), (extract-seconding (own s), s .pre .1 .1 .1 .1)))
 
 -- after the copy, for any state
 abbrev start : tie.After-second → tie.Start
-start c = c .before .before .before .before .before .before .before .before .before .before .before
+start c = c .before .before .before .before .before .before .before .before .before .before .before .before
 
 abbrev at-second : tie.After-second → Memory
 at-second c = let f = c .second .last in memory (f .0) (f .1 .0) (f .1 .1 .1 .1 .0) (start c .args .bytes .now)
@@ -50,44 +50,46 @@ entries c = queueOf (c .second .last .1 .1 .0) (c .second .result .queued)
 abbrev vacants : tie.After-second → List ℕ
 vacants c = queueOf (c .second .last .1 .1 .1 .0) (start c .args .s .paths - (c .second .result .queued + 1))
 
+-- the words kept then
+abbrev words : tie.After-second → List ℕ
+words c = c .second .last .1 .1 .1 .1 .1 .1 .1 .1 .1 .1 .1 .1 .0
+
 copied : (c : tie.After-second) (o : Extract (start c)) → let a = start c .args in
     let d = extract-seconding o in
     let k = copy (d .hand .book) (a .s .paths) (d .hand .arrays) (d .hand .taken) (d .hand .rest) (a .t .next) (d .hand .taken .blocks) in
     (c .second .result .queued ≡ length (k .queue)) × (c .second .result .next ≡ k .next) × (c .second .result .crowded ≡ a .t .crowded + length (k .crowded))
     × Stands (d .hand .book) (a .s .paths) (at-second c) (a .e ∷ entries c) (vacants c) (k .arrays) (d .hand .taken ∷ k .queue)
+    × Kepts (d .hand .book) (k .arrays) (words c) (entries c) (k .queue)
 copied c o = c .second .ensures .1 .1 .0 (extract-seconding o)
 
 third-requires : tie.Need-third-requires
 third-requires c κs =
-    let t = c .before .before .before .before .before .before .before .before .before in
+    let t = c .before .before .before .before .before .before .before .before .before .before in
     let a = start t .args in
-    let f = t .second .ensures in
-    ((f .0 .0, f .0 .1, f .1 .0 .2, f .0 .3), ((vacants t, extract-thirding (own (start t)) (a .t .next) (a .t .crowded) (copied t (own (start t)))), f .1 .1 .1))
+    let f = t .second .ensures in (
+      (f .0 .0, f .0 .1, f .1 .0 .2, f .0 .3, f .0 .4),
+      ((vacants t, extract-thirding (own (start t)) (a .t .next) (a .t .crowded) (words t) (copied t (own (start t)))), f .1 .1 .1),
+    )
 
--- after the move, for any state
+-- after the move, for any state; and the words kept
 abbrev seconded : tie.After-third → tie.After-second
-seconded c = c .before .before .before .before .before .before .before .before .before .before
+seconded c = c .before .before .before .before .before .before .before .before .before .before .before
 
 abbrev at-third : tie.After-third → Memory
 at-third c = let f = c .third .last in memory (f .0) (f .1 .0) (f .1 .1 .1 .0) (f .1 .1 .1 .1 .0)
 
+abbrev kept : tie.After-third → List ℕ
+kept c = c .third .last .1 .1 .1 .1 .1 .1 .1 .1 .1 .1 .1 .1 .1 .0
+
 moved : (c : tie.After-third) (o : Extract (start (seconded c))) → let t = seconded c in
     let a = start t .args in
-    MovedTo o (a .t .next) (a .t .crowded) (copied t o) (at-third c) (queueOf (c .third .last .1 .1 .0) (t .second .result .queued + 1))
+    MovedTo o (a .t .next) (a .t .crowded) (words t) (copied t o) (at-third c) (queueOf (c .third .last .1 .1 .0) (t .second .result .queued + 1)) (kept c)
 moved c o =
     let t = seconded c in
     let a = start t .args in
     let one : suc (t .second .result .queued) ≡ t .second .result .queued + 1 = omega arith in
-    subst (λ (i : ℕ). MovedTo o (a .t .next) (a .t .crowded) (copied t o) (at-third c) (queueOf (c .third .last .1 .1 .0) i)) one
-    (c .third .ensures .1 .0 (vacants t) (extract-thirding o (a .t .next) (a .t .crowded) (copied t o)) .0)
-
--- the word kept, for any state
-kept : (c : tie.After-third) (o : Extract (start (seconded c))) → let a = start (seconded c) .args in
-    KeptIs (o .hand .book) (a .s .m) (c .third .last .0) (c .third .last .1 .1 .1 .0) (c .third .result)
-kept c o =
-    let t = seconded c in
-    let a = start t .args in
-    extract-kept o (a .t .next) (a .t .crowded) (copied t o) (c .third .ensures .1 .0 (vacants t) (extract-thirding o (a .t .next) (a .t .crowded) (copied t o)) .1)
+    subst (λ (i : ℕ). MovedTo o (a .t .next) (a .t .crowded) (words t) (copied t o) (at-third c) (queueOf (c .third .last .1 .1 .0) i) (kept c)) one
+    (c .third .ensures .1 .0 (vacants t) (extract-thirding o (a .t .next) (a .t .crowded) (words t) (copied t o)))
 
 add-x : tie.Need-add-x
 add-x c = search needs
@@ -123,16 +125,17 @@ returns c =
         f .0 .2,
         ap length (f .0 .3) ∙ visit-length (a .visits .now) b ∙ s .pre .0 .3,
         l .2,
+        l .3,
       ),
       (
         (f .0 .5 ∙ t .second .ensures .1 .0 .0, f .0 .7),
         (
           λ o.
-              let q = extract-queued o (a .t .next) (a .t .crowded) (copied t o) (moved u o) in
+              let q = extract-queued o (a .t .next) (a .t .crowded) (words t) (copied t o) (kept u) (moved u o) in
               let k =
-              extract-done o (a .t .next) (a .t .crowded) (copied t o) (moved u o) (a .s .visits) (a .visits .now) (t .second .result .outrun) b (c .before .blocks-of .ensures)
+              extract-done o (a .t .next) (a .t .crowded) (words t) (copied t o) (kept u) (moved u o) (a .s .visits) (a .visits .now) (t .second .result .outrun) b (c .before .blocks-of .ensures) (f .0 .8)
               (f .1 .0 (u .third .last .1 .1 .1 .0) (u .third .last .1 .1 .1 .1 .0) q) in
-              (k .0, f .0 .4 ∙ k .1, f .0 .3 ∙ k .2, f .0 .6 ∙ k .3, omega (arith, k .4, t .second .ensures .1 .0 .1), k .5, kept u o),
+              (k .0, f .0 .4 ∙ k .1, f .0 .3 ∙ k .2, f .0 .6 ∙ k .3, omega (arith, k .4, t .second .ensures .1 .0 .1), k .5, k .6),
           f .1 .1,
         ),
       ),
@@ -161,7 +164,7 @@ outrun-requires c κs =
           (
             u .third .last .1 .1 .1 .0,
             u .third .last .1 .1 .1 .1 .0,
-            extract-queued o (a .t .next) (a .t .crowded) (copied t o) (moved u o),
+            extract-queued o (a .t .next) (a .t .crowded) (words t) (copied t o) (kept u) (moved u o),
           ),
           subst (Rising (u .third .last .1 .1 .0)) one (u .third .ensures .1 .1),
         ),

@@ -19,13 +19,13 @@ returns c =
     let s = c .before .before .before in
     let a = s .args in
     let none : keyAt (a .e) .blocks ≡ 0 = omega (arith, c .before .blocks-of .ensures, c .if1 .taken) in (
-      (s .pre .0 .0, s .pre .0 .1, s .pre .0 .2, s .pre .1 .0 .0),
+      (s .pre .0 .0, s .pre .0 .1, s .pre .0 .2, s .pre .0 .3, s .pre .1 .0 .0),
       (
         (refl, refl, s .pre .1 .0 .2),
         (
           λ o.
               let k = second-none o (a .t .next) (a .t .crowded) none in
-              (sym (queue-length (a .t .queued) (a .order .now)) ∙ k .0, k .1, k .2, k .3),
+              (sym (queue-length (a .t .queued) (a .order .now)) ∙ k .0, k .1, k .2, k .3, k .4),
           s .pre .1 .1 .1,
         ),
       ),
@@ -40,7 +40,7 @@ some-blocks c = (omega (arith, c .if1 .left), omega (arith, c .if1 .left, c .bef
 
 copy-requires : tie.Need-copy-requires
 copy-requires c κs =
-    let t = c .before .before .before .before .before .before .before .before in
+    let t = c .before .before .before .before .before .before .before .before .before in
     let s = start t in
     (s .pre .0, (s .pre .1 .0, ((_, some-blocks t .0, second-copying (s .pre .1 .1 .0) (some-blocks t .1)), s .pre .1 .1 .1)))
 
@@ -50,13 +50,13 @@ same-length c = search needs
 returns-2 : tie.Need-returns-2
 returns-2 c =
     let f = c .before .copy .ensures in
-    let t = c .before .before .before .before .before .before .before .before .before .before in
+    let t = c .before .before .before .before .before .before .before .before .before .before .before in
     let a = start t .args in (
       f .0,
       (
         f .1 .0,
         (
-          λ o. second-done o (some-blocks t .1) (a .t .next) (a .t .crowded) (f .1 .1 .0 _ (second-copying o (some-blocks t .1)) (some-blocks t .0)),
+          λ o. second-done o (some-blocks t .1) (a .t .next) (a .t .crowded) (c .before .copy .last .1 .1 .1 .1 .1 .1 .1 .1 .1 .1 .1 .1 .1 .0) (f .1 .1 .0 _ (second-copying o (some-blocks t .1)) (some-blocks t .0)),
           f .1 .1 .1,
         ),
       ),

@@ -1,6 +1,6 @@
 -- `extraction::extract::third` meets its contract: once the values of the path's next block are there, the search answers the reader's nearest word
 -- and the next after it; the path's row and entry, written anew, hold the path with the nearest, the insertion queues it, and the next is kept for
--- that entry. Moves.antt and Keeping.antt have each step, for any state that memory stands for; the contract's own state shows what the calls need.
+-- it. Moves.antt and Keeping.antt have each step, for any state that memory stands for; the contract's own state shows what the calls need.
 -- Assumes nothing.
 use mathlib.Core.Path.{_≡_, refl, ap, ap₂, _∙_, subst}
 use mathlib.Core.List.{List, _∷_}
@@ -13,17 +13,20 @@ use lib.IntN.{ℤ, pos, negℤ, natAbs, _-ℤ_}
 use mir.Facts.{toZ-ofZ}
 use Rattle.laws.proofs.Signed.{back, abs-fits}
 use Rattle.polar.specs.Layers.{part}
+use Rattle.codebook.specs.Book.{blockAt}
 use Rattle.codec.specs.Ties.{Parities}
 use Rattle.outer.specs.Words.{Word, nearest, nextAfter}
 use Rattle.outer.specs.Blocks.{paritySet, Bits, candidateOf}
+use Rattle.reader.specs.Arrays.{valsOf}
+use Rattle.reader.specs.Paths.{keyOf}
 use Rattle.order.specs.Entries.{keyAt, slotAt, Packed, queueOf}
 use Rattle.sharing.specs.Sharing.{idAt}
 use Rattle.heights.specs.Workspace.{spot}
 use Rattle.standing.specs.Seen.{Memory, memory}
 use Rattle.standing.specs.Standing.{cell, Stands, withIds, PutRow}
 use Rattle.extraction.specs.Extraction.{Thirding}
-use Rattle.extraction.proofs.Moves.{view, third-tabled, third-parities, third-bias, third-blocks, third-low, third-spent, third-cost, third-set, third-id, third-searchable, third-found, third-total, third-queued}
-use Rattle.extraction.proofs.Keeping.{third-kept}
+use Rattle.extraction.proofs.Moves.{view, moved, third-tabled, third-parities, third-bias, third-blocks, third-low, third-spent, third-cost, third-set, third-id, third-searchable, third-second, third-total, third-packed, third-queued}
+use Rattle.extraction.proofs.Keeping.{third-few, third-kept}
 use Rattle.extraction.proofs.extract.third.Statement.{statement}
 use Rattle.extraction.proofs.extract.third.Tie as tie
 
@@ -67,7 +70,7 @@ at-start s = memory (s .args .rows .now) (s .args .holders .now) (s .args .numbe
 abbrev Third : tie.Start → List ℕ → Type 0
 Third s vs =
     let a = s .args in
-    Thirding (a .m) (a .paths) (at-start s) (a .e) (queueOf (a .order .now) (a .queued)) vs (a .kinds .now) (a .terms .now) (a .last) (a .at)
+    Thirding (a .m) (a .paths) (at-start s) (a .e) (queueOf (a .order .now) (a .queued)) vs (a .kinds .now) (a .terms .now) (a .last) (a .at) (a .kept .now)
 
 own : (s : tie.Start) → Third s (s .pre .1 .0 .0)
 own s = s .pre .1 .0 .1
@@ -127,7 +130,7 @@ nearest-words-requires c κs =
     let st = values-there (made t) _ o in
     rw (slot-is t) (
       (l .sizes .rows-size, omega (arith, t .slot-of .ensures), l .deep, third-low o, third-id o st (l .many)),
-      (third-searchable o st l, s .pre .0 .3),
+      (third-searchable o st l, s .pre .0 .4),
     )
 
 -- the words found, for any state
@@ -159,6 +162,15 @@ found-is : (c : tie.After-nearest-words) (vs : List ℕ) (o : Third (start (made
     ≡ candidateOf (o .moving .hand .book)
     (nearest (o .moving .hand .book) (part (spot (a .m) (idAt (y .rows) (slot (slotted c)) h) h) (2 ^ h) (y .numbers)) (p .parities) (p .blocks))
 found-is c vs o = two-found c vs o (o .moving .hand .taken .parities) (third-parities o) (third-set o (values-there (made (slotted c)) vs o)) .0
+
+-- the next after it
+next-is : (c : tie.After-nearest-words) (vs : List ℕ) (o : Third (start (made (slotted c))) vs) → let p = o .moving .hand .taken in
+    c .nearest-words .result .second
+    ≡ candidateOf (o .moving .hand .book)
+    (nextAfter (o .word) (o .moving .hand .book) (valsOf (view o) (blockAt (o .moving .hand .book) (p .blocks) .j)) (p .parities) (p .blocks))
+next-is c vs o =
+    let st = values-there (made (slotted c)) vs o in
+    third-second o st (two-found c vs o (o .moving .hand .taken .parities) (third-parities o) (third-set o st) .1)
 
 put-requires : tie.Need-put-requires
 unfolding memory
@@ -260,19 +272,35 @@ put-is c =
 abbrev ended : tie.After-insert → tie.After-put
 ended c = written (c .before .before .before .before .before)
 
+keep-requires : tie.Need-keep-requires
+keep-requires c κs =
+    let i = c .before .before in
+    let u = searched (ended i) in
+    let s = start (made (slotted u)) in
+    (s .pre .0 .3, slotted u .slot-of .ensures .1, third-few (own s) (next-is u _ (own s)))
+
+-- the path's entry, for any state
+entry-is : (c : tie.After-entry) (vs : List ℕ) → let t = slotted (searched (written (c .before .before .before))) in
+    (o : Third (start (made t)) vs) → Packed (c .entry .result) (keyOf (o .moving .hand .book) (moved o)) (slot t)
+entry-is c vs o =
+    let f = c .before .before .before in
+    let u = searched (written f) in
+    third-packed o (values-there (made (slotted u)) vs o) (found-is u vs o) (score-is f) (packed c)
+
 same-length : tie.Need-same-length
-same-length c = made (slotted (searched (ended (c .before)))) .calculate .kept .1 .1 .0
+same-length c = made (slotted (searched (ended (c .before .before .before)))) .calculate .kept .1 .1 .0
 
 same-length-2 : tie.Need-same-length-2
-same-length-2 c = made (slotted (searched (ended (c .before)))) .calculate .kept .1 .1 .1 .0
+same-length-2 c = made (slotted (searched (ended (c .before .before .before)))) .calculate .kept .1 .1 .1 .0
 
 returns : tie.Need-returns
 unfolding memory
 returns c =
-    let i = c .before in
+    let i = c .before .before .before in
     let p = ended i in
     let u = searched p in
     let t = slotted u in
+    let k = rw (slot-is t) at (c .keep .ensures) in
     let l = made t .calculate .ensures .0 .0 in (
       (
         record {
@@ -283,15 +311,14 @@ returns c =
           bytes = l .bytes;
         },
         i .insert .ensures .0 .0,
+        k .0 .size ∙ start (made t) .pre .0 .3,
         u .nearest-words .ensures .0,
       ),
       (
         λ vs o.
             let st = values-there (made t) vs o in
-            let d = packed (i .before .before) in (
-              rw (i .insert .ensures .0 .1) (third-queued o st (found-is u vs o) (score-is (i .before .before .before .before .before)) d (put-is p)),
-              third-kept o (l .deep) (at-made (made t) .rows) (at-made (made t) .numbers) (u .nearest-words .result) (third-found o st (found-is u vs o)) (two-found u vs o) (put-is p) d refl,
-            ),
+            let d = entry-is (i .before .before) vs o in
+            rw (i .insert .ensures .0 .1) (third-queued o st (found-is u vs o) d (put-is p), third-kept o (next-is u vs o) d (k .0) (k .1)),
         i .insert .ensures .1,
       ),
     )
@@ -323,6 +350,7 @@ third-spec =
     number-of-requires
     entry-requires
     insert-requires
+    keep-requires
     same-length
     same-length-2
     returns)

@@ -9,7 +9,7 @@ use Prim.Native.Nat.{ℕ, _+_, _-_, _*_, _≤_, _<_}
 use native.Mathlib.Omega.{arith}
 use lib.IntN.{ℤ, pos}
 use lib.ListN.{length, getD, replicate, length-set, length-replicate}
-use Rattle.machine.specs.Queue.{Key, Step, Final}
+use Rattle.machine.specs.Queue.{Step, Final}
 use Rattle.machine.specs.Calls.{walked}
 use Rattle.outer.specs.Search.{Scratch}
 use Rattle.reader.specs.Arrays.{Arrays}
@@ -20,40 +20,33 @@ use Rattle.heights.specs.Workspace.{Room}
 use Rattle.standing.specs.Seen.{Memory, memory, Lent}
 use Rattle.steps.specs.declared.Setting.{Setting}
 use Rattle.steps.specs.declared.Tally.{Tally}
-use Rattle.words.specs.declared.Kept.{Kept}
-use Rattle.words.specs.Kept.{KeptIs}
 use Rattle.reading.specs.Running.{arraysOf, received, Running, RanIs}
 use Rattle.extraction.specs.Extraction.{Extracting}
 use Rattle.reading.specs.Ending.{Ending}
 use Rattle.reading.proofs.Received.{root-spot, root-within, received-is, received-root, received-room}
 use Rattle.reading.proofs.Going.{Going, going-small, going-room, going-limits}
-use Rattle.reading.proofs.Turns.{run-deep, run-blocks, table-fits, run-found, run-first, run-nothing, run-left, run-within, run-extracting, run-some, run-turn, run-ending, run-walks, run-ran}
+use Rattle.reading.proofs.Turns.{run-deep, run-blocks, table-fits, run-found, run-first, run-left, run-within, run-extracting, run-some, run-turn, run-ending, run-walks, run-ran}
 use Rattle.reading.proofs.run.run.Statement.{statement}
 use Rattle.reading.proofs.run.run.Tie as tie
 
 -- the run of an input, under way
-abbrev Runs : (s : Setting) (values : List ℤ) (kinds terms heights starts : List ℕ) (biases : List ℤ) (A : Arrays) (x : Memory) (order vacant visits : List ℕ) (t : Tally) (e : ℕ)
+abbrev Runs : (s : Setting) (values : List ℤ) (kinds terms heights starts : List ℕ) (biases : List ℤ) (A : Arrays) (x : Memory) (order vacant visits kept : List ℕ) (t : Tally) (e : ℕ)
     (path₀ blocks₀ score₀ path blocks score : List ℤ) → Type 0
-Runs s values kinds terms heights starts biases A x order vacant visits t e path₀ blocks₀ score₀ path blocks score =
+Runs s values kinds terms heights starts biases A x order vacant visits kept t e path₀ blocks₀ score₀ path blocks score =
     (c : Running s values kinds terms heights starts biases) →
-    Going (c .book) values (s .visits) (s .paths) (R.runOf (c .book) (s .visits) (s .paths) A) x order vacant visits t e path₀ blocks₀ score₀ path blocks score
-
--- the word kept, for every input
-abbrev Keeps : (s : Setting) (values : List ℤ) (kinds terms heights starts : List ℕ) (biases : List ℤ) (x : Memory) (kept : Kept) → Type 0
-Keeps s values kinds terms heights starts biases x kept = (c : Running s values kinds terms heights starts biases) → KeptIs (c .book) (s .m) (x .rows) (x .numbers) kept
+    Going (c .book) values (s .visits) (s .paths) (R.runOf (c .book) (s .visits) (s .paths) A) x order vacant visits kept t e path₀ blocks₀ score₀ path blocks score
 
 abbrev Inv-loop : tie.InvT-loop
-Inv-loop s values kinds terms heights starts biases numbers₀ bytes₀ walk-path₀ walk-blocks₀ walk-score₀ m paths blocks rows₀ holders₀ order₀ vacant₀ visits₀ words₀ sets₀ sums₀ t₀ e₀ kept₀ numbers bytes walk-path walk-blocks walk-score rows holders order vacant visits words sets sums t e kept =
-    (Lent (s .m) (s .paths) (memory rows holders numbers bytes) × (length order ≡ 256) × (length vacant ≡ 256) × (length visits ≡ 512) × Scratch words sets sums)
+Inv-loop s values kinds terms heights starts biases numbers₀ bytes₀ walk-path₀ walk-blocks₀ walk-score₀ m paths blocks rows₀ holders₀ order₀ vacant₀ visits₀ kept₀ words₀ sets₀ sums₀ t₀ e₀ numbers bytes walk-path walk-blocks walk-score rows holders order vacant visits kept words sets sums t e =
+    (Lent (s .m) (s .paths) (memory rows holders numbers bytes) × (length order ≡ 256) × (length vacant ≡ 256) × (length visits ≡ 512) × (length kept ≡ 1024) × Scratch words sets sums)
     × ((length numbers ≡ length numbers₀) × (length bytes ≡ length bytes₀) × (length walk-path ≡ length walk-path₀)
     × (length walk-blocks ≡ length walk-blocks₀) × (length walk-score ≡ length walk-score₀))
-    × Runs s values kinds terms heights starts biases (arraysOf (s .m) numbers₀ bytes₀) (memory rows holders numbers bytes) order vacant visits t e
+    × Runs s values kinds terms heights starts biases (arraysOf (s .m) numbers₀ bytes₀) (memory rows holders numbers bytes) order vacant visits kept t e
     walk-path₀ walk-blocks₀ walk-score₀ walk-path walk-blocks walk-score
-    × Keeps s values kinds terms heights starts biases (memory rows holders numbers bytes) kept
     × Rising order (t .queued)
 
 abbrev μ-loop : tie.MeasureT-loop
-μ-loop s values kinds terms heights starts biases numbers₀ bytes₀ walk-path₀ walk-blocks₀ walk-score₀ m paths blocks rows₀ holders₀ order₀ vacant₀ visits₀ words₀ sets₀ sums₀ t₀ e₀ kept₀ numbers bytes walk-path walk-blocks walk-score rows holders order vacant visits words sets sums t e kept =
+μ-loop s values kinds terms heights starts biases numbers₀ bytes₀ walk-path₀ walk-blocks₀ walk-score₀ m paths blocks rows₀ holders₀ order₀ vacant₀ visits₀ kept₀ words₀ sets₀ sums₀ t₀ e₀ numbers bytes walk-path walk-blocks walk-score rows holders order vacant visits kept words sets sums t e =
     s .visits * s .blocks + 1 - t .extractions
 
 -- ---- the start
@@ -107,13 +100,9 @@ root-now c =
     ap (λ l. arraysOf (a .s .m) l (a .bytes .now) .vals (a .s .m) 1) (received-now c)
     ∙ received-root (a .s .m) (a .s .paths) (a .values .now) (a .numbers .now) (s .pre .1 .1 .0 .0) (omega (arith, s .pre .0 .2)) (input s .size) (a .bytes .now)
 
-nothing-requires : tie.Need-nothing-requires Inv-loop μ-loop
-nothing-requires c κs = tt
-
 loop-holds : tie.Need-loop-holds Inv-loop μ-loop
 unfolding memory
-loop-holds o =
-    let c = o .before in
+loop-holds c =
     let s = start c in
     let a = s .args in
     let p = s .pre .0 in
@@ -132,14 +121,14 @@ loop-holds o =
         length-replicate {A = ℕ} 256 0,
         v .fill-vacant .ensures .0,
         length-replicate {A = ℕ} 512 0,
+        length-replicate {A = ℕ} 1024 0,
         record { words-size = length-replicate {A = ℕ} 256 0; sets-size = length-replicate {A = ℕ} 256 0; sums-size = length-replicate {A = ℕ} 128 0 },
       ),
       (refl, refl, refl, refl, refl),
       λ r.
-          run-first r (b .begin .last .0) (b .begin .last .1 .0) (v .fill-vacant .last .0) (c .before .before .receive .last .0) (a .bytes .now) (c .entry .result) (replicate 256 0)
+          run-first r (b .begin .last .0) (b .begin .last .1 .0) (v .fill-vacant .last .0) (c .before .before .receive .last .0) (a .bytes .now) (c .entry .result) (replicate 256 0) (replicate 1024 0)
           (a .walk-path .now) (a .walk-blocks .now) (a .walk-score .now) (omega (arith, p .2)) (p .3) (b .begin .ensures .0) (b .begin .ensures .2)
           (v .fill-vacant .ensures .1) (c .entry .ensures) (root-now c),
-      λ r. run-nothing r _ _ (o .nothing .result) (ap (λ (i : ℕ). keyAt i .blocks) (o .nothing .ensures) ∙ ap (λ (k : Key). k .blocks) (c .entry .ensures .key)),
       rising-none _,
     )
 
@@ -153,13 +142,13 @@ cast-if1 c = search needs
 
 -- the moment that a turn, or the end, begins at
 abbrev began : tie.At-loop Inv-loop μ-loop → tie.Start Inv-loop μ-loop
-began c = start (c .before .before)
+began c = start (c .before)
 
 -- the run that there is, under way
 abbrev going : (c : tie.At-loop Inv-loop μ-loop) → let a = began c .args in let y = c .loop in
     Going (input (began c) .book) (a .values .now) (a .s .visits) (a .s .paths)
-    (R.runOf (input (began c) .book) (a .s .visits) (a .s .paths) (arraysOf (a .s .m) (c .before .before .before .before .receive .last .0) (a .bytes .now)))
-    (memory (y .rows) (y .holders) (y .numbers) (y .bytes)) (y .order) (y .vacant) (y .visits) (y .t) (y .e)
+    (R.runOf (input (began c) .book) (a .s .visits) (a .s .paths) (arraysOf (a .s .m) (c .before .before .before .receive .last .0) (a .bytes .now)))
+    (memory (y .rows) (y .holders) (y .numbers) (y .bytes)) (y .order) (y .vacant) (y .visits) (y .kept) (y .t) (y .e)
     (a .walk-path .now) (a .walk-blocks .now) (a .walk-score .now) (y .walk-path) (y .walk-blocks) (y .walk-score)
 going c = c .loop .inv .2 (input (began c))
 
@@ -232,61 +221,61 @@ abbrev extracting : (c : tie.After-block-at2 Inv-loop μ-loop) (r : Input (began
     (queueOf (y .vacant) (a .s .paths - (y .t .queued + 1))) (a .kinds .now) (a .terms .now) (c .before .block-at .result) (c .block-at2 .result) (y .kept)
 extracting c r =
     let b = c .before .before .before in
-    run-extracting r (at-turn (opened c) .loop .inv .2 r) (c .before .block-at .result) (c .block-at2 .result) (at-turn (opened c) .loop .kept) (c .before .before .before2 .result) (b .blocks-of2 .result)
-    (at-turn (opened c) .loop .inv .3 r) (b .blocks-of2 .ensures) (c .before .before .before2 .ensures) (more (opened c)) (c .before .block-at .ensures) (c .block-at2 .ensures)
+    run-extracting r (at-turn (opened c) .loop .inv .2 r) (c .before .block-at .result) (c .block-at2 .result) (c .before .before .before2 .result) (b .blocks-of2 .result)
+    (b .blocks-of2 .ensures) (c .before .before .before2 .ensures) (more (opened c)) (c .before .block-at .ensures) (c .block-at2 .ensures)
 
 extract-requires : tie.Need-extract-requires Inv-loop μ-loop
 extract-requires c κs =
-    let u = c .before .before .before .before .before .before .before .before .before .before in
+    let u = c .before .before .before .before .before .before .before .before .before .before .before in
     let y = at-turn (opened u) in
     let i = y .loop .inv .0 in
     let l = limits y in (
-      (i .0, i .1, i .2, i .3),
-      ((i .4, began y .pre .0 .2, going-room (going y), l .1, l .2, l .3), (l .4, (extracting u (input (began y)), y .loop .inv .4))),
+      (i .0, i .1, i .2, i .3, i .4),
+      ((i .5, began y .pre .0 .2, going-room (going y), l .1, l .2, l .3), (l .4, (extracting u (input (began y)), y .loop .inv .3))),
     )
 
 -- once a path was extracted: where both blocks were read, and where the turn began
 abbrev read : tie.After-extract Inv-loop μ-loop → tie.After-block-at2 Inv-loop μ-loop
-read c = c .before .before .before .before .before .before .before .before .before .before .before
+read c = c .before .before .before .before .before .before .before .before .before .before .before .before
 
 abbrev before-it : tie.After-extract Inv-loop μ-loop → tie.At-loop Inv-loop μ-loop
 before-it c = at-turn (opened (read c))
 
 -- the run of an input has a final word
 found : (c : tie.At-loop Inv-loop μ-loop) (r : Input (began c)) → let a = began c .args in
-    (f : Final) × (R.runOf (r .book) (a .s .visits) (a .s .paths) (arraysOf (a .s .m) (c .before .before .before .before .receive .last .0) (a .bytes .now)) .final ≡ some f)
+    (f : Final) × (R.runOf (r .book) (a .s .visits) (a .s .paths) (arraysOf (a .s .m) (c .before .before .before .receive .last .0) (a .bytes .now)) .final ≡ some f)
 found c r =
     let a = began c .args in
-    run-found r (arraysOf (a .s .m) (c .before .before .before .before .receive .last .0) (a .bytes .now)) (began c .pre .0 .0) (root-now (c .before .before))
+    run-found r (arraysOf (a .s .m) (c .before .before .before .receive .last .0) (a .bytes .now)) (began c .pre .0 .0) (root-now (c .before))
 
 -- a path is queued
-queued-some : (c : tie.After-extract Inv-loop μ-loop) → 1 ≤ c .extract .result .tally .queued
+queued-some : (c : tie.After-extract Inv-loop μ-loop) → 1 ≤ c .extract .result .queued
 queued-some c =
     let y = before-it c in
     let r = input (began y) in
-    run-some r (going y) (began y .pre .0 .2) (began y .pre .0 .3) (found y r) (more (opened (read c))) (c .extract .result .tally) (c .extract .ensures .1 .1 .0 (extracting (read c) r) .0)
+    run-some r (going y) (began y .pre .0 .2) (began y .pre .0 .3) (found y r) (more (opened (read c))) (c .extract .result) (c .extract .ensures .1 .1 .0 (extracting (read c) r) .0)
 
 sub-left : tie.Need-sub-left Inv-loop μ-loop
-sub-left c = omega (arith, queued-some (c .before .before .before .before .before .before))
+sub-left c = omega (arith, queued-some (c .before .before .before .before))
 
 mul-e : tie.Need-mul-e Inv-loop μ-loop
-mul-e c = let x = c .before .before .before .before .before .before in omega (arith, queued-some x, x .extract .ensures .1 .0 .1, began (before-it x) .pre .0 .3)
+mul-e c = let x = c .before .before .before .before in omega (arith, queued-some x, x .extract .ensures .1 .0 .1, began (before-it x) .pre .0 .3)
 
 array-read-e : tie.Need-array-read-e Inv-loop μ-loop
 array-read-e c =
-    let x = c .before .before .before .before .before .before in
+    let x = c .before .before .before .before in
     omega (arith, queued-some x, x .extract .ensures .1 .0 .1, began (before-it x) .pre .0 .3, x .extract .ensures .0 .1)
 
 loop-less : tie.Need-loop-less Inv-loop μ-loop
 loop-less c =
-    let x = c .before .before .before .before .before .before in
+    let x = c .before .before .before .before in
     let y = before-it x in
     omega (arith, x .extract .ensures .1 .0 .0, run-left (input (began y)) (going y))
 
 loop-again : tie.Need-loop-again Inv-loop μ-loop
 unfolding memory
 loop-again c =
-    let x = c .before .before .before .before .before .before in
+    let x = c .before .before .before .before in
     let y = before-it x in
     let s = began y in
     let i = y .loop .inv .1 in
@@ -294,22 +283,21 @@ loop-again c =
     let o = x .extract .ensures in
     let n = opened (read x) .before .before .before .before in
     let w = opened (read x) .before in (
-      (o .0 .0, o .0 .1, o .0 .2, o .0 .3, o .0 .4),
+      (o .0 .0, o .0 .1, o .0 .2, o .0 .3, o .0 .4, o .0 .5),
       (
-        omega (arith, i .0, c .before .before .before .before .before .numbers2 .given),
-        omega (arith, i .1, c .before .before .before .before .bytes .given),
+        omega (arith, i .0, c .before .before .before .numbers2 .given),
+        omega (arith, i .1, c .before .before .bytes .given),
         omega (arith, i .2, w .before .before .walk-path .given),
         omega (arith, i .3, w .before .walk-blocks .given),
         omega (arith, i .4, w .walk-score .given),
       ),
       λ r.
           let made = o .1 .1 .0 (extracting (read x) r) in
-          run-turn r (y .loop .inv .2 r) (s .pre .0 .2) (s .pre .0 .3) (found y r) (more (opened (read x))) (x .extract .result .tally)
-          (memory (l .0) (l .1 .0) (l .1 .1 .1 .1 .1 .0) (l .1 .1 .1 .1 .1 .1 .0)) (l .1 .1 .0) (l .1 .1 .1 .0) (l .1 .1 .1 .1 .0)
-          (made .0, made .1, made .2, made .3, made .4, made .5) (o .1 .0 .0) (s .pre .1 .1 .1 .0)
+          run-turn r (y .loop .inv .2 r) (s .pre .0 .2) (s .pre .0 .3) (found y r) (more (opened (read x))) (x .extract .result)
+          (memory (l .0) (l .1 .0) (l .1 .1 .1 .1 .1 .0) (l .1 .1 .1 .1 .1 .1 .0)) (l .1 .1 .0) (l .1 .1 .1 .0) (l .1 .1 .1 .1 .0) (l .1 .1 .1 .1 .1 .1 .1 .1 .1 .1 .1 .1 .1 .1 .0)
+          (made .0, made .1, made .2, made .3, made .4, made .5, made .6) (o .1 .0 .0) (s .pre .1 .1 .1 .0)
           (record { path-set = n .note .ensures .0; blocks-set = n .note .ensures .1; score-set = n .note .ensures .2 }),
-      λ r. o .1 .1 .0 (extracting (read x) r) .6,
-      rising-less (l .1 .1 .0) (x .extract .result .tally .queued) _ (o .1 .1 .1) (omega arith),
+      rising-less (l .1 .1 .0) (x .extract .result .queued) _ (o .1 .1 .1) (omega arith),
     )
 
 -- ---- the end
@@ -364,7 +352,7 @@ abbrev kept : tie.After-finish Inv-loop μ-loop → tie.At-loop Inv-loop μ-loop
 kept c = at-end (last-read c .before)
 
 same-length : tie.Need-same-length Inv-loop μ-loop
-same-length c = let y = kept (c .before .before) in omega (arith, y .loop .inv .1 .0, y .before .before .before .numbers .given)
+same-length c = let y = kept (c .before .before) in omega (arith, y .loop .inv .1 .0, y .before .before .numbers .given)
 
 same-length-2 : tie.Need-same-length-2 Inv-loop μ-loop
 same-length-2 c = omega (arith, kept (c .before .before) .loop .inv .1 .1, c .before .bytes2 .given)
@@ -396,7 +384,7 @@ returns c r =
     × (n .note2 .last .0 ≡ walked (λ (y : Step). pos (y .path)) (x .steps) (a .walk-path .now))
     × (n .note2 .last .1 .0 ≡ walked (λ (y : Step). pos (y .blocks)) (x .steps) (a .walk-blocks .now))
     × (n .note2 .last .1 .1 .0 ≡ walked (λ (y : Step). y .score) (x .steps) (a .walk-score .now)))
-    (received-now (y .before .before)) (
+    (received-now (y .before)) (
       run-ran r g (all (u .before)) (f .finish .result) (f .finish .last .1 .1 .1 .0) (f .finish .ensures .0) (f .finish .ensures .1 _ _ (last-hand u r)),
       w .path-is,
       w .blocks-is,
@@ -414,7 +402,6 @@ run-spec =
     power-requires
     receive-requires
     entry-requires
-    nothing-requires
     loop-holds
     blocks-of-requires
     cast-if1

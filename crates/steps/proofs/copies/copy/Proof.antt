@@ -16,9 +16,10 @@ use Rattle.order.specs.Entries.{queueOf, Rising}
 use Rattle.order.proofs.Queues.{queue-first, queue-length}
 use Rattle.standing.specs.Seen.{Memory, memory}
 use Rattle.standing.specs.Standing.{Stands}
+use Rattle.words.specs.Kept.{Kepts}
 use Rattle.steps.specs.Steps.{Forking, Copying}
 use Rattle.steps.proofs.Forks.{fork-apart}
-use Rattle.steps.proofs.Nexts.{next, copy-tabled, copy-row, copy-blocks, copy-low, copy-id, copy-searchable, copy-cost, copy-found, copy-none, copy-fork, copy-done}
+use Rattle.steps.proofs.Nexts.{next, copy-tabled, copy-row, copy-low, copy-id, copy-searchable, copy-cost, copy-found, copy-none, copy-fork, copy-done}
 use Rattle.steps.proofs.copies.copy.Statement.{statement}
 use Rattle.steps.proofs.copies.copy.Tie as tie
 
@@ -30,7 +31,7 @@ abbrev Copy : tie.Start → ℕ → Type 0
 Copy s b =
     let a = s .args in
     Copying (a .s .m) (a .s .paths) (at-start s) (a .e) (queueOf (a .order .now) (a .t .queued)) (queueOf (a .vacant .now) (a .s .paths - (a .t .queued + 1)))
-    (a .kinds .now) (a .terms .now) (a .last) (a .kept) b
+    (a .kinds .now) (a .terms .now) (a .last) (a .kept .now) b
 
 own : (s : tie.Start) → Copy s (s .pre .1 .1 .0 .0)
 own s = s .pre .1 .1 .0 .2
@@ -38,23 +39,23 @@ own s = s .pre .1 .1 .0 .2
 other-word-requires : tie.Need-other-word-requires
 unfolding memory
 other-word-requires c κs =
-    let s = c .before .before .before .before .before .before in
+    let s = c .before .before .before .before .before .before .before in
     let l = s .pre .0 .0 in
     let o = own s in
-    ((l .sizes .rows-size, l .deep, copy-low o, copy-id o (l .many)), (copy-searchable o l, (s .pre .1 .0 .0, copy-cost o)))
+    ((l .sizes .rows-size, l .deep, copy-low o, copy-id o (l .many), s .pre .0 .3), (copy-searchable o l, (s .pre .1 .0 .0, copy-cost o)))
 
 same-length : tie.Need-same-length
 same-length c = search needs
 
 -- the word found, for any state
 abbrev start : tie.After-other-word → tie.Start
-start c = c .before .before .before .before .before .before .before
+start c = c .before .before .before .before .before .before .before .before
 
 found-is : (c : tie.After-other-word) (b : ℕ) (o : Copy (start c) b) → c .other-word .result ≡ candidateOf (o .hand .book) (next o)
 unfolding memory
 found-is c b o =
     copy-found o
-    (c .other-word .ensures .1 (o .hand .book) b (o .hand .taken) (o .known) (copy-tabled o) (o .own .fit .earlier) (copy-row o) (copy-blocks o) (o .own .blocks))
+    (c .other-word .ensures .1 (o .hand .book) b (o .hand .taken) (copy-tabled o) (o .own .fit .earlier) (copy-row o) (o .own .blocks))
 
 -- what the test tells
 none-there : (c : tie.Then1) → c .before .before .other-word .result .some ≡ false
@@ -65,13 +66,13 @@ unfolding memory
 returns c =
     let t = c .before .before in
     let s = start t in (
-      (s .pre .0 .0, s .pre .0 .1, s .pre .0 .2, t .other-word .ensures .0),
+      (s .pre .0 .0, s .pre .0 .1, s .pre .0 .2, s .pre .0 .3, t .other-word .ensures .0),
       (
         (refl, refl, s .pre .1 .0 .2),
         (
           λ b o q.
               let k = copy-none o (s .args .t .next) (s .args .t .crowded) (found-is t b o) (none-there c) in
-              (sym (queue-length (s .args .t .queued) (s .args .order .now)) ∙ k .0, k .1, k .2, k .3),
+              (sym (queue-length (s .args .t .queued) (s .args .order .now)) ∙ k .0, k .1, k .2, k .3, k .4),
           s .pre .1 .1 .1,
         ),
       ),
@@ -147,7 +148,7 @@ cast-to c = let t = c .before in omega (arith, fork-apart (forking t _ (own (sta
 fork-requires : tie.Need-fork-requires
 unfolding memory
 fork-requires c κs =
-    let t = c .before .before .before .before .before in
+    let t = c .before .before .before .before .before .before in
     let s = start (searched t) in
     let l = s .pre .0 .0 in
     let o = own s in
@@ -157,6 +158,7 @@ fork-requires c κs =
         f .1,
         f .4,
         omega (arith, s .pre .1 .0 .3),
+        s .pre .0 .3,
       ),
       ((s .pre .1 .1 .0 .0, s .pre .1 .1 .0 .1, queueOf (t .crowd .last .1 .1 .1 .0) (top t), forking t _ o), t .crowd .ensures .1 .1),
     )
@@ -164,7 +166,7 @@ fork-requires c κs =
 tallied-requires : tie.Need-tallied-requires
 unfolding memory
 tallied-requires c κs =
-    let t = c .before .before .before .before .before .before .before in
+    let t = c .before .before .before .before .before .before .before .before in
     let s = start (searched t) in
     (t .crowd .ensures .0 .3, omega (arith, s .pre .1 .0 .2, s .pre .0 .0 .many), s .pre .1 .0 .3, s .pre .1 .0 .4)
 
@@ -172,36 +174,44 @@ same-length-2 : tie.Need-same-length-2
 same-length-2 c = search needs
 
 -- what memory stands for in the end, with so many queued and vacant
-abbrev Ends : (c : tie.After-fork) (b : ℕ) → Copy (start (searched (c .before .before .before .before .before .before))) b → ℕ → ℕ → Type 0
+abbrev Ends : (c : tie.After-fork) (b : ℕ) → Copy (start (searched (c .before .before .before .before .before .before .before))) b → ℕ → ℕ → Type 0
 Ends c b o i j =
-    let t = c .before .before .before .before .before .before in
+    let t = c .before .before .before .before .before .before .before in
     let a = start (searched t) .args in
     let k = R.copy (o .hand .book) (a .s .paths) (o .hand .arrays) (o .hand .taken) (o .hand .rest) (a .t .next) (suc b) in
     Stands (o .hand .book) (a .s .paths) (memory (c .fork .last .0) (c .fork .last .1 .0) (c .fork .last .1 .1 .1 .0) (a .bytes .now))
     (a .e ∷ queueOf (c .fork .last .1 .1 .0) i) (queueOf (t .crowd .last .1 .1 .1 .0) j) (k .arrays) (o .hand .taken ∷ k .queue)
 
+-- the words kept in the end, with so many queued
+abbrev Words : (c : tie.After-fork) (b : ℕ) → Copy (start (searched (c .before .before .before .before .before .before .before))) b → ℕ → Type 0
+Words c b o i =
+    let a = start (searched (c .before .before .before .before .before .before .before)) .args in
+    let k = R.copy (o .hand .book) (a .s .paths) (o .hand .arrays) (o .hand .taken) (o .hand .rest) (a .t .next) (suc b) in
+    Kepts (o .hand .book) (k .arrays) (c .fork .last .1 .1 .1 .1 .1 .0) (queueOf (c .fork .last .1 .1 .0) i) (k .queue)
+
 returns-2 : tie.Need-returns-2
 unfolding memory forking
 returns-2 c =
-    let t = c .before .before .before .before .before .before .before .before in
+    let t = c .before .before .before .before .before .before .before .before .before in
     let s = start (searched t) in
     let u = c .before .before in
     let f = u .fork .ensures in
     let g = t .crowd .ensures .0 in
     let r = c .tallied .ensures in (
-      (f .0 .0, f .0 .1, g .2, searched t .other-word .ensures .0),
+      (f .0 .0, f .0 .1, g .2, f .0 .2, searched t .other-word .ensures .0),
       (
         (r .2, r .4, omega (arith, r .0, g .4)),
         (
           λ b o q.
               let h = f .1 .0 b (queueOf (t .crowd .last .1 .1 .1 .0) (top t)) (forking t b o) q in
-              let k = copy-done o (found-is (searched t) b o) (some-there t) (count t b o) (g .4) (left t b o) (s .args .t .next) (s .args .t .crowded) h in
+              let k = copy-done o (found-is (searched t) b o) (some-there t) (count t b o) (g .4) (left t b o) (s .args .t .next) (s .args .t .crowded) (u .fork .last .1 .1 .1 .1 .1 .0) (g .5) h in
               let down : top t ≡ s .args .s .paths - (c .tallied .result .queued + 1) = omega (arith, r .0) in
               let here = queue-length (s .args .t .queued) (s .args .order .now) in (
                 r .0 ∙ k .0,
                 r .1 ∙ k .1,
                 r .3 ∙ ap (λ (i : ℕ). s .args .t .crowded + (i - t .crowd .result)) (sym here) ∙ k .2,
                 subst (λ (i : ℕ). Ends u b o (c .tallied .result .queued) i) down (subst (λ (i : ℕ). Ends u b o i (top t)) (sym (r .0)) (k .3)),
+                subst (λ (i : ℕ). Words u b o i) (sym (r .0)) (k .4),
               ),
           subst (λ (i : ℕ). Rising (u .fork .last .1 .1 .0) i) (sym (r .0)) (f .1 .1),
         ),

@@ -17,7 +17,7 @@ use Rattle.sharing.specs.Sharing.{Copied, MoreBy}
 use Rattle.standing.specs.Seen.{Memory, memory, Lent}
 use Rattle.standing.specs.Standing.{cell, PutRow}
 use Rattle.steps.specs.Steps.{Forking}
-use Rattle.steps.proofs.Forks.{fork-blocks, fork-total, fork-bias, made, fork-entry, Written, fork-written, fork-viewed, fork-queued, fork-shareable, fork-apart, fork-place}
+use Rattle.steps.proofs.Forks.{fork-blocks, fork-total, fork-bias, made, fork-entry, Written, fork-written, fork-viewed, fork-queued, fork-kepts, fork-shareable, fork-apart, fork-place}
 use Rattle.steps.proofs.copies.fork.Statement.{statement}
 use Rattle.steps.proofs.copies.fork.Tie as tie
 
@@ -186,16 +186,27 @@ insert-requires c κs =
 same-length : tie.Need-same-length
 same-length c = search needs
 
+forget-requires : tie.Need-forget-requires
+unfolding memory
+forget-requires c κs =
+    let s = start (began (c .before .before .before .before .before .before .before .before)) in
+    (s .pre .0 .4, fork-apart (own s) .1)
+
 returns : tie.Need-returns
 unfolding memory
 returns c =
-    let f = c .before .before .before .claim in
-    let u = c .before .before .before .before .before .before .before in (
-      (f .ensures .0 .0, c .insert .ensures .0 .0),
+    let i = c .before .before in
+    let f = i .before .before .before .claim in
+    let u = i .before .before .before .before .before .before .before in
+    let s = start (began u) in
+    let g = c .forget .ensures in (
+      (f .ensures .0 .0, i .insert .ensures .0 .0, g .0 .size ∙ s .pre .0 .4),
       (
-        λ b vs o q.
-            rw (c .insert .ensures .0 .1) (fork-queued o (start (began u) .args .number) (entry-is u b vs o q) (copied-in u b vs o q) (f .ensures .0 .1) (f .ensures .1)),
-        c .insert .ensures .1,
+        λ b vs o q. (
+          rw (i .insert .ensures .0 .1) (fork-queued o (s .args .number) (entry-is u b vs o q) (copied-in u b vs o q) (f .ensures .0 .1) (f .ensures .1)),
+          λ k. rw (i .insert .ensures .0 .1) (fork-kepts o (s .args .number) (entry-is u b vs o q) (g .0) (g .1) k),
+        ),
+        i .insert .ensures .1,
       ),
     )
 
@@ -218,5 +229,6 @@ fork-spec =
     put-requires
     claim-requires
     insert-requires
+    forget-requires
     same-length
     returns)

@@ -23,7 +23,7 @@ returns : tie.Need-returns
 returns c =
     let a = c .before .args in
     let s = c .before .pre .0 in (
-      (s .0 .holders-size, s .1, s .2, omega arith, omega arith),
+      (s .0 .holders-size, s .1, s .2, omega arith, omega arith, sym (room-all (a .paths) (queueOf (a .order .now) (a .queued)) (omega (arith, queue-length (a .queued) (a .order .now))))),
       (
         λ e numbers bytes x.
             let level : length (x .rest) ≡ a .queued = omega (arith, stands-length (x .stands), queue-length (a .queued) (a .order .now)) in
@@ -88,7 +88,7 @@ returns-2 c =
     let u : a .paths - (a .queued - 1 + 1) ≡ suc v = omega arith in
     let put : queueOf (set (a .vacant .now) v (slot .result)) (a .paths - (a .queued - 1 + 1)) ≡ slot .result ∷ queueOf (a .vacant .now) v =
     ap (queueOf (set (a .vacant .now) v (slot .result))) u ∙ queue-put v (a .vacant .now) (slot .result) (omega arith) in (
-      (c .before .before .release .ensures .0, c .cut .ensures .0 .0, simp length-set (t .pre .0 .2), omega arith, omega arith),
+      (c .before .before .release .ensures .0, c .cut .ensures .0 .0, simp length-set (t .pre .0 .2), omega arith, omega arith, c .cut .ensures .0 .1 ∙ sym (room-cut (a .paths) (a .queued - 1) (queueOf (a .order .now) (a .queued)) d)),
       (
         λ e numbers bytes x.
             let level : length (x .rest) ≡ a .queued = omega (arith, stands-length (x .stands), queue-length (a .queued) (a .order .now)) in

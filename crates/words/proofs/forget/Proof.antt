@@ -1,0 +1,31 @@
+-- `words::forget` meets its contract: one cell is written, the first of the slot. Assumes nothing.
+use mathlib.Core.Path.{_∙_}
+use Prim.Native.Nat.{_*_}
+use native.Mathlib.Omega.{arith}
+use lib.ListN.{length-set}
+use lib.Seq.{getD-set-same, getD-set-other}
+use Rattle.words.proofs.Kepts.{first-cell, one-kept}
+use borrow.Author.Needs.{needs}
+use Rattle.words.proofs.forget.Statement.{statement}
+use Rattle.words.proofs.forget.Tie as tie
+
+mul-kept : tie.Need-mul-kept
+mul-kept c = search needs
+
+mul-kept-2 : tie.Need-mul-kept-2
+mul-kept-2 c = search needs
+
+element-write-kept : tie.Need-element-write-kept
+element-write-kept c = search needs
+
+returns : tie.Need-returns
+returns c =
+    let a = c .args in
+    let l = a .kept .now in
+    let at = a .slot * 4 in (
+      one-kept (a .slot) l _ (length-set l at 0) (λ k h. getD-set-other l at k 0 0 (λ q. omega arith)) (λ k h. getD-set-other l at k 0 0 (λ q. omega arith)),
+      first-cell _ (a .slot) ∙ getD-set-same l at 0 0 (omega arith),
+    )
+
+pub forget-spec : {M : Type 1} → statement M
+forget-spec = tie.close (tie.spec mul-kept mul-kept-2 element-write-kept returns)
