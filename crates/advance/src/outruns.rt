@@ -7,7 +7,7 @@ ghost use lib.ListN.{length, getD};
 ghost use Rattle.machine.specs.Queue.{ahead, behind, staying, outrunBy, visit};
 ghost use Rattle.reader.specs.Paths.{keyOf};
 ghost use Rattle.order.specs.Entries.{keyAt, queueOf, Rising};
-ghost use Rattle.sharing.specs.Sharing.{Sizes};
+ghost use Rattle.sharing.specs.Sharing.{Held, Sizes};
 ghost use Rattle.standing.specs.Seen.{memory};
 ghost use Rattle.standing.specs.Standing.{Stands};
 ghost use Rattle.steps.specs.Steps.{Queued};
@@ -21,7 +21,7 @@ use steps::Tally;
 // The queued paths with b blocks or fewer let go of their arrays and their slots; returns how many they are. Their entries stay in the order.
 fn dismiss(
     rows: &[u32; 4096],
-    holders: &mut [u16; 2570],
+    holders: &mut [u16; 2580],
     order: &[u64; 256],
     vacant: &mut [u8; 256],
     m: usize,
@@ -31,7 +31,7 @@ fn dismiss(
 ) -> usize
     requires { ⌜ Sizes (now rows) (now holders) × (length (now order) ≡ 256) × (length (now vacant) ≡ 256) × (m ≤ 9) × (paths ≤ 256) × (queued ≤ paths) ⌝ }
     requires { ⌜ ((numbers : List ℤ) × (bytes : List ℕ) × Queued m paths (memory (now rows) (now holders) numbers bytes) (queueOf (now order) queued) (queueOf (now vacant) (paths - queued))) ⌝ }
-    ensures { λ r. ⌜ (length (now (holders .exit)) ≡ 2570) × (length (now (vacant .exit)) ≡ 256) × (r ≤ queued) ⌝ }
+    ensures { λ r. ⌜ Held (now (holders .exit)) × (length (now (vacant .exit)) ≡ 256) × (r ≤ queued) ⌝ }
     ensures { λ r. ⌜ ((numbers : List ℤ) (bytes : List ℕ)
         (c : Queued m paths (memory (now (rows .entry)) (now (holders .entry)) numbers bytes) (queueOf (now (order .entry)) queued) (queueOf (now (vacant .entry)) (paths - queued)))
         → (r ≡ length (behind (keyOf (c .book)) b (c .paths)))
@@ -56,7 +56,7 @@ fn dismiss(
 // The visit to block b: the number of paths queued then, and the count.
 pub fn outrun(
     rows: &[u32; 4096],
-    holders: &mut [u16; 2570],
+    holders: &mut [u16; 2580],
     order: &mut [u64; 256],
     vacant: &mut [u8; 256],
     visits: &mut [u32; 512],
@@ -68,7 +68,7 @@ pub fn outrun(
     requires { ⌜ (s .paths ≤ 256) × (t .queued ≤ s .paths) × (b < 512) × (getD (now visits) b 0 < 65536) × (t .outrun < 16777216) ⌝ }
     requires { ⌜ ((numbers : List ℤ) × (bytes : List ℕ) × Queued (s .m) (s .paths) (memory (now rows) (now holders) numbers bytes) (queueOf (now order) (t .queued)) (queueOf (now vacant) (s .paths - t .queued))) ⌝ }
     requires { ⌜ Rising (now order) (t .queued) ⌝ }
-    ensures { λ r. ⌜ (length (now (holders .exit)) ≡ 2570) × (length (now (order .exit)) ≡ 256) × (length (now (vacant .exit)) ≡ 256)
+    ensures { λ r. ⌜ Held (now (holders .exit)) × (length (now (order .exit)) ≡ 256) × (length (now (vacant .exit)) ≡ 256)
         × (now (visits .exit) ≡ visit (now (visits .entry)) b) × (r .next ≡ t .next) × (r .extractions ≡ t .extractions) × (r .crowded ≡ t .crowded)
         × (r .queued ≤ s .paths)
         × (queueOf (now (order .exit)) (r .queued) ≡ staying keyAt (s .visits) b (visit (now (visits .entry)) b) (queueOf (now (order .entry)) (t .queued))) ⌝ }

@@ -31,7 +31,7 @@ use words::score;
 // Step 2 for a path with so many blocks; the empty path has no copy.
 fn second(
     rows: &mut [u32; 4096],
-    holders: &mut [u16; 2570],
+    holders: &mut [u16; 2580],
     order: &mut [u64; 256],
     vacant: &mut [u8; 256],
     numbers: &mut [i32],
@@ -92,7 +92,7 @@ fn second(
 // Step 3: the path's next block, with its nearest word; it is queued again. The next word after that one is kept for it.
 fn third(
     rows: &mut [u32; 4096],
-    holders: &mut [u16; 2570],
+    holders: &mut [u16; 2580],
     order: &mut [u64; 256],
     numbers: &mut [i32],
     bytes: &mut [u8],
@@ -151,7 +151,7 @@ fn third(
 // Steps 2 to 4 for the path of entry e, which is no longer queued.
 pub fn extract(
     rows: &mut [u32; 4096],
-    holders: &mut [u16; 2570],
+    holders: &mut [u16; 2580],
     order: &mut [u64; 256],
     vacant: &mut [u8; 256],
     visits: &mut [u32; 512],

@@ -41,7 +41,7 @@ fn before(b: usize) -> usize
 // The end: the last word of the path of entry e goes into the sums of the root.
 fn finish(
     rows: &mut [u32; 4096],
-    holders: &mut [u16; 2570],
+    holders: &mut [u16; 2580],
     numbers: &[i32],
     bytes: &mut [u8],
     s: Setting,
@@ -112,7 +112,7 @@ pub fn run(
     let paths = s.paths;
     let blocks = s.blocks;
     let mut rows = [0u32; 4096];
-    let mut holders = [0u16; 2570];
+    let mut holders = [0u16; 2580];
     let mut order = [0u64; 256];
     let mut vacant = [0u8; 256];
     let mut visits = [0u32; 512];

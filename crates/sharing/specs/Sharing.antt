@@ -23,10 +23,19 @@ vacantBit count = cond (eqb count 0) 1 0
 unfoldable pub one : ℕ → ℕ → ℕ
 one i k = cond (eqb i k) 1 0
 
--- 256 rows, and ten heights
+-- where the search for a free id of height h begins: a number behind the ten heights, for each of them
+unfoldable pub lowAt : List ℕ → ℕ → ℕ
+lowAt holders h = getD holders (2570 + h) 0
+
+-- the table of holders has ten heights, and these numbers, one for each; each id from 1 on and below a height's number is held
+pub record Held (holders : List ℕ) : Type 0 where
+  pub size : length holders ≡ 2580
+  pub below : (h k : ℕ) → h ≤ 9 → 1 ≤ k → k ≤ 256 → k < lowAt holders h → 1 ≤ heldAt holders h k
+
+-- 256 rows, and the table of holders
 pub record Sizes (rows holders : List ℕ) : Type 0 where
   pub rows-size : length rows ≡ 4096
-  pub holders-size : length holders ≡ 2570
+  pub held : Held holders
 
 -- a path holds id i at height h, other paths hold these, the holders of the ids up to N are counted, and N are more than the others
 pub record Shared (holders : List ℕ) (h N i : ℕ) : Type 0 where
@@ -34,6 +43,12 @@ pub record Shared (holders : List ℕ) (h N i : ℕ) : Type 0 where
   pub low : i ≤ N
   pub counted : (k : ℕ) → k ≤ N → heldAt holders h k ≡ times k (i ∷ others)
   pub few : length others < N
+
+-- a path fewer holds id i of height h
+unfoldable pub OneLess : ℕ → ℕ → List ℕ → List ℕ → Type 0
+OneLess h i old new =
+    ((x : ℕ) → x ≤ 256 → heldAt old h x ≡ heldAt new h x + one i x)
+    × ((g x : ℕ) → (g ≡ h → ⊥) → g ≤ 9 → x ≤ 256 → heldAt new g x ≡ heldAt old g x)
 
 -- one path more, or one fewer, at the heights below n, holds what a row holds; the table is else as it was
 pub record MoreBy (n : ℕ) (rows : List ℕ) (s : ℕ) (old new : List ℕ) : Type 0 where

@@ -1,13 +1,13 @@
 // Arrays held, taken, shared and let go. `rows` has 16 numbers for each slot, the ids of its path's arrays by height first; `holders` has 257 for
-// each height, the number of paths that hold each id.
+// each height, the number of paths that hold each id, and behind them one for each height, below which no id is free.
 ghost use mathlib.Core.Path.{_≡_};
 ghost use mathlib.Core.Bool.{_&&_};
 ghost use Prim.Native.Nat.{ℕ, _+_, _*_, _^_, _≤_, _<_};
 ghost use lib.Dec.{ltb, leb};
-ghost use lib.ListN.{length, getD, set};
+ghost use lib.ListN.{getD, set};
 ghost use Rattle.laws.specs.Sets.{setOf};
 ghost use Rattle.reader.specs.Arrays.{ownOf};
-ghost use Rattle.sharing.specs.Sharing.{idAt, heldAt, vacantBit, Sizes, Shared, MoreBy, LessBy, Exchanged, Copied};
+ghost use Rattle.sharing.specs.Sharing.{idAt, heldAt, vacantBit, Held, Sizes, Shared, OneLess, MoreBy, LessBy, Exchanged, Copied};
 
 // 2^k where a count is 0, else 0.
 fn mark(count: u16, k: usize) -> u32
@@ -18,8 +18,8 @@ fn mark(count: u16, k: usize) -> u32
 }
 
 // The set of those of the 16 counts from `at` on that are 0. There is no early exit, so that the compiler compares several at once.
-fn vacancies(holders: &[u16; 2570], at: usize) -> u32
-    requires { ⌜ at + 16 ≤ 2570 ⌝ }
+fn vacancies(holders: &[u16; 2580], at: usize) -> u32
+    requires { ⌜ at + 16 ≤ 2580 ⌝ }
     ensures { λ r. ⌜ r ≡ setOf 16 (λ k. vacantBit (getD (now (holders .entry)) (at + k) 0)) ⌝ }
 {
     let mut set: u32 = 0;
@@ -31,12 +31,36 @@ fn vacancies(holders: &[u16; 2570], at: usize) -> u32
     set
 }
 
-// Looks for a free id in groups of 16, from 1 on: the first that is free, or the first of the fewer than 16 left. No id below it is free.
-fn skip(holders: &[u16; 2570], height: usize, most: usize) -> usize
-    requires { ⌜ (height ≤ 9) × (most ≤ 256) ⌝ }
+// A number from 1 to most + 1 that no id from 1 on lies below, unless it lies below `low` too.
+fn capped(low: u16, most: usize) -> usize
+    requires { ⌜ most ≤ 256 ⌝ }
+    ensures { λ r. ⌜ (1 ≤ r) × (r ≤ most + 1) × ((k : ℕ) → 1 ≤ k → k < r → k < low) ⌝ }
+{
+    let from = low as usize;
+    if from == 0 {
+        return 1;
+    }
+    if most < from {
+        return most + 1;
+    }
+    from
+}
+
+// Where the search for a free id begins: no id from 1 on and below it is free.
+fn lowest(holders: &[u16; 2580], height: usize, most: usize) -> usize
+    requires { ⌜ Held (now holders) × (height ≤ 9) × (most ≤ 256) ⌝ }
     ensures { λ r. ⌜ (1 ≤ r) × (r ≤ most + 1) × ((k : ℕ) → 1 ≤ k → k < r → 1 ≤ heldAt (now (holders .entry)) height k) ⌝ }
 {
-    let mut id: usize = 1;
+    capped(holders[2570 + height], most)
+}
+
+// Looks for a free id in groups of 16, from `low` on: the first that is free, or the first of the fewer than 16 left. No id below it is free.
+fn skip(holders: &[u16; 2580], height: usize, most: usize, low: usize) -> usize
+    requires { ⌜ (height ≤ 9) × (most ≤ 256) ⌝ }
+    requires { ⌜ (1 ≤ low) × (low ≤ most + 1) × ((k : ℕ) → 1 ≤ k → k < low → 1 ≤ heldAt (now holders) height k) ⌝ }
+    ensures { λ r. ⌜ (1 ≤ r) × (r ≤ most + 1) × ((k : ℕ) → 1 ≤ k → k < r → 1 ≤ heldAt (now (holders .entry)) height k) ⌝ }
+{
+    let mut id = low;
     while id + 15 <= most {
         let set = vacancies(holders, height * 257 + id);
         if set != 0 {
@@ -47,14 +71,15 @@ fn skip(holders: &[u16; 2570], height: usize, most: usize) -> usize
     id
 }
 
-// The first id from 1 on that no path holds at a height; most + 1 if none of the first `most` is free.
-fn first_free(holders: &[u16; 2570], height: usize, most: usize) -> usize
+// The first free id from `low` on, below which none is free; most + 1 if none of the first `most` is.
+fn find_from(holders: &[u16; 2580], height: usize, most: usize, low: usize) -> usize
     requires { ⌜ (height ≤ 9) × (most ≤ 256) ⌝ }
+    requires { ⌜ (1 ≤ low) × (low ≤ most + 1) × ((k : ℕ) → 1 ≤ k → k < low → 1 ≤ heldAt (now holders) height k) ⌝ }
     ensures { λ r. ⌜ (1 ≤ r) × (r ≤ most + 1)
         × ((k : ℕ) → 1 ≤ k → k < r → 1 ≤ heldAt (now (holders .entry)) height k)
         × (r ≤ most → heldAt (now (holders .entry)) height r ≡ 0) ⌝ }
 {
-    let mut id = skip(holders, height, most);
+    let mut id = skip(holders, height, most, low);
     while id <= most {
         if holders[height * 257 + id] == 0 {
             return id;
@@ -62,6 +87,21 @@ fn first_free(holders: &[u16; 2570], height: usize, most: usize) -> usize
         id += 1;
     }
     id
+}
+
+// The first id from 1 on that no path holds at a height; most + 1 if none of the first `most` is free.
+fn first_free(holders: &[u16; 2580], height: usize, most: usize) -> usize
+    requires { ⌜ Held (now holders) × (height ≤ 9) × (most ≤ 256) ⌝ }
+    ensures { λ r. ⌜ (1 ≤ r) × (r ≤ most + 1)
+        × ((k : ℕ) → 1 ≤ k → k < r → 1 ≤ heldAt (now (holders .entry)) height k)
+        × (r ≤ most → heldAt (now (holders .entry)) height r ≡ 0) ⌝ }
+{
+    let low = lowest(holders, height, most);
+    // mostly this one is free
+    if holders[height * 257 + low] == 0 {
+        return low;
+    }
+    find_from(holders, height, most, low)
 }
 
 // Whether a path that holds an id may write to it: it is some array, and no other path holds it.
@@ -74,7 +114,7 @@ fn alone(id: usize, held: u16) -> bool
 // The path in a slot takes an array of a height: its own, if it has one that no other path holds, else the first free one. Returns its id.
 pub fn take(
     rows: &mut [u32; 4096],
-    holders: &mut [u16; 2570],
+    holders: &mut [u16; 2580],
     slot: usize,
     height: usize,
     most: usize,
@@ -96,12 +136,13 @@ pub fn take(
     let free = first_free(holders, height, most);
     holders[height * 257 + id] = held - 1;
     holders[height * 257 + free] = 1;
+    holders[2570 + height] = (free + 1) as u16;
     rows[at] = free as u32;
     free
 }
 
 // The path in slot `to` holds what the one in slot `from` holds, at the heights up to m.
-pub fn share(rows: &mut [u32; 4096], holders: &mut [u16; 2570], m: usize, from: usize, to: usize)
+pub fn share(rows: &mut [u32; 4096], holders: &mut [u16; 2580], m: usize, from: usize, to: usize)
     requires { ⌜ Sizes (now rows) (now holders) × (m ≤ 9) × (from < 256) × (to < 256) ⌝ }
     requires { ⌜ ((h : ℕ) → h ≤ m → (let id = idAt (now rows) from h in (id ≤ 256) × (heldAt (now holders) h id < 65535))) ⌝ }
     requires { ⌜ (from ≡ to → ⊥) ⌝ }
@@ -119,18 +160,35 @@ pub fn share(rows: &mut [u32; 4096], holders: &mut [u16; 2570], m: usize, from: 
     }
 }
 
+// The lesser of where a search begins and an id.
+fn lesser(low: u16, id: usize) -> u16
+    requires { ⌜ id ≤ 256 ⌝ }
+    ensures { λ r. ⌜ (r ≤ low) × (r ≤ id) ⌝ }
+{
+    let here = id as u16;
+    if here < low { here } else { low }
+}
+
+// A path lets go of an id of a height.
+fn drop_one(holders: &mut [u16; 2580], height: usize, id: usize)
+    requires { ⌜ Held (now holders) × (height ≤ 9) × (id ≤ 256) × (1 ≤ heldAt (now holders) height id) ⌝ }
+    ensures { λ _. ⌜ Held (now (holders .exit)) × OneLess height id (now (holders .entry)) (now (holders .exit)) ⌝ }
+{
+    holders[2570 + height] = lesser(holders[2570 + height], id);
+    let at = height * 257 + id;
+    holders[at] = holders[at] - 1;
+}
+
 // The path in a slot lets go of what it holds at the heights up to m.
-pub fn release(rows: &[u32; 4096], holders: &mut [u16; 2570], m: usize, slot: usize)
+pub fn release(rows: &[u32; 4096], holders: &mut [u16; 2580], m: usize, slot: usize)
     requires { ⌜ Sizes (now rows) (now holders) × (m ≤ 9) × (slot < 256) ⌝ }
     requires { ⌜ ((h : ℕ) → h ≤ m → (let id = idAt (now rows) slot h in (id ≤ 256) × (1 ≤ heldAt (now holders) h id))) ⌝ }
-    ensures { λ _. ⌜ length (now (holders .exit)) ≡ 2570 ⌝ }
+    ensures { λ _. ⌜ Held (now (holders .exit)) ⌝ }
     ensures { λ _. ⌜ LessBy (m + 1) (now (rows .entry)) slot (now (holders .entry)) (now (holders .exit)) ⌝ }
 {
     let mut h: usize = 0;
     while h <= m {
-        let id = rows[slot * 16 + h];
-        let at = h * 257 + id as usize;
-        holders[at] = holders[at] - 1;
+        drop_one(holders, h, rows[slot * 16 + h] as usize);
         h += 1;
     }
 }

@@ -12,8 +12,8 @@ use lib.Dec.{eqb, ltb}
 use lib.Seq.{getD-set-same, getD-set-other}
 use borrow.Author.Tests.{eq-eqb, ne-eqb, lt-ltb, le-ltb}
 use Rattle.laws.proofs.Tests.{lt-or}
-use Rattle.sharing.specs.Sharing.{idAt, heldAt, one, MoreBy}
-use Rattle.sharing.proofs.Tables.{more-add}
+use Rattle.sharing.specs.Sharing.{idAt, heldAt, lowAt, Held, one, MoreBy}
+use Rattle.sharing.proofs.Tables.{held-count, more-add}
 use Rattle.start.specs.Start.{firstHeld}
 
 -- a list of zeros
@@ -31,6 +31,15 @@ none-held : (l : List ℕ) → Zeros l → (h i : ℕ) → heldAt l h i ≡ 0
 unfolding heldAt
 none-held l z h i = z (h * 257 + i)
 
+-- and nothing is said of where a search begins
+pub none-below : (l : List ℕ) → Zeros l → length l ≡ 2580 → Held l
+unfolding lowAt
+none-below l z size = record { size = size; below = λ h k _ _ _ b. absurd (omega (arith, z (2570 + h))) }
+
+-- a count of 1 stored
+pub held-begun : {l : List ℕ} (h i at : ℕ) → Held l → h ≤ 9 → i ≤ 256 → at ≡ h * 257 + i → Held (set l at 1)
+held-begun {l} h i at a bh bi q = rw q (held-count l h i 1 a bh bi (λ _ _. omega arith))
+
 module _ (rows : List ℕ) (m : ℕ) (none : Zeros rows) where
   -- the row of slot 0, with 1 at m
   pub id-root : m < length rows → idAt (set rows m 1) 0 m ≡ 1
@@ -41,7 +50,7 @@ module _ (rows : List ℕ) (m : ℕ) (none : Zeros rows) where
   unfolding idAt
   id-below h n = ap (λ k. getD (set rows m 1) k 0) (omega arith) ∙ getD-set-other rows m h 1 0 n ∙ none h
 
-  module _ {old l : List ℕ} (clear : Zeros old) (size : length l ≡ 2570) (deep : m ≤ 9) where
+  module _ {old l : List ℕ} (clear : Zeros old) (size : length l ≡ 2580) (deep : m ≤ 9) where
     -- a height below the root
     pub begun-more : {h : ℕ} → h < m → MoreBy h (set rows m 1) 0 old l → MoreBy (h + 1) (set rows m 1) 0 old (set l (h * 257) 1)
     unfolding heldAt

@@ -9,7 +9,7 @@ ghost use Rattle.polar.specs.Layers.{overAt};
 ghost use Rattle.codebook.specs.Book.{Book};
 ghost use Rattle.codebook.specs.Limits.{Valid};
 ghost use Rattle.reader.specs.Arrays.{turn};
-ghost use Rattle.sharing.specs.Sharing.{heldAt};
+ghost use Rattle.sharing.specs.Sharing.{heldAt, Held};
 ghost use Rattle.order.specs.Entries.{keyAt};
 ghost use Rattle.steps.specs.Steps.{BlockIs};
 ghost use Rattle.start.specs.Start.{firstHeld, Tables};
@@ -20,9 +20,9 @@ use order::entries::score_of;
 use words::Block;
 
 // Path 0 holds array 1 at the root, and none elsewhere.
-pub fn begin(rows: &mut [u32; 4096], holders: &mut [u16; 2570], m: usize)
-    requires { ⌜ (now rows ≡ replicate 4096 0) × (now holders ≡ replicate 2570 0) × (m ≤ 9) ⌝ }
-    ensures { λ _. ⌜ (now (rows .exit) ≡ set (replicate 4096 0) m 1) × (length (now (holders .exit)) ≡ 2570)
+pub fn begin(rows: &mut [u32; 4096], holders: &mut [u16; 2580], m: usize)
+    requires { ⌜ (now rows ≡ replicate 4096 0) × (now holders ≡ replicate 2580 0) × (m ≤ 9) ⌝ }
+    ensures { λ _. ⌜ (now (rows .exit) ≡ set (replicate 4096 0) m 1) × Held (now (holders .exit))
         × ((h i : ℕ) → h ≤ 9 → i ≤ 256 → heldAt (now (holders .exit)) h i ≡ firstHeld m h i) ⌝ }
 {
     let mut h: usize = 0;

@@ -29,7 +29,7 @@ use words::score;
 // A copy of the path of entry e, with the word found, in the slot `to`; it is inserted. No word is kept for it.
 fn fork(
     rows: &mut [u32; 4096],
-    holders: &mut [u16; 2570],
+    holders: &mut [u16; 2580],
     order: &mut [u64; 256],
     numbers: &mut [i32],
     bytes: &[u8],
@@ -97,7 +97,7 @@ fn tallied(t: Tally, left: usize) -> Tally
 // The copy, if the last block of the path of entry e has a next word: the number of paths queued then, the next number, and the count.
 pub fn copy(
     rows: &mut [u32; 4096],
-    holders: &mut [u16; 2570],
+    holders: &mut [u16; 2580],
     order: &mut [u64; 256],
     vacant: &mut [u8; 256],
     numbers: &mut [i32],

@@ -6,7 +6,7 @@ ghost use lib.IntN.{ℤ};
 ghost use lib.ListN.{length};
 ghost use Rattle.machine.specs.Queue.{roomFor};
 ghost use Rattle.order.specs.Entries.{queueOf, Rising};
-ghost use Rattle.sharing.specs.Sharing.{Sizes};
+ghost use Rattle.sharing.specs.Sharing.{Held, Sizes};
 ghost use Rattle.standing.specs.Seen.{memory};
 ghost use Rattle.standing.specs.Standing.{Stands, InHand};
 use order::entries::slot_of;
@@ -16,7 +16,7 @@ use sharing::holders::release;
 // Leaves at most D - 2 of the queued paths, and returns how many; a path removed lets go of its arrays and its slot. A path is in hand beside them.
 pub fn crowd(
     rows: &[u32; 4096],
-    holders: &mut [u16; 2570],
+    holders: &mut [u16; 2580],
     order: &mut [u64; 256],
     vacant: &mut [u8; 256],
     m: usize,
@@ -27,7 +27,7 @@ pub fn crowd(
     requires { ⌜ (2 ≤ paths) × (paths ≤ 256) × (queued + 1 ≤ paths) ⌝ }
     requires { ⌜ ((e : ℕ) × (numbers : List ℤ) × (bytes : List ℕ) × InHand m paths (memory (now rows) (now holders) numbers bytes) e (queueOf (now order) queued) (queueOf (now vacant) (paths - (queued + 1)))) ⌝ }
     requires { ⌜ Rising (now order) queued ⌝ }
-    ensures { λ r. ⌜ (length (now (holders .exit)) ≡ 2570) × (length (now (order .exit)) ≡ 256) × (length (now (vacant .exit)) ≡ 256)
+    ensures { λ r. ⌜ Held (now (holders .exit)) × (length (now (order .exit)) ≡ 256) × (length (now (vacant .exit)) ≡ 256)
         × (r ≤ queued) × (r + 2 ≤ paths) × (queueOf (now (order .exit)) r ≡ roomFor paths (queueOf (now (order .entry)) queued)) ⌝ }
     ensures { λ r. ⌜ ((e : ℕ) (numbers : List ℤ) (bytes : List ℕ)
         (c : InHand m paths (memory (now (rows .entry)) (now (holders .entry)) numbers bytes) e (queueOf (now (order .entry)) queued) (queueOf (now (vacant .entry)) (paths - (queued + 1))))

@@ -37,7 +37,7 @@ pub fn id_of(rows: &[u32; 4096], slot: usize, h: usize) -> usize
 // The values of height h, by Q.
 fn lower(
     rows: &mut [u32; 4096],
-    holders: &mut [u16; 2570],
+    holders: &mut [u16; 2580],
     numbers: &mut [i32],
     bytes: &[u8],
     m: usize,
@@ -60,7 +60,7 @@ fn lower(
 // The values of the heights below `top`, down to `low`, by Q.
 pub fn go_down(
     rows: &mut [u32; 4096],
-    holders: &mut [u16; 2570],
+    holders: &mut [u16; 2580],
     numbers: &mut [i32],
     bytes: &[u8],
     m: usize,
@@ -87,7 +87,7 @@ pub fn go_down(
 // The values of height h, by P with the word in the path's sums of that height.
 pub fn turn_over(
     rows: &mut [u32; 4096],
-    holders: &mut [u16; 2570],
+    holders: &mut [u16; 2580],
     numbers: &mut [i32],
     bytes: &[u8],
     m: usize,
@@ -139,7 +139,7 @@ fn join(
 // A block's word goes into the sums of height h, joined with those of the heights below.
 pub fn commit(
     rows: &mut [u32; 4096],
-    holders: &mut [u16; 2570],
+    holders: &mut [u16; 2580],
     numbers: &[i32],
     bytes: &mut [u8],
     m: usize,
@@ -166,7 +166,7 @@ pub fn commit(
 // Takes an array of height h for the word of a block of height j; where h is j, the block's own values go along.
 pub fn claim(
     rows: &mut [u32; 4096],
-    holders: &mut [u16; 2570],
+    holders: &mut [u16; 2580],
     numbers: &mut [i32],
     bytes: &[u8],
     m: usize,

@@ -1,17 +1,17 @@
 -- `start::begin` meets its contract. The loop's invariant: the heights below h count one path more, which holds none there. Assumes
 -- nothing.
 use mathlib.Core.Path.{_≡_, ap, _∙_}
-use Prim.Native.Nat.{ℕ, _-_, _≤_, _<_}
+use Prim.Native.Nat.{ℕ, _+_, _-_, _*_, _≤_, _<_}
 use native.Mathlib.Omega.{arith}
-use lib.ListN.{length, getD, set, length-set, length-replicate}
-use Rattle.sharing.specs.Sharing.{MoreBy}
+use lib.ListN.{length, getD, set, length-replicate}
+use Rattle.sharing.specs.Sharing.{Held, MoreBy}
 use Rattle.sharing.proofs.Tables.{more-none}
-use Rattle.start.proofs.Begun.{Zeros, zeros, begun-more, begun-last, begun-held}
+use Rattle.start.proofs.Begun.{Zeros, zeros, none-below, held-begun, begun-more, begun-last, begun-held}
 use Rattle.start.proofs.begin.Statement.{statement}
 use Rattle.start.proofs.begin.Tie as tie
 
 abbrev Inv-loop : tie.InvT-loop
-Inv-loop rows holders₀ m h₀ holders h = (h ≤ m) × (length holders ≡ 2570) × MoreBy h (set rows m 1) 0 holders₀ holders
+Inv-loop rows holders₀ m h₀ holders h = (h ≤ m) × Held holders × MoreBy h (set rows m 1) 0 holders₀ holders
 
 abbrev μ-loop : tie.MeasureT-loop
 μ-loop rows holders₀ m h₀ holders h = m - h
@@ -24,10 +24,10 @@ rows-size : (s : tie.Start Inv-loop μ-loop) → length (s .args .rows .now) ≡
 rows-size s = ap length (s .pre .0) ∙ length-replicate {A = ℕ} 4096 0
 
 holders-none : (s : tie.Start Inv-loop μ-loop) → Zeros (s .args .holders .now)
-holders-none s k = ap (λ l. getD l k 0) (s .pre .1) ∙ zeros 2570 k
+holders-none s k = ap (λ l. getD l k 0) (s .pre .1) ∙ zeros 2580 k
 
 loop-holds : tie.Need-loop-holds Inv-loop μ-loop
-loop-holds c = (omega arith, ap length (c .pre .1) ∙ length-replicate {A = ℕ} 2570 0, more-none _ _ _)
+loop-holds c = (omega arith, none-below (c .args .holders .now) (holders-none c) (ap length (c .pre .1) ∙ length-replicate {A = ℕ} 2580 0), more-none _ _ _)
 
 mul-holders : tie.Need-mul-holders Inv-loop μ-loop
 mul-holders c = omega arith
@@ -49,8 +49,8 @@ loop-again c =
     let s = c .before .before in
     let x = c .before .loop in (
       omega arith,
-      simp length-set (x .inv .1),
-      begun-more (s .args .rows .now) (s .args .m) (rows-none s) (holders-none s) (x .inv .1) (s .pre .2) (omega arith) (x .inv .2),
+      held-begun (x .h) 0 (x .h * 257) (x .inv .1) (omega arith) (omega arith) (omega arith),
+      begun-more (s .args .rows .now) (s .args .m) (rows-none s) (holders-none s) (x .inv .1 .size) (s .pre .2) (omega arith) (x .inv .2),
     )
 
 mul-holders-3 : tie.Need-mul-holders-3 Inv-loop μ-loop
@@ -80,8 +80,8 @@ returns c =
     let room : m < length rows = omega (arith, rows-size s) in
     let e : x .h ≡ m = omega arith in (
       ap (λ l. set l m 1) (s .pre .0),
-      simp length-set (x .inv .1),
-      begun-held rows m (rows-none s) (holders-none s) room (begun-last rows m (rows-none s) (holders-none s) (x .inv .1) (s .pre .2) room e (x .inv .2)),
+      held-begun m 1 (m * 257 + 1) (x .inv .1) (s .pre .2) (omega arith) (omega arith),
+      begun-held rows m (rows-none s) (holders-none s) room (begun-last rows m (rows-none s) (holders-none s) (x .inv .1 .size) (s .pre .2) room e (x .inv .2)),
     )
 
 pub begin-spec : {M : Type 1} → statement M

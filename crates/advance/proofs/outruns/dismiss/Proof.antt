@@ -10,6 +10,7 @@ use lib.IntN.{ℤ}
 use lib.ListN.{length, set, length-set}
 use Rattle.order.specs.Entries.{queueOf}
 use Rattle.order.proofs.Queues.{queue-put}
+use Rattle.sharing.specs.Sharing.{Held}
 use Rattle.standing.specs.Seen.{memory}
 use Rattle.steps.specs.Steps.{Queued}
 use Rattle.advance.proofs.Dismissals.{Passed, passed-none, passed-all, next-held, passed-out, passed-in}
@@ -18,7 +19,7 @@ use Rattle.advance.proofs.outruns.dismiss.Tie as tie
 
 abbrev Inv-loop : tie.InvT-loop
 Inv-loop rows holders₀ order vacant₀ m paths queued b gone₀ i₀ holders vacant gone i =
-    (i ≤ queued) × (gone ≤ i) × (length holders ≡ 2570) × (length vacant ≡ 256)
+    (i ≤ queued) × (gone ≤ i) × Held holders × (length vacant ≡ 256)
     × ((numbers : List ℤ) (bytes : List ℕ) (c : Queued m paths (memory rows holders₀ numbers bytes) (queueOf order queued) (queueOf vacant₀ (paths - queued))) →
     Passed (c .book) paths (memory rows holders numbers bytes) order (queueOf vacant (paths - queued + gone)) (c .arrays) (c .paths) b (queued - i) i gone)
 
@@ -32,7 +33,7 @@ loop-holds c =
     let z : a .paths - a .queued + 0 ≡ a .paths - a .queued = omega arith in (
       omega arith,
       omega arith,
-      s .0 .holders-size,
+      s .0 .held,
       s .2,
       λ numbers bytes x. rw (z, sub-zero (a .queued)) (passed-none (a .order .now) (a .b) (a .queued) (x .stands)),
     )
@@ -58,7 +59,7 @@ release-requires c κs =
     let x = t .before .pre .1 .2 in
     let q : a .queued - y .i ≡ suc (a .queued - (y .i + 1)) = omega arith in
     let held = next-held (a .queued - (y .i + 1)) q (y .inv .4 (t .before .pre .1 .0) (t .before .pre .1 .1) x) in (
-      (record { rows-size = t .before .pre .0 .0 .rows-size; holders-size = y .inv .2 }, t .before .pre .0 .3, c .before .slot-of .ensures .1),
+      (record { rows-size = t .before .pre .0 .0 .rows-size; held = y .inv .2 }, t .before .pre .0 .3, c .before .slot-of .ensures .1),
       λ h l.
           let k = held h (omega (arith, x .deep)) in
           rw (c .before .slot-of .ensures .0) (omega (arith, k .0), k .1),

@@ -43,7 +43,7 @@ returns c =
     let seen = visit-seen (a .visits .now) (a .b) (omega arith) in
     let entries = queueOf (a .order .now) (a .t .queued) in (
       (
-        s .0 .holders-size,
+        s .0 .held,
         s .1,
         s .2,
         visited t,

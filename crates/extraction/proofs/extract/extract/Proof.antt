@@ -117,7 +117,7 @@ returns c =
         record {
           deep = l .0 .deep;
           many = l .0 .many;
-          sizes = record { rows-size = l .0 .sizes .rows-size; holders-size = f .0 .0 };
+          sizes = record { rows-size = l .0 .sizes .rows-size; held = f .0 .0 };
           numbers = l .0 .numbers;
           bytes = l .0 .bytes;
         },

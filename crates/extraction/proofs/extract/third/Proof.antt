@@ -306,7 +306,7 @@ returns c =
         record {
           deep = l .deep;
           many = l .many;
-          sizes = record { rows-size = p .put .ensures .size ∙ l .sizes .rows-size; holders-size = l .sizes .holders-size };
+          sizes = record { rows-size = p .put .ensures .size ∙ l .sizes .rows-size; held = l .sizes .held };
           numbers = l .numbers;
           bytes = l .bytes;
         },

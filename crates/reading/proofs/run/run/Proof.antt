@@ -114,7 +114,7 @@ loop-holds c =
         record {
           deep = run-deep (input s);
           many = p .3;
-          sizes = record { rows-size = ap length (b .begin .ensures .0) ∙ length-set (replicate 4096 0) (a .s .m) 1 ∙ length-replicate {A = ℕ} 4096 0; holders-size = b .begin .ensures .1 };
+          sizes = record { rows-size = ap length (b .begin .ensures .0) ∙ length-set (replicate 4096 0) (a .s .m) 1 ∙ length-replicate {A = ℕ} 4096 0; held = b .begin .ensures .1 };
           numbers = room;
           bytes = s .pre .1 .1 .0 .1;
         },

@@ -6,20 +6,20 @@ use native.Mathlib.Omega.{arith}
 use lib.ListN.{length, getD, length-set}
 use Rattle.laws.proofs.Stores.{Stored, stored-none, stored-more}
 use Rattle.laws.proofs.Tests.{lt-or}
-use Rattle.sharing.specs.Sharing.{idAt, heldAt, Copied, MoreBy}
-use Rattle.sharing.proofs.Tables.{more-none, more-add}
+use Rattle.sharing.specs.Sharing.{idAt, heldAt, Held, Copied, MoreBy}
+use Rattle.sharing.proofs.Tables.{held-count, more-none, more-add}
 use Rattle.sharing.proofs.holders.share.Statement.{statement}
 use Rattle.sharing.proofs.holders.share.Tie as tie
 
 abbrev Inv-loop : tie.InvT-loop
 Inv-loop rows₀ holders₀ m from to h₀ rows holders h =
-    (h ≤ m + 1) × (length holders ≡ 2570) × Stored rows₀ rows (to * 16) (idAt rows₀ from) h × MoreBy h rows₀ from holders₀ holders
+    (h ≤ m + 1) × Held holders × Stored rows₀ rows (to * 16) (idAt rows₀ from) h × MoreBy h rows₀ from holders₀ holders
 
 abbrev μ-loop : tie.MeasureT-loop
 μ-loop rows₀ holders₀ m from to h₀ rows holders h = m + 1 - h
 
 loop-holds : tie.Need-loop-holds Inv-loop μ-loop
-loop-holds c = (omega arith, c .pre .0 .0 .holders-size, stored-none _ _ _, more-none _ _ _)
+loop-holds c = (omega arith, c .pre .0 .0 .held, stored-none _ _ _, more-none _ _ _)
 
 -- the id that this turn reads
 abbrev idOf : tie.At-loop Inv-loop μ-loop → ℕ
@@ -103,9 +103,9 @@ loop-again c =
     let l = c .before .before .loop-test .taken in
     let x = t .loop .inv in (
       omega arith,
-      simp length-set (x .1),
+      held-count _ _ _ _ (x .1) (omega arith) (here t l .0) (λ _ _. omega arith),
       stored-more (idOf t) (x .2) (omega (arith, t .before .pre .0 .0 .rows-size)) (same t l),
-      more-add (x .1) (omega arith) (sym (same t l)) (here t l .0) (x .3),
+      more-add (x .1 .size) (omega arith) (sym (same t l)) (here t l .0) (x .3),
     )
 
 returns : tie.Need-returns Inv-loop μ-loop
@@ -114,7 +114,7 @@ returns c =
     let t = c .before in
     let x = t .loop .inv in
     let e : t .loop .h ≡ t .before .args .m + 1 = omega arith in (
-      record { rows-size = x .2 .size ∙ t .before .pre .0 .0 .rows-size; holders-size = x .1 },
+      record { rows-size = x .2 .size ∙ t .before .pre .0 .0 .rows-size; held = x .1 },
       ((λ h l. x .2 .done h (omega arith), x .2 .before, λ k l. x .2 .after k (omega arith)), rw e at (x .3)),
     )
 

@@ -16,10 +16,10 @@ use Rattle.sharing.proofs.holders.skip.Statement.{statement}
 use Rattle.sharing.proofs.holders.skip.Tie as tie
 
 abbrev Inv-loop : tie.InvT-loop
-Inv-loop holders height most id₀ id = (1 ≤ id) × (id ≤ most + 1) × ((k : ℕ) → 1 ≤ k → k < id → 1 ≤ heldAt holders height k)
+Inv-loop holders height most low₀ id₀ id = (1 ≤ id) × (id ≤ most + 1) × ((k : ℕ) → 1 ≤ k → k < id → 1 ≤ heldAt holders height k)
 
 abbrev μ-loop : tie.MeasureT-loop
-μ-loop holders height most id₀ id = most + 1 - id
+μ-loop holders height most low₀ id₀ id = most + 1 - id
 
 -- the ids below a group are held, and so are the first n of the group, whose bits are 0
 group : (holders : List ℕ) (height id n : ℕ) → ((k : ℕ) → 1 ≤ k → k < id → 1 ≤ heldAt holders height k) → ((k : ℕ) → k < n → vacantBit (getD holders (height * 257 + id + k) 0) ≡ 0)
@@ -45,7 +45,7 @@ nobody holders at e k l =
     sym (set-member 16 (λ i. vacantBit (getD holders (at + i) 0)) k (λ t _. vacant-low (getD holders (at + t) 0)) l) ∙ ap (λ (i : ℕ). i / 2 ^ k % 2) e ∙ ap (λ (i : ℕ). i % 2) (zero-div (2 ^ k))
 
 loop-holds : tie.Need-loop-holds Inv-loop μ-loop
-loop-holds c = (omega arith, omega arith, λ k a b. absurd (omega arith))
+loop-holds c = c .pre .1
 
 add-loop : tie.Need-add-loop Inv-loop μ-loop
 add-loop c = omega arith

@@ -1,6 +1,7 @@
 -- `sharing::holders::take` meets its contract: by the test, the path keeps its id or takes the first free one, which is the definition's choice
 -- either way. Assumes nothing.
 use mathlib.Core.Path.{_≡_, refl, sym, _∙_}
+use mathlib.Core.Logic.{_⊎_, inl, inr}
 use Prim.Native.Nat.{ℕ, _+_, _-_, _*_, _≤_}
 use native.Mathlib.Omega.{arith}
 use borrow.Author.Needs.{needs}
@@ -9,7 +10,7 @@ use lib.Seq.{set-getD}
 use Rattle.reader.specs.Arrays.{ownOf}
 use Rattle.reader.proofs.Own.{own-most}
 use Rattle.sharing.specs.Sharing.{idAt, heldAt, Shared}
-use Rattle.sharing.proofs.Tables.{exchange-none, exchange-free}
+use Rattle.sharing.proofs.Tables.{exchange-none, taken-free}
 use Rattle.sharing.proofs.Choice.{is-alone, not-alone, held-one, keeps, takes}
 use Rattle.sharing.proofs.holders.take.Statement.{statement}
 use Rattle.sharing.proofs.holders.take.Tie as tie
@@ -119,6 +120,21 @@ mul-holders-4 c = search needs
 element-write-holders-2 : tie.Need-element-write-holders-2
 element-write-holders-2 c = omega (arith, small c)
 
+add-holders-3 : tie.Need-add-holders-3
+add-holders-3 c = search needs
+
+cast-holders : tie.Need-cast-holders
+cast-holders c = omega (arith, small c)
+
+add-holders-4 : tie.Need-add-holders-4
+add-holders-4 c = search needs
+
+mul-holders-5 : tie.Need-mul-holders-5
+mul-holders-5 c = search needs
+
+element-write-holders-3 : tie.Need-element-write-holders-3
+element-write-holders-3 c = search needs
+
 cast-rows : tie.Need-cast-rows
 cast-rows c = search needs
 
@@ -128,14 +144,25 @@ mul-rows c = search needs
 element-write-rows : tie.Need-element-write-rows
 element-write-rows c = search needs
 
+-- an id that is shared is held still
+shared : (c : tie.After-first-free) → 1 ≤ idOf (start c) → 1 ≤ heldOf (start c) - 1
+shared c s =
+    let t = start c in
+    go (not-alone (idOf t) (heldOf t) (sym (c .before .before .before .alone .ensures) ∙ c .before .before .if1 .left))
+  where
+    go : (idOf (start c) ≡ 0) ⊎ (2 ≤ heldOf (start c)) → 1 ≤ heldOf (start c) - 1
+    go (inl q) = absurd (omega arith)
+    go (inr l) = omega arith
+
 returns-2 : tie.Need-returns-2
 unfolding idAt heldAt
 returns-2 c =
     let t = start c in
     let f = c .first-free .ensures in
-    let v : heldOf t - 1 + 1 ≡ heldOf t = omega (arith, some t) in (
-      (record { rows-size = simp length-set (t .pre .0 .0 .rows-size); holders-size = simp length-set (t .pre .0 .0 .holders-size) }, f .0, small c),
-      (refl, (exchange-free _ _ _ _ _ (t .pre .0 .0 .holders-size) (omega arith) (omega (arith, low t)) (omega (arith, small c)) v (f .3 (small c)), chosen c)),
+    let v : heldOf t - 1 + 1 ≡ heldOf t = omega (arith, some t) in
+    let k = taken-free _ _ _ _ _ (t .pre .0 .0 .held) (omega arith) (omega (arith, low t)) (omega (arith, small c)) v (shared c) (f .3 (small c)) (f .2) in (
+      (record { rows-size = simp length-set (t .pre .0 .0 .rows-size); held = k .0 }, f .0, small c),
+      (refl, (k .1, chosen c)),
     )
 
 pub take-spec : {M : Type 1} → statement M
@@ -163,6 +190,11 @@ take-spec =
     add-holders-2
     mul-holders-4
     element-write-holders-2
+    add-holders-3
+    cast-holders
+    add-holders-4
+    mul-holders-5
+    element-write-holders-3
     cast-rows
     mul-rows
     element-write-rows

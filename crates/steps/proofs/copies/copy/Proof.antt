@@ -154,7 +154,7 @@ fork-requires c κs =
     let o = own s in
     let f = t .crowd .ensures .0 in (
       (
-        record { deep = l .deep; many = l .many; sizes = record { rows-size = l .sizes .rows-size; holders-size = f .0 }; numbers = l .numbers; bytes = l .bytes },
+        record { deep = l .deep; many = l .many; sizes = record { rows-size = l .sizes .rows-size; held = f .0 }; numbers = l .numbers; bytes = l .bytes },
         f .1,
         f .4,
         omega (arith, s .pre .1 .0 .3),

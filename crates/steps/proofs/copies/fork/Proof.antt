@@ -139,7 +139,7 @@ put-lent c =
     record {
       deep = l .deep;
       many = l .many;
-      sizes = record { rows-size = c .put .ensures .size ∙ sizes .rows-size; holders-size = sizes .holders-size };
+      sizes = record { rows-size = c .put .ensures .size ∙ sizes .rows-size; held = sizes .held };
       numbers = l .numbers;
       bytes = l .bytes;
     }

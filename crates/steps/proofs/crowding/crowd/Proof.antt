@@ -23,7 +23,7 @@ returns : tie.Need-returns
 returns c =
     let a = c .before .args in
     let s = c .before .pre .0 in (
-      (s .0 .holders-size, s .1, s .2, omega arith, omega arith, sym (room-all (a .paths) (queueOf (a .order .now) (a .queued)) (omega (arith, queue-length (a .queued) (a .order .now))))),
+      (s .0 .held, s .1, s .2, omega arith, omega arith, sym (room-all (a .paths) (queueOf (a .order .now) (a .queued)) (omega (arith, queue-length (a .queued) (a .order .now))))),
       (
         λ e numbers bytes x.
             let level : length (x .rest) ≡ a .queued = omega (arith, stands-length (x .stands), queue-length (a .queued) (a .order .now)) in
