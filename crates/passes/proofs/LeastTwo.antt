@@ -13,9 +13,14 @@ use Rattle.laws.specs.Lists.{May}
 use Rattle.laws.proofs.Tests.{lt-or}
 use Rattle.machine.specs.Choice.{choose, firstOf}
 use Rattle.passes.specs.declared.Two.{Two}
-use Rattle.outer.specs.Search.{tried, lesser, leastFrom}
+use Rattle.outer.specs.Search.{keyOf, tried, lesser, leastFrom}
 use Rattle.passes.specs.Pass.{opened, above, afterFirst, foundKey, foundSetting, twoOf, twoLeast}
 use Rattle.outer.proofs.Least.{least-below, least-like, least-same, Chosen, least-chosen}
+
+-- a key is below the greatest number
+pub key-lt : {cost number x : ℕ} → cost < 4294967295 → number < 4294967296 → keyOf cost number ≡ x → x < 18446744073709551615
+unfolding keyOf
+key-lt h f e = omega arith
 
 -- ---- the least key from a bound on, with one setting more
 

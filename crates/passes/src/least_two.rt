@@ -54,7 +54,7 @@ fn open(key: u64, bound: u64, first: u64) -> u64
 
 // The two least with the key of one setting more, by its cost and its number, where it is not below the bound; the earlier of equals. It is all choices and
 // no branch, since which keys are least cannot be foreseen.
-pub fn among(two: Two, bound: u64, cost: u32, number: u32, setting: usize) -> Two
+fn among(two: Two, bound: u64, cost: u32, number: u32, setting: usize) -> Two
     requires { ⌜ cost < 4294967295 ⌝ }
     ensures { λ r. ⌜ ((k : ℕ → ℕ) → two ≡ twoLeast k bound setting → keyOf cost number ≡ k setting → r ≡ twoLeast k bound (setting + 1)) ⌝ }
 {
@@ -69,4 +69,18 @@ pub fn among(two: Two, bound: u64, cost: u32, number: u32, setting: usize) -> Tw
         at: which(x, least, setting, two.at),
         next: which(x, least, two.at, next),
     }
+}
+
+// The same, of a pass over so many settings. Where they are many, a cost above that of the second least is passed over by a branch: then it is foreseen
+// nearly always.
+pub fn sift(two: Two, bound: u64, cost: u32, number: u32, setting: usize, count: usize) -> Two
+    requires { ⌜ cost < 4294967295 ⌝ }
+    ensures { λ r. ⌜ ((k : ℕ → ℕ) → two ≡ twoLeast k bound setting → keyOf cost number ≡ k setting → r ≡ twoLeast k bound (setting + 1)) ⌝ }
+{
+    if count > 64 {
+        if two.second / 4294967296 < cost as u64 {
+            return two;
+        }
+    }
+    among(two, bound, cost, number, setting)
 }

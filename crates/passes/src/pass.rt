@@ -8,8 +8,8 @@ ghost use Rattle.polar.specs.Layers.{part, Within};
 ghost use Rattle.outer.specs.Search.{Entry, Spans, picked, Runs, Small, leastFrom, answer, keyAt};
 ghost use Rattle.passes.specs.Pass.{afterFirst, twoLeast, Turned, summedKey, chosen};
 use crate::Two;
-use crate::least_two::among;
 use crate::least_two::none;
+use crate::least_two::sift;
 use outer::Candidate;
 use outer::Pair;
 use tables::costs::cost_of;
@@ -57,7 +57,7 @@ fn two_each(words: &[u32; 256], count: usize, sums: &[u32; 128], runs: usize, bo
     let mut w: usize = 0;
     while w < count {
         let word = words[w];
-        two = among(two, bound, cost_of(sums, runs, word), word, w);
+        two = sift(two, bound, cost_of(sums, runs, word), word, w, count);
         w += 1;
     }
     two
@@ -81,8 +81,8 @@ fn two_turned(
         let word = words[w];
         let other = words[w + 1];
         let cost = cost_of(sums, runs, word);
-        two = among(two, bound, cost, word, w);
-        two = among(two, bound, total - cost, other, w + 1);
+        two = sift(two, bound, cost, word, w, count);
+        two = sift(two, bound, total - cost, other, w + 1, count);
         w += 2;
     }
     two

@@ -1,22 +1,13 @@
 -- `passes::least_two::among` meets its contract: what it chooses are the two least with one key more. Assumes nothing.
 use mathlib.Core.Path.{_≡_, ap, _∙_}
 use mathlib.Core.Bool.{cond}
-use Prim.Native.Nat.{ℕ, _<_}
-use native.Mathlib.Omega.{arith}
+use Prim.Native.Nat.{ℕ}
 use lib.Dec.{ltb}
-use mir.Syntax.{w32}
-use mir.Val.{Fits}
 use borrow.Author.Needs.{needs}
-use Rattle.outer.specs.Search.{keyOf}
 use Rattle.passes.specs.Pass.{opened}
-use Rattle.passes.proofs.LeastTwo.{merged, two-same, merged-least}
+use Rattle.passes.proofs.LeastTwo.{key-lt, merged, two-same, merged-least}
 use Rattle.passes.proofs.least_two.among.Statement.{statement}
 use Rattle.passes.proofs.least_two.among.Tie as tie
-
--- a key is below the greatest number
-key-lt : {cost number x : ℕ} → cost < 4294967295 → Fits w32 number → keyOf cost number ≡ x → x < 18446744073709551615
-unfolding keyOf
-key-lt h f e = omega (arith, f .fits)
 
 key-requires : tie.Need-key-requires
 key-requires c κs = search needs
@@ -54,7 +45,7 @@ returns c = λ k t e.
     (c .before .which2 .ensures)
     (c .which3 .ensures ∙ ap (λ (y : ℕ). cond (ltb x (two .first)) (two .at) y) (c .before .before .before .before .which .ensures))
     ∙ ap (λ (y : ℕ). merged y (a .setting) two) own
-    ∙ merged-least k (a .bound) (a .setting) two t (key-lt (s .pre) (s .fits .number) e) (c .before .before .before .either2 .ensures .1) (c .before .before .before .before .before .either .ensures .1)
+    ∙ merged-least k (a .bound) (a .setting) two t (key-lt (s .pre) (s .fits .number .fits) e) (c .before .before .before .either2 .ensures .1) (c .before .before .before .before .before .either .ensures .1)
 
 pub among-spec : {M : Type 1} → statement M
 among-spec =

@@ -29,8 +29,8 @@ element-copy-out-word c = omega arith
 cost-of-requires : tie.Need-cost-of-requires Inv-loop μ-loop
 cost-of-requires c κs = let h = c .before .before .before .before .pre in (h .1, h .2)
 
-among-requires : tie.Need-among-requires Inv-loop μ-loop
-among-requires c κs = omega (arith, c .cost-of .ensures .1)
+sift-requires : tie.Need-sift-requires Inv-loop μ-loop
+sift-requires c κs = omega (arith, c .cost-of .ensures .1)
 
 add-w : tie.Need-add-w Inv-loop μ-loop
 add-w c = omega arith
@@ -44,7 +44,7 @@ loop-again c =
     let a = c .before .before .before .before .before .before .args in
     let x = c .before .before .before .before .loop in
     let r = c .before .cost-of in
-    (omega arith, c .among .ensures (summedKey (a .sums .now) (a .runs) (a .words .now)) (x .inv .1) (ap (λ i. keyOf i (getD (a .words .now) (x .w) 0)) (r .ensures .0)))
+    (omega arith, c .sift .ensures (summedKey (a .sums .now) (a .runs) (a .words .now)) (x .inv .1) (ap (λ i. keyOf i (getD (a .words .now) (x .w) 0)) (r .ensures .0)))
 
 returns : tie.Need-returns Inv-loop μ-loop
 returns c =
@@ -64,7 +64,7 @@ two-each-spec =
     mul-word
     element-copy-out-word
     cost-of-requires
-    among-requires
+    sift-requires
     add-w
     loop-less
     loop-again

@@ -41,21 +41,21 @@ element-copy-out-other c =
 cost-of-requires : tie.Need-cost-of-requires Inv-loop μ-loop
 cost-of-requires c κs = let h = c .before .before .before .before .before .pre in (h .1, h .2)
 
-among-requires : tie.Need-among-requires Inv-loop μ-loop
-among-requires c κs = omega (arith, c .cost-of .ensures .1)
+sift-requires : tie.Need-sift-requires Inv-loop μ-loop
+sift-requires c κs = omega (arith, c .cost-of .ensures .1)
 
-sub-among : tie.Need-sub-among Inv-loop μ-loop
-sub-among c =
+sub-sift : tie.Need-sub-sift Inv-loop μ-loop
+sub-sift c =
     let s = c .before .before .before .before .before .before .before in
     let a = s .args in
     let x = c .before .before .before .before .before .loop in
     omega (arith, c .before .cost-of .ensures .0, pair-sum (a .sums .now) (a .words .now) (a .runs) (a .count) (a .total) (x .w) (s .pre .4) (x .inv .1) (omega arith))
 
-add-among : tie.Need-add-among Inv-loop μ-loop
-add-among c = omega arith
+add-sift : tie.Need-add-sift Inv-loop μ-loop
+add-sift c = omega arith
 
-among-requires-2 : tie.Need-among-requires-2 Inv-loop μ-loop
-among-requires-2 c κs = omega (arith, c .before .before .before .before .before .before .before .pre .3)
+sift-requires-2 : tie.Need-sift-requires-2 Inv-loop μ-loop
+sift-requires-2 c κs = omega (arith, c .before .before .before .before .before .before .before .pre .3)
 
 add-w : tie.Need-add-w Inv-loop μ-loop
 add-w c = omega arith
@@ -73,8 +73,8 @@ loop-again c =
     let k = summedKey (a .sums .now) (a .runs) (a .words .now) in
     let t = pair-sum (a .sums .now) (a .words .now) (a .runs) (a .count) (a .total) (x .w) (s .pre .4) (x .inv .1) (omega arith) in
     let left : a .total - r .result ≡ picked (a .sums .now) 0 (a .runs) (getD (a .words .now) (x .w + 1) 0) = omega (arith, r .ensures .0, t) in
-    let one = c .before .among .ensures k (x .inv .2) (ap (λ i. keyOf i (getD (a .words .now) (x .w) 0)) (r .ensures .0)) in
-    let two = c .among2 .ensures k one (ap (λ i. keyOf i (getD (a .words .now) (x .w + 1) 0)) left) in
+    let one = c .before .sift .ensures k (x .inv .2) (ap (λ i. keyOf i (getD (a .words .now) (x .w) 0)) (r .ensures .0)) in
+    let two = c .sift2 .ensures k one (ap (λ i. keyOf i (getD (a .words .now) (x .w + 1) 0)) left) in
     let e : x .w + 1 + 1 ≡ x .w + 2 = omega arith in
     (omega (arith, s .pre .4 .even), omega arith, two ∙ ap (twoLeast k (a .bound)) e)
 
@@ -99,10 +99,10 @@ two-turned-spec =
     mul-other
     element-copy-out-other
     cost-of-requires
-    among-requires
-    sub-among
-    add-among
-    among-requires-2
+    sift-requires
+    sub-sift
+    add-sift
+    sift-requires-2
     add-w
     loop-less
     loop-again
