@@ -26,7 +26,7 @@ use Rattle.codec.specs.Ties.{paritiesOf, fillBlock, filled}
 use Rattle.outer.specs.Words.{Word}
 use Rattle.reader.specs.Paths.{Path, scoreOf, lastWord, ownWord, place, viewOf}
 use Rattle.reader.specs.Reader.{commit}
-use Rattle.reader.specs.Reached.{Vals, Sums, Good, Inv, Holds, plain, StandsFor}
+use Rattle.reader.specs.Reached.{Vals, Sums, Good, Inv, HoldsBits, plain, StandsFor}
 use Rattle.reader.proofs.Upd.{upd-other, upd-agree}
 use Rattle.reader.proofs.Tree.{Prior, vals-same, sums-same, vals-prior, prior-zero, sums-zero, prior-turn, turn-low, turn-less, root-join}
 use Rattle.codec.proofs.Ties.{filled-take, filled-drop}
@@ -58,7 +58,7 @@ inv-frame B ys v v′ u p (suc b) e f h =
     }
 
 module _ (B : Book) (ys : List ℤ) (A A′ : Arrays) where
-  pub holds-frame : (u : List ℕ) (p : Path) → Sees A A′ (p .ids) → Holds B ys A u p → Holds B ys A′ u p
+  pub holds-frame : (u : List ℕ) (p : Path) → Sees A A′ (p .ids) → HoldsBits B ys A u p → HoldsBits B ys A′ u p
   holds-frame u p e h =
       record { parities = h .parities; inv = inv-frame B ys (viewOf A p) (viewOf A′ p) u p (p .blocks) (e .vals) (e .sums) (h .inv) }
 

@@ -26,7 +26,7 @@ use Rattle.reader.specs.Arrays.{Arrays, View, sumsOf}
 use Rattle.reader.specs.Paths.{Path, firstPath, scoreOf, idsOf, viewOf}
 use Rattle.reader.specs.Reader as R
 use Rattle.reader.specs.Reader.{commit}
-use Rattle.reader.specs.Reached.{Sums, Inv, Holds, plain, StandsFor}
+use Rattle.reader.specs.Reached.{Sums, Inv, HoldsBits, plain, StandsFor}
 use Rattle.reader.proofs.Upd.{upd-same}
 use Rattle.reader.proofs.Tree.{root-word}
 use Rattle.codec.proofs.Ties.{parities-none}
@@ -59,7 +59,7 @@ first-stands B ys A e =
 module _ (B : Book) (ys : List ℤ) (ok : Valid B) (ly : length ys ≡ 2 ^ (B .m)) where
   -- ---- where step 1 stops
 
-  stopped-plain : (A : Arrays) (u : List ℕ) (p : Path) (ps : List Path) → Holds B ys A u p → p .blocks ≡ length (B .blocks) →
+  stopped-plain : (A : Arrays) (u : List ℕ) (p : Path) (ps : List Path) → HoldsBits B ys A u p → p .blocks ≡ length (B .blocks) →
       RunIs B ys (M.stopped (plain B p u)) (R.stopped B A p ps)
   unfolding M.stopped R.stopped plain finalFrom finalOf readData
   stopped-plain A u p ps h e =

@@ -32,7 +32,7 @@ use Rattle.outer.specs.Words.{Word}
 use Rattle.reader.specs.Paths.{Path, keyOf, scoreOf, ownWord, place, idsOf, viewOf}
 use Rattle.reader.specs.Reader as R
 use Rattle.reader.specs.Reader.{Moved, commit, downTo, nextView}
-use Rattle.reader.specs.Reached.{Vals, Sums, Good, Inv, Holds, plain, StandsFor}
+use Rattle.reader.specs.Reached.{Vals, Sums, Good, Inv, HoldsBits, plain, StandsFor}
 use Rattle.reader.proofs.Tree.{vals-node, vals-same, sums-same, sums-root, sums-unroot, root-turn}
 use Rattle.outer.proofs.Blocks.{Placed, placed, start-less}
 use Rattle.outer.proofs.Words.{Matches, nearer-matches, nearest-matches}
@@ -159,7 +159,7 @@ module _ (B : Book) (ys : List ℤ) (ok : Valid B) (ly : length ys ≡ 2 ^ (B .m
   -- ---- step 3: the path's own next block
 
   -- what it sees once it has gone down to that block, and the block's nearest word there, which is the machine's
-  module _ (A : Arrays) (u : List ℕ) (p : Path) (others : List (ℕ → ℕ)) (h : Holds B ys A u p) (l : p .blocks < length (B .blocks)) where
+  module _ (A : Arrays) (u : List ℕ) (p : Path) (others : List (ℕ → ℕ)) (h : HoldsBits B ys A u p) (l : p .blocks < length (B .blocks)) where
     down-good : Vals (B .m - blockAt B (p .blocks) .j) (B .m) ys u (startOf (B .blocks) (p .blocks)) (valsOf (downTo B others A p (p .blocks)))
         × Sums (B .m) u (startOf (B .blocks) (p .blocks)) (sumsOf (downTo B others A p (p .blocks)))
     down-good =
@@ -204,7 +204,7 @@ module _ (B : Book) (ys : List ℤ) (ok : Valid B) (ly : length ys ≡ 2 ^ (B .m
     path : StandsFor B ys (x .arrays) q (x .path)
 
   module _ (A : Arrays) (u : List ℕ) (p : Path) (qs : List M.Path) (ps : List Path) where
-    module _ (hs : Paired (StandsFor B ys A) qs ps) (h : Holds B ys A u p) (l : p .blocks < length (B .blocks)) where
+    module _ (hs : Paired (StandsFor B ys A) qs ps) (h : HoldsBits B ys A u p) (l : p .blocks < length (B .blocks)) where
       now : Sized B ys u p (p .blocks)
       now = sized B ys (viewOf A p) u p ok (p .blocks) (h .inv)
 
@@ -275,7 +275,7 @@ module _ (B : Book) (ys : List ℤ) (ok : Valid B) (ly : length ys ≡ 2 ^ (B .m
         go true = behind-paired M.keyOf (keyOf B) (StandsFor B ys A) (stands-key B ys A) b qs ps hs
         go false = unfold Paired in tt
 
-  extract-plain : (L D : ℕ) (A : Arrays) (u : List ℕ) (p : Path) (qs : List M.Path) (ps : List Path) (n : ℕ) (visits : List ℕ) → Holds B ys A u p →
+  extract-plain : (L D : ℕ) (A : Arrays) (u : List ℕ) (p : Path) (qs : List M.Path) (ps : List Path) (n : ℕ) (visits : List ℕ) → HoldsBits B ys A u p →
       Paired (StandsFor B ys A) qs ps → p .blocks < length (B .blocks) →
       StepIs B ys (M.extract B L D ys (plain B p u) qs n visits) (R.extract B L D A p ps n visits)
   unfolding M.extract R.extract plain
