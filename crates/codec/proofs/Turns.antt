@@ -22,7 +22,7 @@ use Rattle.codebook.specs.Tables.{kindCodes, tieSet}
 use Rattle.codec.specs.Code.{parity, fill, freeBits, obeys, obeysAll}
 use Rattle.codec.specs.Tabled.{Coded, Tabled, forced, absorbed}
 use Rattle.codec.proofs.Fill.{parity-front}
-use Rattle.codec.proofs.TieSets.{tieTerms, paritySet, parities-none, parity-of, parities-next}
+use Rattle.codec.proofs.TieSets.{tieTerms, tieParities, tie-parities-none, parity-of, parities-next}
 
 -- ---- the code of an index
 
@@ -105,11 +105,11 @@ forced-frozen : (code x : ℕ) → code ≡ 1 → forced code x ≡ 0
 unfolding forced
 forced-frozen code x e = ap (λ b. cond b 0 (x / 2 ^ (code - 2) % 2)) (lt-ltb code 2 (omega arith))
 
-forced-tied : (ks : List Kind) (u : List ℕ) (code t : ℕ) → code ≡ 2 + (0 + t) → t < 32 → forced code (paritySet ks u) ≡ parity u (tieTerms ks t)
+forced-tied : (ks : List Kind) (u : List ℕ) (code t : ℕ) → code ≡ 2 + (0 + t) → t < 32 → forced code (tieParities ks u) ≡ parity u (tieTerms ks t)
 unfolding forced
 forced-tied ks u code t e h =
     let d : code - 2 ≡ t = omega arith in
-    ap (λ b. cond b 0 (paritySet ks u / 2 ^ (code - 2) % 2)) (le-ltb code 2 (omega arith)) ∙ ap (λ n. paritySet ks u / 2 ^ n % 2) d ∙ parity-of ks u t h
+    ap (λ b. cond b 0 (tieParities ks u / 2 ^ (code - 2) % 2)) (le-ltb code 2 (omega arith)) ∙ ap (λ n. tieParities ks u / 2 ^ n % 2) d ∙ parity-of ks u t h
 
 forced-bit : (code x : ℕ) → Bit (forced code x)
 unfolding forced
@@ -118,32 +118,32 @@ forced-bit code x = cond-case Bit (ltb code 2) (λ _. omega arith) (λ _. mod-bi
 -- ---- filling
 
 -- u, the bits before index i, goes on to the whole; x is the set of its parities, and the data from `next` on fill the free indices left
-pub record Filling (ks : List Kind) (ds u : List ℕ) (i next x : ℕ) : Type 0 where
+pub record PartFilled (ks : List Kind) (ds u : List ℕ) (i next x : ℕ) : Type 0 where
   pub size : length u ≡ i
   pub rest : fill u (drop i ks) (drop next ds) ≡ fill [] ks ds
   pub left : next + freeCount (drop i ks) ≡ length ds
-  pub parities : x ≡ paritySet ks u
+  pub parities : x ≡ tieParities ks u
 
-pub fill-start : (ks : List Kind) (ds : List ℕ) → freeCount ks ≡ length ds → Filling ks ds [] 0 0 0
-fill-start ks ds e = record { size = refl; rest = refl; left = omega arith; parities = parities-none ks }
+pub fill-start : (ks : List Kind) (ds : List ℕ) → freeCount ks ≡ length ds → PartFilled ks ds [] 0 0 0
+fill-start ks ds e = record { size = refl; rest = refl; left = omega arith; parities = tie-parities-none ks }
 
-pub fill-end : {ks : List Kind} {ds u : List ℕ} {i next x : ℕ} → Filling ks ds u i next x → length ks ≤ i → u ≡ fill [] ks ds
+pub fill-end : {ks : List Kind} {ds u : List ℕ} {i next x : ℕ} → PartFilled ks ds u i next x → length ks ≤ i → u ≡ fill [] ks ds
 unfolding fill
 fill-end {ks} {ds} {u} {i} {next} f h = ap (λ l. fill u l (drop next ds)) (sym (drop-of-length-le ks h)) ∙ f .rest
 
 module _ {ks : List Kind} {kinds terms : List ℕ} (T : Tabled ks kinds terms) where
   -- the parities take one bit more
-  absorb : (u : List ℕ) {i x : ℕ} (b : ℕ) → length u ≡ i → i < length ks → x ≡ paritySet ks u → Bit b → absorbed x b (getD terms i 0) ≡ paritySet ks (u ++ b ∷ [])
+  absorb : (u : List ℕ) {i x : ℕ} (b : ℕ) → length u ≡ i → i < length ks → x ≡ tieParities ks u → Bit b → absorbed x b (getD terms i 0) ≡ tieParities ks (u ++ b ∷ [])
   absorb u {i} {x} b s h e k =
       ap₂ (λ p n. absorbed p b n) e (T .sets i h ∙ ap (tieSet 0 ks) (sym s)) ∙ parities-next ks u b (T .few) (T .ok) k
 
-  module _ {ds u : List ℕ} {i next x : ℕ} (f : Filling ks ds u i next x) (h : i < length ks) where
+  module _ {ds u : List ℕ} {i next x : ℕ} (f : PartFilled ks ds u i next x) (h : i < length ks) where
     -- a free index takes the next data bit
     pub fill-free-room : getD kinds i 0 ≡ 0 → next < length ds
     unfolding freeCount
     fill-free-room z = omega (arith, f .left, ap freeCount (free-here (T .coded) i h z))
 
-    pub fill-free : getD kinds i 0 ≡ 0 → All Bit ds → Filling ks ds (u ++ getD ds next 0 ∷ []) (i + 1) (next + 1) (absorbed x (getD ds next 0) (getD terms i 0))
+    pub fill-free : getD kinds i 0 ≡ 0 → All Bit ds → PartFilled ks ds (u ++ getD ds next 0 ∷ []) (i + 1) (next + 1) (absorbed x (getD ds next 0) (getD terms i 0))
     unfolding freeCount fill
     fill-free z k =
         let r = fill-free-room z in
@@ -158,7 +158,7 @@ module _ {ks : List Kind} {kinds terms : List ℕ} (T : Tabled ks kinds terms) w
         }
 
     -- another index takes the bit that it must have
-    pub fill-forced : (getD kinds i 0 ≡ 0 → ⊥) → Filling ks ds (u ++ forced (getD kinds i 0) x ∷ []) (i + 1) next (absorbed x (forced (getD kinds i 0) x) (getD terms i 0))
+    pub fill-forced : (getD kinds i 0 ≡ 0 → ⊥) → PartFilled ks ds (u ++ forced (getD kinds i 0) x ∷ []) (i + 1) next (absorbed x (forced (getD kinds i 0) x) (getD terms i 0))
     unfolding CodeOf freeCount fill
     fill-forced z =
         let b : ℕ = forced (getD kinds i 0) x in
@@ -182,10 +182,10 @@ module _ {ks : List Kind} {kinds terms : List ℕ} (T : Tabled ks kinds terms) w
 -- whether u obeys goes by the indices from i on; x is the set of the parities before
 pub record Obeying (ks : List Kind) (u : List ℕ) (i x : ℕ) : Type 0 where
   pub rest : obeysAll u i (drop i ks) ≡ obeysAll u 0 ks
-  pub parities : x ≡ paritySet ks (take i u)
+  pub parities : x ≡ tieParities ks (take i u)
 
 pub obey-start : (ks : List Kind) (u : List ℕ) → Obeying ks u 0 0
-obey-start ks u = record { rest = refl; parities = parities-none ks }
+obey-start ks u = record { rest = refl; parities = tie-parities-none ks }
 
 pub obey-end : {ks : List Kind} {u : List ℕ} {i x : ℕ} → Obeying ks u i x → length ks ≤ i → true ≡ obeysAll u 0 ks
 unfolding obeysAll
@@ -197,7 +197,7 @@ module _ {ks : List Kind} {kinds terms : List ℕ} (T : Tabled ks kinds terms) {
       record {
         rest = e ∙ o .rest;
         parities = absorb T (take i u) (getD u i 0) (length-take-le i u (omega arith)) h (o .parities) (all-at Bit u i 0 (omega arith) k)
-            ∙ ap (paritySet ks) (sym (ap (λ n. take n u) (add-one i) ∙ take-suc u i 0 (omega arith)));
+            ∙ ap (tieParities ks) (sym (ap (λ n. take n u) (add-one i) ∙ take-suc u i 0 (omega arith)));
       }
 
   pub obey-free : getD kinds i 0 ≡ 0 → All Bit u → Obeying ks u (i + 1) (absorbed x (getD u i 0) (getD terms i 0))

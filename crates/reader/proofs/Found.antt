@@ -36,7 +36,7 @@ use Rattle.reader.specs.Arrays.{Arrays, valsOf}
 use Rattle.reader.specs.Paths.{Path, ownWord, idsOf, viewOf}
 use Rattle.reader.specs.Reader.{Cut, copy, nextView}
 use Rattle.reader.specs.Reached.{Good, Inv, HoldsBits, Reached}
-use Rattle.reader.proofs.Good.{holds-frame, Sized, sized}
+use Rattle.reader.proofs.Good.{holds-frame, PathSized, sized}
 use Rattle.reader.proofs.Step.{next-matches, near-matches}
 use Rattle.reader.proofs.Fit.{copy-sees}
 use Rattle.reader.proofs.Reached.{Headed, reached-headed}
@@ -127,7 +127,7 @@ module _ (B : Book) (ys : List ℤ) (ok : Valid B) (ly : length ys ≡ 2 ^ (B .m
       b : ℕ
       b = p .blocks
 
-      now : Sized B ys u p b
+      now : PathSized B ys u p b
       now = sized B ys (viewOf A p) u p ok b (h .inv)
 
       found : Option Word

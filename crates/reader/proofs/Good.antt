@@ -68,7 +68,7 @@ module _ (B : Book) (ys : List ℤ) (A A′ : Arrays) where
 -- ---- what the record says
 
 -- of a path with b blocks
-pub record Sized (B : Book) (ys : List ℤ) (u : List ℕ) (p : Path) (b : ℕ) : Type 0 where
+pub record PathSized (B : Book) (ys : List ℤ) (u : List ℕ) (p : Path) (b : ℕ) : Type 0 where
   pub within : b ≤ length (B .blocks)
   pub size : length u ≡ startOf (B .blocks) b
   pub bits : All Bit u
@@ -82,7 +82,7 @@ pub record Ready (B : Book) (ys : List ℤ) (others : List (ℕ → ℕ)) (u : L
   pub alone : b < length (B .blocks) → 0 < startOf (B .blocks) b → Alone others (turn (B .m) (startOf (B .blocks) b)) (v .ids)
 
 module _ (B : Book) (ys : List ℤ) (v : View) (u : List ℕ) (p : Path) where
-  pub sized : Valid B → (b : ℕ) → Inv B ys v u p b → Sized B ys u p b
+  pub sized : Valid B → (b : ℕ) → Inv B ys v u p b → PathSized B ys u p b
   unfolding Inv startOf All costs
   sized ok zero h =
       record {
@@ -134,7 +134,7 @@ module _ (B : Book) (ys : List ℤ) (v : View) (u : List ℕ) (p : Path) where
         }
 
 -- the machine scores its path alike
-pub plain-path : (B : Book) (ys : List ℤ) (u : List ℕ) (p : Path) → Sized B ys u p (p .blocks) → M.path B ys (p .number) (p .blocks) u ≡ plain B p u
+pub plain-path : (B : Book) (ys : List ℤ) (u : List ℕ) (p : Path) → PathSized B ys u p (p .blocks) → M.path B ys (p .number) (p .blocks) u ≡ plain B p u
 unfolding M.path M.scoreOf plain scoreOf
 plain-path B ys u p h = ap {A = ℤ} {B = M.Path} (λ z. record { number = p .number; blocks = p .blocks; bits = u; score = z }) (score (p .blocks))
   where

@@ -37,7 +37,7 @@ use Rattle.reader.proofs.Tree.{vals-node, vals-same, sums-same, sums-ro
 use Rattle.outer.proofs.Blocks.{Placed, placed, start-less}
 use Rattle.outer.proofs.Words.{Matches, nearer-matches, nearest-matches}
 use Rattle.reader.proofs.Arrays.{Sees, sees-same, Kept, kept-on, claim-kept, claim-vals, claim-own, claim-sums, descend-kept, descend-above, descend-good}
-use Rattle.reader.proofs.Good.{holds-frame, stands-frame, Sized, sized, plain-path, own-matches, commit-kept, Ready, ready, enter}
+use Rattle.reader.proofs.Good.{holds-frame, stands-frame, PathSized, sized, plain-path, own-matches, commit-kept, Ready, ready, enter}
 use Rattle.reader.proofs.Queue.{insert-paired, ahead-paired, behind-paired, numbers-paired}
 
 module _ (B : Book) (ys : List ℤ) (A : Arrays) (q : M.Path) (p : Path) (h : StandsFor B ys A q p) where
@@ -187,7 +187,7 @@ module _ (B : Book) (ys : List ℤ) (ok : Valid B) (ly : length ys ≡ 2 ^ (B .m
         let j : ℕ = blockAt B b .j in
         let m : ℕ = B .m in
         let o : Placed B b = placed B ok b l in
-        let z : Sized B ys u p b = sized B ys (viewOf A p) u p ok b (h .inv) in
+        let z : PathSized B ys u p b = sized B ys (viewOf A p) u p ok b (h .inv) in
         let v : View = downTo B others A p b in
         let vs : List ℤ = valsOf (nextView B others A p b) j in
         let near : Option Ranked = MW.nearest B ys u b in
@@ -205,7 +205,7 @@ module _ (B : Book) (ys : List ℤ) (ok : Valid B) (ly : length ys ≡ 2 ^ (B .m
 
   module _ (A : Arrays) (u : List ℕ) (p : Path) (qs : List M.Path) (ps : List Path) where
     module _ (hs : Paired (StandsFor B ys A) qs ps) (h : HoldsBits B ys A u p) (l : p .blocks < length (B .blocks)) where
-      now : Sized B ys u p (p .blocks)
+      now : PathSized B ys u p (p .blocks)
       now = sized B ys (viewOf A p) u p ok (p .blocks) (h .inv)
 
       moveWith-is : (v : View) (way : ℕ → List ℤ) (o : Option Ranked) (o′ : Option Word) → Kept (idsOf ps) A (v .arrays) → way (B .m) ≡ ys →
@@ -305,6 +305,6 @@ module _ (B : Book) (ys : List ℤ) (ok : Valid B) (ly : length ys ≡ 2 ^ (B .m
       StandsFor B ys A q p → Paired (StandsFor B ys A) qs ps → (q .blocks ≡ length (B .blocks) → ⊥) →
       StepIs B ys (M.extract B L D ys q qs n visits) (R.extract B L D A p ps n visits)
   extract-is L D A q p qs ps n visits h hs ne =
-      let z : Sized B ys (q .bits) p (p .blocks) = sized B ys (viewOf A p) (q .bits) p ok (p .blocks) (h .holds .inv) in
+      let z : PathSized B ys (q .bits) p (p .blocks) = sized B ys (viewOf A p) (q .bits) p ok (p .blocks) (h .holds .inv) in
       subst (λ (q′ : M.Path). StepIs B ys (M.extract B L D ys q′ qs n visits) (R.extract B L D A p ps n visits)) (sym (h .same))
       (extract-plain L D A (q .bits) p qs ps n visits (h .holds) hs (omega (arith, z .within, stands-blocks B ys A q p h)))
