@@ -26,7 +26,7 @@ fn halve(order: &[u64; 256], queued: usize, e: u64, low: usize, half: usize) -> 
 }
 
 // Where an entry goes among the `queued` entries: above those that it comes before.
-fn place(order: &[u64; 256], queued: usize, e: u64) -> usize
+fn position(order: &[u64; 256], queued: usize, e: u64) -> usize
     requires { ⌜ (length (now order) ≡ 256) × (queued ≤ 256) ⌝ }
     requires { ⌜ Rising (now order) queued ⌝ }
     ensures { λ r. ⌜ (r ≤ queued) × ((k : ℕ) → k < r → getD (now (order .entry)) k 0 / 256 < e / 256)
@@ -59,7 +59,7 @@ pub fn insert(order: &mut [u64; 256], queued: usize, e: u64)
         × (queueOf (now (order .exit)) (suc queued) ≡ Q.insert keyAt e (queueOf (now (order .entry)) queued)) ⌝ }
     ensures { λ _. ⌜ Rising (now (order .exit)) (suc queued) ⌝ }
 {
-    let at = place(order, queued, e);
+    let at = position(order, queued, e);
     let mut k = queued;
     while k > at {
         order[k] = order[k - 1];
