@@ -13,7 +13,7 @@ use lib.Dec.{ltb, leb, eqb}
 use lib.Pow.{pow-mono}
 use borrow.Author.Tests.{lt-ltb, le-ltb, le-leb, lt-leb, eq-eqb, ne-eqb}
 use Rattle.laws.specs.Lists.{All}
-use Rattle.laws.proofs.Pairs.{MayPair}
+use Rattle.laws.specs.Pairs.{MayPair}
 use Rattle.polar.specs.Bits.{Bit, number}
 use Rattle.polar.specs.Transform.{transform}
 use Rattle.polar.specs.Soft.{discrepancy}

@@ -13,8 +13,8 @@ use lib.IntN.{ℤ, pos, negℤ}
 use lib.Dec.{ltb, eqb}
 use borrow.Author.Tests.{lt-ltb, le-ltb, eq-eqb, ne-eqb}
 use Rattle.laws.specs.Lists.{All}
+use Rattle.laws.specs.Pairs.{MayPair}
 use Rattle.laws.proofs.Integers.{neg-ltZ}
-use Rattle.laws.proofs.Pairs.{MayPair}
 use Rattle.polar.specs.Bits.{Bit, number}
 use Rattle.polar.specs.Transform.{transform}
 use Rattle.polar.specs.Soft.{discrepancy}

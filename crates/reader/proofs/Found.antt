@@ -13,8 +13,8 @@ use lib.Seq.{take-all, take-take, length-take-le}
 use lib.Pow.{pow-mono}
 use lib.IntN.{ℤ}
 use Rattle.laws.specs.Lists.{All, May}
+use Rattle.laws.specs.Pairs.{MayPair}
 use Rattle.laws.proofs.Lists.{all-take}
-use Rattle.laws.proofs.Pairs.{MayPair}
 use Rattle.polar.specs.Bits.{Bit, number}
 use Rattle.polar.specs.Transform.{transform}
 use Rattle.polar.specs.Layers.{Within}

@@ -12,8 +12,8 @@ use lib.IntN.{ℤ}
 use lib.Dec.{eqb}
 use Rattle.laws.specs.Lists.{All}
 use Rattle.laws.proofs.Lists.{all-take, all-unmapped}
-use Rattle.laws.specs.Pairs.{Paired}
-use Rattle.laws.proofs.Pairs.{MayPair, paired-take, paired-drop, paired-with}
+use Rattle.laws.specs.Pairs.{Paired, MayPair}
+use Rattle.laws.proofs.Pairs.{paired-take, paired-drop, paired-with}
 use Rattle.polar.specs.Bits.{Bit}
 use Rattle.polar.specs.Node.{node}
 use Rattle.polar.specs.Value.{costs}
