@@ -59,15 +59,11 @@ rising-none l i j h b = absurd (omega arith)
 
 -- ---- position
 
--- where one entry is below e but for its slot, so are those before it; where it is not, neither are those after it
+-- where one entry is below e but for its slot, so are those before it
 module _ (l : List ℕ) (queued mid e : ℕ) (r : Rising l queued) (b : mid < queued) where
   pub position-low : getD l mid 0 < e / 256 * 256 → (k : ℕ) → k ≤ mid → getD l k 0 / 256 < e / 256
   unfolding Rising
   position-low h k j = omega (arith, r k mid j b)
-
-  pub position-high : e / 256 * 256 ≤ getD l mid 0 → (k : ℕ) → mid ≤ k → k < queued → e / 256 ≤ getD l k 0 / 256
-  unfolding Rising
-  position-high h k j m = omega (arith, r mid k j m)
 
 -- ---- insert
 

@@ -13,11 +13,6 @@ use Rattle.laws.proofs.Tests.{cond-case, lt-or}
 use Rattle.machine.specs.Choice.{choose, firstOf}
 use Rattle.outer.specs.Search.{tried, lesser, leastFrom}
 
--- the setting found, by another count
-abbrev pub mapped : (ℕ → ℕ) → Option ℕ → Option ℕ
-mapped f none = none
-mapped f (some w) = some (f w)
-
 -- what is found is among the settings
 pub least-below : (k : ℕ → ℕ) (bound n : ℕ) → May (λ (w : ℕ). w < n) (leastFrom k bound n)
 unfolding leastFrom firstOf tried May choose
@@ -81,20 +76,3 @@ least-chosen k b (suc n) = go (lt-or (k n) b) (leastFrom k b n) (least-chosen k 
         pick (inl m) =
             rw (lt-ltb (k n) (k y) m) (omega arith, l, both (λ x. b ≤ x → k n ≤ x) (λ v j q. omega (arith, h .2 v j q)) (λ q. omega arith), λ v j q. omega (arith, h .2 v j q))
         pick (inr m) = rw (le-ltb (k n) (k y) m) (omega arith, h .1, both (λ x. b ≤ x → k y ≤ x) (h .2) (λ q. m), h .3)
-
--- the same keys in another order, where no two are equal: it is found at its place there
-pub least-moved : (k : ℕ → ℕ) (b n : ℕ) (there back : ℕ → ℕ) → ((w : ℕ) → w < n → there w < n) → ((w : ℕ) → w < n → back w < n)
-    → ((w : ℕ) → w < n → back (there w) ≡ w) → ((x : ℕ) → x < n → there (back x) ≡ x) → ((x y : ℕ) → x < n → y < n → k x ≡ k y → x ≡ y)
-    → (o : Option ℕ) → leastFrom k b n ≡ o → leastFrom (λ w. k (there w)) b n ≡ mapped back o
-least-moved k b n there back t u p q i o e = go o (subst (Chosen k b n) e (least-chosen k b n)) (leastFrom (λ w. k (there w)) b n) (least-chosen (λ w. k (there w)) b n)
-  where
-    same : (x : ℕ) → x < n → k (there (back x)) ≡ k x
-    same x l = ap k (q x l)
-
-    go : (o : Option ℕ) → Chosen k b n o → (r : Option ℕ) → Chosen (λ w. k (there w)) b n r → r ≡ mapped back o
-    go none h none g = refl
-    go none h (some y) g = absurd (omega (arith, h (there y) (t y (g .0)), g .1))
-    go (some x) h none g = absurd (omega (arith, g (back x) (u x (h .0)), same x (h .0), h .1))
-    go (some x) h (some y) g =
-        let least : k x ≡ k (there y) = omega (arith, h .2 (there y) (t y (g .0)) (g .1), g .2 (back x) (u x (h .0)) (omega (arith, same x (h .0), h .1)), same x (h .0)) in
-        ap some (sym (p y (g .0)) ∙ ap back (sym (i x (there y) (h .0) (t y (g .0)) least)))
