@@ -1,6 +1,6 @@
 -- The search's cases, one answer: where all 8 indices are free, or all but the first, the directions of the walk are those of bytes; and what is found
 -- among the words of so many settings is what is found in the block. By the number of settings. Assumes nothing.
-use mathlib.Core.Path.{_≡_, refl, sym, ap, ap₂, _∙_, subst}
+use mathlib.Core.Path.{_≡_, sym, ap, ap₂, _∙_, subst}
 use mathlib.Core.List.{List}
 use Prim.Native.Nat.{ℕ, _+_, _*_, _^_, _<_}
 use native.Mathlib.Nat.{add-zero}

@@ -1,6 +1,6 @@
 -- What the search of 8 positions answers: a byte of least key from a bound on is the word that the scan by settings finds, and the bytes that the two
 -- least weights give have the least keys of all bytes, or of those of one parity. By the order of the keys, which no two bytes share. Assumes nothing.
-use mathlib.Core.Path.{_≡_, refl, sym, ap, ap₂, _∙_, subst}
+use mathlib.Core.Path.{_≡_, refl, sym, ap, ap₂, _∙_}
 use mathlib.Core.Bool.{true, false}
 use mathlib.Core.List.{List}
 use mathlib.Core.Logic.{_⊎_, inl, inr}
@@ -21,7 +21,7 @@ use Rattle.outer.proofs.Sums.{cost-bound}
 use Rattle.outer.proofs.Least.{Chosen, least-chosen}
 use Rattle.short.specs.declared.Lead.{Lead}
 use Rattle.short.specs.Short.{leastKey, byteKey, Halves, byteRows, backRows, Octets, wordWith}
-use Rattle.short.specs.Flips.{oddOf, led}
+use Rattle.short.specs.Flips.{oddOf}
 use Rattle.short.proofs.Octets.{byte-key, turns}
 use Rattle.short.proofs.LeastKey.{keyOr, key-found}
 use Rattle.short.proofs.Weights.{keyFrom, At, Led, odd-low}
