@@ -23,7 +23,7 @@ use Rattle.codebook.proofs.Blocks.{start-append, start-last, noBlock}
 
 -- ---- free kinds
 
-free-append : (ks ls : List Kind) → freeCount (ks ++ ls) ≡ freeCount ks + freeCount ls
+pub free-append : (ks ls : List Kind) → freeCount (ks ++ ls) ≡ freeCount ks + freeCount ls
 unfolding freeCount
 free-append [] ls = omega arith
 free-append (free ∷ ks) ls = omega (arith, free-append ks ls)
