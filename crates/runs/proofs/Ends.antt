@@ -15,7 +15,7 @@ use lib.IntN.{ℤ}
 use lib.Dec.{T, ltb, eqb, eqb→eq, ltb→lt, lt→ltb, T-not}
 use Rattle.laws.specs.Lists.{All, May, NonEmpty, keep, sum}
 use Rattle.laws.proofs.Tests.{cond-case, neqb→ne}
-use Rattle.laws.proofs.Lists.{all-map, all-set, all-at, all-keep, all-replicate, sum-bump, sum-le}
+use Rattle.laws.proofs.Lists.{all-map, all-set, all-at, all-keep, all-replicate, getD-zeros, sum-bump, sum-le}
 use Rattle.codebook.specs.Book.{Book}
 use Rattle.machine.specs.Queue.{before, insert, ahead, staying, visit, Step}
 use Rattle.machine.specs.Machine.{Path, keyOf, Run, emptyPath, copyOf, advance, extract, run, runOf, after, stopped}
@@ -29,7 +29,7 @@ visit-sum : (visits : List ℕ) (b : ℕ) → b < length visits → sum (visit v
 unfolding visit
 visit-sum visits b h = sum-bump visits b h
 
-visit-same : (visits : List ℕ) (b : ℕ) → b < length visits → getD (visit visits b) b 0 ≡ suc (getD visits b 0)
+pub visit-same : (visits : List ℕ) (b : ℕ) → b < length visits → getD (visit visits b) b 0 ≡ suc (getD visits b 0)
 unfolding visit
 visit-same visits b h = getD-set-same visits b (suc (getD visits b 0)) 0 h
 
@@ -162,18 +162,13 @@ ends (suc fuel) B L D ys (p ∷ qs) n visits g m =
     let r = ends fuel B L D ys _ _ (visit visits (p .blocks)) (going-on B L D ys p qs n visits t g) (omega arith) in
     (r .0, r .1, r .2))
 
-no-visits : (n i : ℕ) → _≡_ {A = ℕ} (getD (replicate n 0) i 0) 0
-no-visits zero i = refl
-no-visits (suc n) zero = refl
-no-visits (suc n) (suc i) = no-visits n i
-
 pub first-going : (B : Book) (L : ℕ) → 0 < L → Going B L (emptyPath ∷ []) (replicate (length (B .blocks)) 0)
 unfolding All NonEmpty emptyPath
 first-going B L h =
     let N = length (B .blocks) in (
       length-replicate {A = ℕ} N 0,
       all-replicate (λ (v : ℕ). v ≤ L) N 0 zero-le,
-      ((zero-le, λ i _ _. subst (λ (x : ℕ). x < L) (sym (no-visits N i)) h), tt),
+      ((zero-le, λ i _ _. subst (λ (x : ℕ). x < L) (sym (getD-zeros N i)) h), tt),
       tt,
     )
 
