@@ -20,9 +20,32 @@ use Rattle.codebook.specs.declared.Command.the-variants.{Length, Tie, Term}
 use Rattle.codebook.specs.Book.{Kind, free, tied, freeCount, tiedCount, startOf}
 use Rattle.codebook.specs.Loading.{Loading, total, lastTerms, member, grown, next}
 use Rattle.codebook.specs.Tables.{Tables, kindCodes, tieSet}
-use Rattle.codebook.specs.Progress.{HoldsLoaded, withIndices, Extends, kindOf}
+use Rattle.codebook.specs.Progress.{CountsLoaded, HoldsLoaded, withIndices, Extends, kindOf}
 use Rattle.codebook.proofs.Codes.{codes-length, codes-append, codes-run, codes-tie, set-append, set-run, set-below, set-tie, tied-run, bit-in, member-last, kinds-last, last-some, last-tie, last-set, tied-tie}
 use Rattle.codebook.proofs.Indices.{tied-append}
+
+-- no index yet
+pub counts-none : (m n : ℕ) → n ≤ 512 → n ≡ cond (eqb m 0) 0 (2 ^ m)
+    → CountsLoaded (record { m = m; n = n; filled = 0; ties = 0; tying = false; free = 0; blocks = 0; covered = 0 })
+    (record { m = m; kinds = []; ties = 0; tying = false; blocks = []; covered = 0 })
+unfolding total tiedCount startOf freeCount
+counts-none m n small e =
+    record {
+      safe = record { small = small; within = zero-le; few = zero-le; tie = λ b. absurd b; room = zero-le; reach = zero-le; free = zero-le };
+      m = refl;
+      n = e;
+      filled = refl;
+      ties = refl;
+      counted = refl;
+      tying = refl;
+      last = λ b. absurd b;
+      fresh = λ b. absurd b;
+      blocks = refl;
+      covered = refl;
+      start = refl;
+      free = refl;
+      order = λ b. absurd (omega arith);
+    }
 
 module _ (p : Progress) (t old : Tables) (s : Loading) (h : HoldsLoaded p t old s) where
   -- before all indices are filled there is no block
@@ -99,30 +122,7 @@ module _ (p : Progress) (t old : Tables) (s : Loading) (h : HoldsLoaded p t old 
       let bs : s .blocks ≡ [] = length-none (s .blocks) (omega (arith, c .blocks, c .safe .room, c .safe .reach)) in
       let all : cond (eqb m 0) 0 (2 ^ m) ≡ 2 ^ m = rw (ne-eqb m 0 (omega arith)) in
       record {
-        counts = record {
-          safe = record {
-            small = pow-mono {i = m} {j = 9} high;
-            within = zero-le;
-            few = zero-le;
-            tie = λ b. absurd b;
-            room = zero-le;
-            reach = zero-le;
-            free = zero-le;
-          };
-          m = refl;
-          n = sym all;
-          filled = refl;
-          ties = refl;
-          counted = refl;
-          tying = refl;
-          last = λ b. absurd b;
-          fresh = λ b. absurd b;
-          blocks = refl;
-          covered = refl;
-          start = refl;
-          free = refl;
-          order = λ b. absurd (omega arith);
-        };
+        counts = counts-none m (2 ^ m) (pow-mono {i = m} {j = 9} high) (sym all);
         sized = h .sized;
         kinds = rw ks at (h .kinds);
         terms =

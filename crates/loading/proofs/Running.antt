@@ -33,6 +33,7 @@ use Rattle.codebook.specs.Progress.{readAt, byteOf, isEnd, verdict, Sized, Hold
 use Rattle.codebook.proofs.Fuel.{fuel-enough}
 use Rattle.codebook.proofs.Blocks.{start-some}
 use Rattle.codebook.proofs.Loaded.{total-begun}
+use Rattle.loading.proofs.Growing.{counts-none}
 
 -- ---- commands and their bytes
 
@@ -229,22 +230,7 @@ reached-none bytes t sized =
     record {
       s = start;
       holds = record {
-        counts = record {
-          safe = record { small = zero-le; within = zero-le; few = zero-le; tie = λ b. absurd b; room = zero-le; reach = zero-le; free = zero-le };
-          m = refl;
-          n = refl;
-          filled = refl;
-          ties = refl;
-          counted = refl;
-          tying = refl;
-          last = λ b. absurd b;
-          fresh = λ b. absurd b;
-          blocks = refl;
-          covered = refl;
-          start = refl;
-          free = refl;
-          order = λ b. absurd (omega arith);
-        };
+        counts = counts-none 0 0 zero-le refl;
         sized = sized;
         kinds = refl;
         terms = refl;
