@@ -13,30 +13,41 @@ use Rattle.laws.proofs.Tests.{cond-case, lt-or}
 use Rattle.machine.specs.Choice.{choose, firstOf}
 use Rattle.outer.specs.Search.{tried, lesser, leastFrom}
 
+-- no setting is tried before its turn
+tried-low : (n : ℕ) → tried n ≤ n
+unfolding tried
+tried-low n = omega arith
+
 -- what is found is among the settings
 pub least-below : (k : ℕ → ℕ) (bound n : ℕ) → May (λ (w : ℕ). w < n) (leastFrom k bound n)
-unfolding leastFrom firstOf tried May choose
+unfolding leastFrom firstOf May choose
 least-below k bound zero = tt
-least-below k bound (suc n) = go (leb bound (k n)) (leastFrom k bound n) (least-below k bound n)
+least-below k bound (suc n) = go (leb bound (k (tried n))) (leastFrom k bound n) (least-below k bound n)
   where
-    go : (t : Bool) (o : Option ℕ) → May (λ (w : ℕ). w < n) o → May (λ (w : ℕ). w < suc n) (choose (lesser k) t n o)
-    go true none h = omega arith
-    go true (some y) h = cond-case (λ (w : ℕ). w < suc n) (lesser k n y) (λ _. omega arith) (λ _. omega arith)
+    last : tried n < suc n
+    last = omega (arith, tried-low n)
+
+    go : (t : Bool) (o : Option ℕ) → May (λ (w : ℕ). w < n) o → May (λ (w : ℕ). w < suc n) (choose (lesser k) t (tried n) o)
+    go true none h = last
+    go true (some y) h = cond-case (λ (w : ℕ). w < suc n) (lesser k (tried n) y) (λ _. last) (λ _. omega arith)
     go false none h = tt
     go false (some y) h = omega arith
 
 -- keys with the same order, and bounds that they pass alike
 pub least-like : (f g : ℕ → ℕ) (b b′ n : ℕ) → ((v w : ℕ) → v < n → w < n → lesser f v w ≡ lesser g v w) → ((w : ℕ) → w < n → leb b (f w) ≡ leb b′ (g w))
     → leastFrom f b n ≡ leastFrom g b′ n
-unfolding leastFrom firstOf tried May choose
+unfolding leastFrom firstOf May choose
 least-like f g b b′ zero o t = refl
 least-like f g b b′ (suc n) o t =
-    go (leb b (f n)) (leastFrom f b n) (least-below f b n)
-    ∙ ap₂ (λ (c : Bool) (y : Option ℕ). choose (lesser g) c n y) (t n (omega arith)) (least-like f g b b′ n (λ v w l k. o v w (omega arith) (omega arith)) (λ w l. t w (omega arith)))
+    go (leb b (f (tried n))) (leastFrom f b n) (least-below f b n)
+    ∙ ap₂ (λ (c : Bool) (y : Option ℕ). choose (lesser g) c (tried n) y) (t (tried n) last) (least-like f g b b′ n (λ v w l k. o v w (omega arith) (omega arith)) (λ w l. t w (omega arith)))
   where
-    go : (c : Bool) (y : Option ℕ) → May (λ (w : ℕ). w < n) y → choose (lesser f) c n y ≡ choose (lesser g) c n y
+    last : tried n < suc n
+    last = omega (arith, tried-low n)
+
+    go : (c : Bool) (y : Option ℕ) → May (λ (w : ℕ). w < n) y → choose (lesser f) c (tried n) y ≡ choose (lesser g) c (tried n) y
     go true none l = refl
-    go true (some y) l = ap (λ (c : Bool). some (cond c n y)) (o n y (omega arith) (omega arith))
+    go true (some y) l = ap (λ (c : Bool). some (cond c (tried n) y)) (o (tried n) y last (omega arith))
     go false y l = refl
 
 -- keys that agree
