@@ -1,5 +1,5 @@
 // The moves of the queue: a path inserted, the last ones cut off, those with few blocks removed. Entries move within the array; nothing else is
-// touched.
+// touched. Relies on entries.rt; machine/specs/Queue says what each move is, specs/Entries.antt which queue an array holds.
 ghost use mathlib.Core.Path.{_≡_};
 ghost use Prim.Native.Nat.{ℕ, suc, _+_, _/_, _≤_, _<_};
 ghost use lib.ListN.{length, getD, take};
