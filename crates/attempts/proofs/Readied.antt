@@ -29,7 +29,7 @@ use Rattle.checks.specs.declared.Checked.{Checked}
 use Rattle.checks.specs.declared.Checked.the-variants.{Good, Bad}
 use Rattle.checks.specs.Checks.{admittedAs}
 use Rattle.checks.proofs.Admitted.{admittedBy, admitted}
-use Rattle.checks.proofs.Fitting.{Sized, settings-fit, lengthsOf, lengths-fit}
+use Rattle.checks.proofs.Fitting.{LengthsRight, settings-fit, lengthsOf, lengths-fit}
 use Rattle.reading.specs.Running.{Tables}
 use Rattle.extraction.proofs.Counts.{blocks-few}
 use Rattle.attempts.specs.Attempt.{Ready, fitsFor}
@@ -118,7 +118,7 @@ module _ (B : Book) (c : Input) (l : Lent) (fits : Bool) where
     pub admission-same : {b : Bool} → b ≡ fits → admittedAs b n k count (c .L) (c .D) (c .T) (lengthsOf c l) (c .values) ≡ admission
     admission-same e = rw (e, p, q, r) refl
 
-    pub sized-same : Free B c l → Sized n k count (c .L) (c .D) (lengthsOf c l)
+    pub sized-same : Free B c l → LengthsRight n k count (c .L) (c .D) (lengthsOf c l)
     sized-same f = rw (p, q, r) (f .sized)
 
 -- ---- what a call asks of k besides

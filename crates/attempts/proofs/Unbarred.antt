@@ -9,13 +9,13 @@ use lib.Dec.{T}
 use Rattle.laws.proofs.Tests.{and-left, and-right}
 use Rattle.codebook.specs.Book.{Book, freeCount}
 use Rattle.machine.specs.Calls.{Input, Lent, settingsOk, lentOk, valuesOk, barred}
-use Rattle.checks.proofs.Fitting.{Ranged, Sized, settings-tell, lengths-tell, settings-fit, lengths-fit, lengthsOf}
+use Rattle.checks.proofs.Fitting.{Ranged, LengthsRight, settings-tell, lengths-tell, settings-fit, lengths-fit, lengthsOf}
 use Rattle.runs.proofs.Handed.{all-pass}
 
 -- nothing bars the call
 pub record Free (B : Book) (c : Input) (l : Lent) : Type 0 where
   pub ranged : Ranged (c .L) (c .D) (c .T)
-  pub sized : Sized (2 ^ (B .m)) (freeCount (B .kinds)) (length (B .blocks)) (c .L) (c .D) (lengthsOf c l)
+  pub sized : LengthsRight (2 ^ (B .m)) (freeCount (B .kinds)) (length (B .blocks)) (c .L) (c .D) (lengthsOf c l)
   pub valued : T (valuesOk (c .values))
 
 -- what the call asks of k besides holds

@@ -9,7 +9,7 @@ use Rattle.codebook.specs.Loading.{load, shapeOf}
 use Rattle.codec.specs.Calls.{readRecordCall}
 use Rattle.slices.specs.Slices.{recordSlice}
 use Rattle.slices.proofs.Written.{at-length, at-other}
-use Rattle.capi.specs.Answers.{mismatchNumber, loadAnswer, readRecordAnswer}
+use Rattle.capi.specs.Answers.{lengthMismatch, loadAnswer, readRecordAnswer}
 
 -- load's two answers
 pub load-written : (book shape : List ℕ) → length shape ≡ 3 →
@@ -18,7 +18,7 @@ unfolding loadAnswer
 load-written book shape e = at-length _ _ (length shape) 3 e
 
 pub load-left : (book shape : List ℕ) → (length shape ≡ 3 → ⊥) →
-    loadAnswer book shape ≡ (record { number = mismatchNumber (shapeOf (load book) .outcome); slice = shape })
+    loadAnswer book shape ≡ (record { number = lengthMismatch (shapeOf (load book) .outcome); slice = shape })
 unfolding loadAnswer
 load-left book shape f = at-other _ _ (length shape) 3 f
 
@@ -29,7 +29,7 @@ unfolding readRecordAnswer
 record-written book ds hook e = at-length _ _ (length hook) 4 e
 
 pub record-left : (book ds hook : List ℕ) → (length hook ≡ 4 → ⊥) →
-    readRecordAnswer book ds hook ≡ (record { number = mismatchNumber (shapeOf (load book) .outcome); slice = hook })
+    readRecordAnswer book ds hook ≡ (record { number = lengthMismatch (shapeOf (load book) .outcome); slice = hook })
 unfolding readRecordAnswer
 record-left book ds hook f = at-other _ _ (length hook) 4 f
 

@@ -26,16 +26,16 @@ pub record Answer : Type 0 where
   pub slice : List ℕ
 
 -- the number where a slice is lent at a wrong length: the book's fault, else 7
-abbrev pub mismatchNumber : Outcome → ℕ
-mismatchNumber Done = number Mismatch
-mismatchNumber (Refused r) = number r
+abbrev pub lengthMismatch : Outcome → ℕ
+lengthMismatch Done = number Mismatch
+lengthMismatch (Refused r) = number r
 
 -- load: the shape is n, k and V
 unfoldable pub loadAnswer : List ℕ → List ℕ → Answer
 loadAnswer book shape =
     let s = shapeOf (load book) in
     let written : Answer = record { number = outcomeNumber (s .outcome); slice = s .n ∷ s .k ∷ s .blocks ∷ [] } in
-    let left : Answer = record { number = mismatchNumber (s .outcome); slice = shape } in
+    let left : Answer = record { number = lengthMismatch (s .outcome); slice = shape } in
     cond (eqb (length shape) 3) written left
 
 -- test: 0 in the code, 255 not in the code, else the refusal
@@ -65,5 +65,5 @@ unfoldable pub readRecordAnswer : List ℕ → List ℕ → List ℕ → Answer
 readRecordAnswer book ds hook =
     let x = readRecordCall book ds in
     let written : Answer = record { number = outcomeNumber (x .outcome); slice = recordSlice (x .hook) } in
-    let left : Answer = record { number = mismatchNumber (shapeOf (load book) .outcome); slice = hook } in
+    let left : Answer = record { number = lengthMismatch (shapeOf (load book) .outcome); slice = hook } in
     cond (eqb (length hook) 4) written left

@@ -21,11 +21,11 @@ ghost use Rattle.codec.specs.Record.{statusOf};
 ghost use Rattle.codec.specs.Calls.{encodeCall, testCall, readDataCall};
 ghost use Rattle.attempts.specs.Given.{given, lent};
 ghost use Rattle.slices.specs.Slices.{plainAnswered, hookAnswered};
-ghost use Rattle.capi.specs.Answers.{mismatchNumber, loadAnswer, testedNumber, makeRecordWrote, recordFrom, readRecordAnswer};
+ghost use Rattle.capi.specs.Answers.{lengthMismatch, loadAnswer, testedNumber, makeRecordWrote, recordFrom, readRecordAnswer};
 
 // The number where a slice is lent at a wrong length.
 fn mismatch_number(o: Outcome) -> u32
-    ensures { λ r. ⌜ r ≡ mismatchNumber o ⌝ }
+    ensures { λ r. ⌜ r ≡ lengthMismatch o ⌝ }
 {
     match o {
         Outcome::Done => 7,

@@ -110,7 +110,7 @@ unfolding lengthsFit lentOk numbersNeeded bytesNeeded walkNeeded wordFits dataFi
 lengths-fit B c l = refl
 
 -- each length is right
-pub record Sized (n k count L D : ℕ) (l : Lengths) : Type 0 where
+pub record LengthsRight (n k count L D : ℕ) (l : Lengths) : Type 0 where
   pub values : l .values ≡ n
   pub word : l .word ≡ n
   pub bits : l .bits ≡ k
@@ -120,7 +120,7 @@ pub record Sized (n k count L D : ℕ) (l : Lengths) : Type 0 where
   pub blocks : L * count + 1 ≤ l .blocks
   pub scores : L * count + 1 ≤ l .scores
 
-pub lengths-tell : (n k count L D : ℕ) (l : Lengths) → Tells (lengthsFit n k count L D l) (Sized n k count L D l)
+pub lengths-tell : (n k count L D : ℕ) (l : Lengths) → Tells (lengthsFit n k count L D l) (LengthsRight n k count L D l)
 unfolding lengthsFit
 lengths-tell n k count L D l =
     let exact = both (both (tells-eq (l .values) n) (tells-eq (l .word) n)) (tells-eq (l .bits) k) in

@@ -1,4 +1,4 @@
-pub mod Admitted
-pub mod Cleared
 pub mod Fitting
+pub mod Admitted
 pub mod Valued
+pub mod Cleared

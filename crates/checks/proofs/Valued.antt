@@ -1,6 +1,6 @@
 -- The check of the soft values, one at a time: a value in -2,047 to 2,047 leaves the answer to the rest, another ends it. By the test of a
 -- magnitude. Assumes nothing.
-use mathlib.Core.Path.{_≡_, refl, sym, ap, _∙_, subst}
+use mathlib.Core.Path.{_≡_, refl, sym, ap, _∙_}
 use mathlib.Core.Bool.{Bool, true, false, _&&_}
 use mathlib.Core.List.{List}
 use Prim.Native.Nat.{ℕ, suc, _+_, _<_}
@@ -10,12 +10,10 @@ use lib.IntN.{ℤ, pos, negsuc, natAbs}
 use lib.ListN.{length, getD, drop}
 use lib.Seq.{drop-cons, drop-length}
 use lib.Signed.{ltZ}
-use lib.Dec.{T, leb}
+use lib.Dec.{leb}
 use borrow.Author.Tests.{le-leb, lt-leb, ltb-true, ltb-false}
+use Rattle.laws.proofs.Tests.{apart}
 use Rattle.machine.specs.Calls.{valuesOk}
-
-apart : {X : Type 0} → true ≡ false → X
-apart e = absurd (subst T e tt)
 
 -- ---- the test of one value
 

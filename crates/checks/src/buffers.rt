@@ -1,4 +1,4 @@
-// Buffers after a run: the workspace cleared, the final word handed out.
+// Buffers after a run: the workspace cleared, the final word handed out. Relies on no other file; polar/specs/Layers says what a part is.
 ghost use mathlib.Core.Path.{_≡_};
 ghost use mathlib.Core.List.{_++_};
 ghost use Prim.Native.Nat.{_+_, _≤_};

@@ -1,4 +1,5 @@
 // The settings of a decoding call: how often a block may be visited (L), how many paths may be alive (D), and the limit of the discrepancy (T).
+// Relies on no other file; specs/Checks.antt says what their check answers.
 ghost use mathlib.Core.Path.{_≡_};
 ghost use Rattle.checks.specs.Checks.{checkedAs};
 use crate::Checked;

@@ -1,4 +1,5 @@
-// Tests of what a decoding call is given and lent: the values and the lengths.
+// Tests of what a decoding call is given and lent: the values and the lengths. Relies on no other file; machine/specs/Calls says which values are good,
+// specs/Checks.antt which lengths.
 ghost use mathlib.Core.Path.{_≡_};
 ghost use Prim.Native.Nat.{_≤_};
 ghost use lib.Dec.{leb};

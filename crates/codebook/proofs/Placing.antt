@@ -17,13 +17,13 @@ use Rattle.codebook.specs.declared.Command.the-variants.{Block as NextBl
 use Rattle.codebook.specs.Book.{Kind, free, frozen, tied, Block, freeCount, startOf, blockAt, kindsOf}
 use Rattle.codebook.specs.Loading.{Loading, total, next, bookOf}
 use Rattle.codebook.specs.Tables.{Tables, kindCodes}
-use Rattle.codebook.specs.Progress.{Holds, tables, freeCodes}
+use Rattle.codebook.specs.Progress.{HoldsLoaded, tables, freeCodes}
 use Rattle.codebook.proofs.Codes.{codes-length, codes-part}
 use Rattle.codebook.proofs.Blocks.{start-append, start-last, noBlock}
 
 -- ---- free kinds
 
-free-append : (ks ls : List Kind) → freeCount (ks ++ ls) ≡ freeCount ks + freeCount ls
+pub free-append : (ks ls : List Kind) → freeCount (ks ++ ls) ≡ freeCount ks + freeCount ls
 unfolding freeCount
 free-append [] ls = omega arith
 free-append (free ∷ ks) ls = omega (arith, free-append ks ls)
@@ -40,7 +40,7 @@ free-le (suc n) (tied ts ∷ ks) = omega (arith, free-le n ks)
 
 -- ---- one block more
 
-module _ (p : Progress) (t old : Tables) (s : Loading) (h : Holds p t old s) (j : ℕ) (bias : ℤ) where
+module _ (p : Progress) (t old : Tables) (s : Loading) (h : HoldsLoaded p t old s) (j : ℕ) (bias : ℤ) where
   abbrev x : Block
   x = record { j = j; bias = bias }
 
@@ -64,7 +64,7 @@ module _ (p : Progress) (t old : Tables) (s : Loading) (h : Holds p t old s) (j 
       (codes-part 0 (s .covered) (2 ^ j) (s .kinds))
 
   pub block-holds : (count : ℕ) → length (s .kinds) ≡ total s → p .covered + 2 ^ j ≤ p .n → p .covered < p .n → count ≡ freeCount (take (2 ^ j) (drop (s .covered) (s .kinds)))
-      → Holds (record { m = p .m; n = p .n; filled = p .filled; ties = p .ties; tying = false; free = p .free + count; blocks = p .blocks + 1; covered = p .covered + 2 ^ j })
+      → HoldsLoaded (record { m = p .m; n = p .n; filled = p .filled; ties = p .ties; tying = false; free = p .free + count; blocks = p .blocks + 1; covered = p .covered + 2 ^ j })
       (tables (t .kinds) (t .terms) (set (t .heights) (p .blocks) j) (set (t .starts) (p .blocks) (p .covered)) (set (t .biases) (p .blocks) bias) (set (t .frees) (p .blocks) count))
       old (next s (NextBlock j bias))
   unfolding next total

@@ -68,7 +68,7 @@ pub record Safe (p : Progress) : Type 0 where
 
 -- The numbers are those of what is loaded: k is counted as far as the blocks go. After a tie or a term the last kind is tied and there is no
 -- block; where there is a block, all indices are filled.
-pub record Counts (p : Progress) (s : Loading) : Type 0 where
+pub record CountsLoaded (p : Progress) (s : Loading) : Type 0 where
   pub safe : Safe p
   pub m : p .m ≡ s .m
   pub n : p .n ≡ total s
@@ -94,8 +94,8 @@ pub record Sized (t : Tables) : Type 0 where
   pub frees : length (t .frees) ≡ 512
 
 -- the tables t, which were old at first, are those of what is loaded, as far as it goes
-pub record Holds (p : Progress) (t old : Tables) (s : Loading) : Type 0 where
-  pub counts : Counts p s
+pub record HoldsLoaded (p : Progress) (t old : Tables) (s : Loading) : Type 0 where
+  pub counts : CountsLoaded p s
   pub sized : Sized old
   pub kinds : t .kinds ≡ over (kindCodes 0 (s .kinds)) (old .kinds)
   pub terms : t .terms ≡ over (tab (total s) (tieSet 0 (s .kinds))) (old .terms)
@@ -124,7 +124,7 @@ Judged (some r) end P x = x ≡ Refused r
 -- loaded so far, and whatever the tables first held.
 abbrev pub Obeys : Progress → Command → Bool → Tables → Tables → Step → Type 0
 Obeys p c whole t u x =
-    (old : Tables) (s : Loading) → Holds p t old s → Judged (verdict s c whole) (isEnd c) (λ q. Holds q u old (next s c)) x
+    (old : Tables) (s : Loading) → HoldsLoaded p t old s → Judged (verdict s c whole) (isEnd c) (λ q. HoldsLoaded q u old (next s c)) x
 
 -- the command of a run of indices with this code, 0 free or 1 zero
 unfoldable pub runOf : ℕ → ℕ → Command

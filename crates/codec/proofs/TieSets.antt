@@ -34,8 +34,8 @@ tieTerms (tied ts ∷ ks) zero = ts
 tieTerms (tied ts ∷ ks) (suc t) = tieTerms ks t
 
 -- the set of the parities of the ties over the bits u
-pub paritySet : List Kind → List ℕ → ℕ
-paritySet ks u = setOf 32 (λ t. parity u (tieTerms ks t))
+pub tieParities : List Kind → List ℕ → ℕ
+tieParities ks u = setOf 32 (λ t. parity u (tieTerms ks t))
 
 -- ---- the set of the ties that index i is a term of
 
@@ -98,22 +98,22 @@ unfolding parity
 parity-none [] = refl
 parity-none (i ∷ ts) = let e = parity-none ts in omega arith
 
-pub parities-none : (ks : List Kind) → 0 ≡ paritySet ks []
-unfolding paritySet
-parities-none ks = sym (set-same 32 _ (λ t. 0) (λ t l. parity-none (tieTerms ks t)) ∙ set-none 32)
+pub tie-parities-none : (ks : List Kind) → 0 ≡ tieParities ks []
+unfolding tieParities
+tie-parities-none ks = sym (set-same 32 _ (λ t. 0) (λ t l. parity-none (tieTerms ks t)) ∙ set-none 32)
 
 module _ (ks : List Kind) (u : List ℕ) where
-  pub parity-of : (t : ℕ) → t < 32 → paritySet ks u / 2 ^ t % 2 ≡ parity u (tieTerms ks t)
-  unfolding paritySet
+  pub parity-of : (t : ℕ) → t < 32 → tieParities ks u / 2 ^ t % 2 ≡ parity u (tieTerms ks t)
+  unfolding tieParities
   parity-of t h = set-member 32 (λ t. parity u (tieTerms ks t)) t (λ t l. parity-bit u (tieTerms ks t)) h
 
   -- one bit more
-  pub parities-next : (b : ℕ) → tiedCount ks ≤ 32 → KindsOk 0 ks → Bit b → absorbed (paritySet ks u) b (tieSet 0 ks (length u)) ≡ paritySet ks (u ++ b ∷ [])
-  unfolding paritySet absorbed mark
+  pub parities-next : (b : ℕ) → tiedCount ks ≤ 32 → KindsOk 0 ks → Bit b → absorbed (tieParities ks u) b (tieSet 0 ks (length u)) ≡ tieParities ks (u ++ b ∷ [])
+  unfolding tieParities absorbed mark
   parities-next zero few ok h =
       set-same 32 _ _ (λ t l. sym (parity-snoc u 0 (tieTerms ks t) ∙ omega (arith, parity-bit u (tieTerms ks t))))
   parities-next (suc zero) few ok h =
-      ap (λ x. bitXor (paritySet ks u) x) (tie-set 0 32 ks (length u) few ∙ one-mul _)
+      ap (λ x. bitXor (tieParities ks u) x) (tie-set 0 32 ks (length u) few ∙ one-mul _)
       ∙ set-xor 32 (λ t. parity u (tieTerms ks t)) (λ t. mark ks (length u) t) (λ t l. parity-bit u (tieTerms ks t)) (λ t l. mark-bit (member (length u) (tieTerms ks t)))
       ∙ set-same 32 _ _ (λ t l. sym (parity-snoc u 1 (tieTerms ks t) ∙ omega (arith, times-once (length u) (tieTerms ks t) (terms-once 0 ks t ok))))
   parities-next (suc (suc b)) few ok h = absurd (omega arith)

@@ -15,8 +15,7 @@ use Rattle.laws.proofs.Lists.{length-snoc}
 use Rattle.polar.specs.Bits.{Bit, toBits}
 use Rattle.codebook.specs.Book.{Book, Kind, free, frozen, tied, freeCount, startOf, kindsOf, blockAt}
 use Rattle.codec.specs.Code.{parity, fill}
-use Rattle.codec.specs.Ties.{Parities, times, names, sumAt, absorb, Filling, push, fillFrom, fillBlock}
-unfoldable pub use Rattle.codec.specs.Ties.{paritiesOf, filled}
+use Rattle.codec.specs.Ties.{Parities, times, names, sumAt, absorb, Filling, push, fillFrom, fillBlock, paritiesOf, filled}
 use Rattle.codec.proofs.Fill.{parity-bit}
 
 -- ---- one bit more

@@ -22,45 +22,46 @@ use Rattle.codebook.specs.Tables.{kindCodes, tieSet}
 use Rattle.codec.specs.Code.{parity, fill, freeBits, obeys, obeysAll}
 use Rattle.codec.specs.Tabled.{Coded, Tabled, forced, absorbed}
 use Rattle.codec.proofs.Fill.{parity-front}
-use Rattle.codec.proofs.TieSets.{tieTerms, paritySet, parities-none, parity-of, parities-next}
+use Rattle.codec.proofs.TieSets.{tieTerms, tieParities, tie-parities-none, parity-of, parities-next}
 
 -- ---- the code of an index
 
--- what the code c says of a kind, after s ties: of a tied one which tie it is
-CodeOf : ℕ → List Kind → Kind → ℕ → Type 0
-CodeOf s ks free c = c ≡ 0
-CodeOf s ks frozen c = c ≡ 1
-CodeOf s ks (tied ts) c = (t : ℕ) × (c ≡ 2 + (s + t)) × (t < tiedCount ks) × (tieTerms ks t ≡ ts)
+-- what the code c says of a kind, after s ties: a tied one is the t-th
+unfoldable pub CodeOf : ℕ → List Kind → ℕ → Kind → ℕ → Type 0
+CodeOf s ks t free c = c ≡ 0
+CodeOf s ks t frozen c = c ≡ 1
+CodeOf s ks t (tied ts) c = (c ≡ 2 + (s + t)) × (t < tiedCount ks) × (tieTerms ks t ≡ ts)
 
 -- behind one kind more
-module _ (s : ℕ) (ks : List Kind) (c : ℕ) where
-  past-free : (k : Kind) → CodeOf s ks k c → CodeOf s (free ∷ ks) k c
+module _ (s : ℕ) (ks : List Kind) (t c : ℕ) where
+  past-free : (k : Kind) → CodeOf s ks t k c → CodeOf s (free ∷ ks) t k c
   unfolding CodeOf tiedCount tieTerms
   past-free free h = h
   past-free frozen h = h
   past-free (tied ts) h = h
 
-  past-frozen : (k : Kind) → CodeOf s ks k c → CodeOf s (frozen ∷ ks) k c
+  past-frozen : (k : Kind) → CodeOf s ks t k c → CodeOf s (frozen ∷ ks) t k c
   unfolding CodeOf tiedCount tieTerms
   past-frozen free h = h
   past-frozen frozen h = h
   past-frozen (tied ts) h = h
 
-  past-tied : (us : List ℕ) (k : Kind) → CodeOf (suc s) ks k c → CodeOf s (tied us ∷ ks) k c
+  past-tied : (us : List ℕ) (k : Kind) → CodeOf (suc s) ks t k c → CodeOf s (tied us ∷ ks) (suc t) k c
   unfolding CodeOf tiedCount tieTerms
   past-tied us free h = h
   past-tied us frozen h = h
-  past-tied us (tied ts) (t, e, l, q) = (suc t, omega arith, omega arith, q)
+  past-tied us (tied ts) (e, l, q) = (omega arith, omega arith, q)
 
-code-at : (s : ℕ) (ks : List Kind) (i : ℕ) → i < length ks → CodeOf s ks (getD ks i frozen) (getD (kindCodes s ks) i 0)
-unfolding kindCodes
+-- a tied index is that of as many ties as come before it
+pub code-at : (s : ℕ) (ks : List Kind) (i : ℕ) → i < length ks → CodeOf s ks (tiedCount (take i ks)) (getD ks i frozen) (getD (kindCodes s ks) i 0)
+unfolding kindCodes tiedCount
 code-at s [] i h = absurd (omega arith)
 code-at s (free ∷ ks) zero h = unfold CodeOf in refl
 code-at s (frozen ∷ ks) zero h = unfold CodeOf in refl
-code-at s (tied ts ∷ ks) zero h = unfold CodeOf tiedCount tieTerms in (0, omega arith, omega arith, refl)
-code-at s (free ∷ ks) (suc i) h = past-free s ks _ (getD ks i frozen) (code-at s ks i (le-of-suc-le-suc h))
-code-at s (frozen ∷ ks) (suc i) h = past-frozen s ks _ (getD ks i frozen) (code-at s ks i (le-of-suc-le-suc h))
-code-at s (tied ts ∷ ks) (suc i) h = past-tied s ks _ ts (getD ks i frozen) (code-at (suc s) ks i (le-of-suc-le-suc h))
+code-at s (tied ts ∷ ks) zero h = unfold CodeOf tieTerms in (omega arith, omega arith, refl)
+code-at s (free ∷ ks) (suc i) h = past-free s ks _ _ (getD ks i frozen) (code-at s ks i (le-of-suc-le-suc h))
+code-at s (frozen ∷ ks) (suc i) h = past-frozen s ks _ _ (getD ks i frozen) (code-at s ks i (le-of-suc-le-suc h))
+code-at s (tied ts ∷ ks) (suc i) h = past-tied s ks _ _ ts (getD ks i frozen) (code-at (suc s) ks i (le-of-suc-le-suc h))
 
 kind-at : (s : ℕ) (ks : List Kind) (i : ℕ) → i < length ks → KindsOk s ks → KindOk (s + i) (getD ks i frozen)
 unfolding KindsOk
@@ -72,10 +73,10 @@ kind-at s (k ∷ ks) (suc i) h o =
 
 -- by the kind of index i: the table's code says it
 module _ {ks : List Kind} {kinds : List ℕ} (c : Coded ks kinds) (i : ℕ) (h : i < length ks) where
-  code-here : CodeOf 0 ks (getD ks i frozen) (getD kinds i 0)
-  code-here = subst (CodeOf 0 ks (getD ks i frozen)) (sym (ap (λ l. getD l i 0) (c .codes)) ∙ getD-take (length ks) kinds i 0 h) (code-at 0 ks i h)
+  code-here : CodeOf 0 ks (tiedCount (take i ks)) (getD ks i frozen) (getD kinds i 0)
+  code-here = subst (CodeOf 0 ks (tiedCount (take i ks)) (getD ks i frozen)) (sym (ap (λ l. getD l i 0) (c .codes)) ∙ getD-take (length ks) kinds i 0 h) (code-at 0 ks i h)
 
-  by-kind : (P : List Kind → Type 0) → ((k : Kind) → getD ks i frozen ≡ k → CodeOf 0 ks k (getD kinds i 0) → P (k ∷ drop (i + 1) ks)) → P (drop i ks)
+  by-kind : (P : List Kind → Type 0) → ((k : Kind) → getD ks i frozen ≡ k → CodeOf 0 ks (tiedCount (take i ks)) k (getD kinds i 0) → P (k ∷ drop (i + 1) ks)) → P (drop i ks)
   by-kind P f =
       let e : getD ks i frozen ∷ drop (i + 1) ks ≡ drop i ks = ap (λ n. getD ks i frozen ∷ drop n ks) (add-one i) ∙ sym (drop-cons ks i frozen h) in
       subst P e (f (getD ks i frozen) refl code-here)
@@ -85,19 +86,19 @@ module _ {ks : List Kind} {kinds : List ℕ} (c : Coded ks kinds) (i : ℕ) (h :
   unfolding CodeOf
   free-here z = by-kind (λ l. free ∷ drop (i + 1) ks ≡ l) go
     where
-      go : (k : Kind) → getD ks i frozen ≡ k → CodeOf 0 ks k (getD kinds i 0) → free ∷ drop (i + 1) ks ≡ k ∷ drop (i + 1) ks
+      go : (k : Kind) → getD ks i frozen ≡ k → CodeOf 0 ks (tiedCount (take i ks)) k (getD kinds i 0) → free ∷ drop (i + 1) ks ≡ k ∷ drop (i + 1) ks
       go free q e = refl
       go frozen q e = absurd (omega arith)
-      go (tied ts) q (t, e, _, _) = absurd (omega arith)
+      go (tied ts) q (e, _, _) = absurd (omega arith)
 
 pub code-lt : {ks : List Kind} {kinds terms : List ℕ} → Tabled ks kinds terms → (i : ℕ) → i < length ks → getD kinds i 0 < 34
 unfolding CodeOf
 code-lt {ks} {kinds} T i h = by-kind (T .coded) i h (λ l. getD kinds i 0 < 34) go
   where
-    go : (k : Kind) → getD ks i frozen ≡ k → CodeOf 0 ks k (getD kinds i 0) → getD kinds i 0 < 34
+    go : (k : Kind) → getD ks i frozen ≡ k → CodeOf 0 ks (tiedCount (take i ks)) k (getD kinds i 0) → getD kinds i 0 < 34
     go free q e = omega arith
     go frozen q e = omega arith
-    go (tied ts) q (t, e, l, p) = let f = T .few in omega arith
+    go (tied ts) q (e, l, p) = let f = T .few in omega arith
 
 -- ---- the bit that an index must have
 
@@ -105,11 +106,11 @@ forced-frozen : (code x : ℕ) → code ≡ 1 → forced code x ≡ 0
 unfolding forced
 forced-frozen code x e = ap (λ b. cond b 0 (x / 2 ^ (code - 2) % 2)) (lt-ltb code 2 (omega arith))
 
-forced-tied : (ks : List Kind) (u : List ℕ) (code t : ℕ) → code ≡ 2 + (0 + t) → t < 32 → forced code (paritySet ks u) ≡ parity u (tieTerms ks t)
+forced-tied : (ks : List Kind) (u : List ℕ) (code t : ℕ) → code ≡ 2 + (0 + t) → t < 32 → forced code (tieParities ks u) ≡ parity u (tieTerms ks t)
 unfolding forced
 forced-tied ks u code t e h =
     let d : code - 2 ≡ t = omega arith in
-    ap (λ b. cond b 0 (paritySet ks u / 2 ^ (code - 2) % 2)) (le-ltb code 2 (omega arith)) ∙ ap (λ n. paritySet ks u / 2 ^ n % 2) d ∙ parity-of ks u t h
+    ap (λ b. cond b 0 (tieParities ks u / 2 ^ (code - 2) % 2)) (le-ltb code 2 (omega arith)) ∙ ap (λ n. tieParities ks u / 2 ^ n % 2) d ∙ parity-of ks u t h
 
 forced-bit : (code x : ℕ) → Bit (forced code x)
 unfolding forced
@@ -118,32 +119,32 @@ forced-bit code x = cond-case Bit (ltb code 2) (λ _. omega arith) (λ _. mod-bi
 -- ---- filling
 
 -- u, the bits before index i, goes on to the whole; x is the set of its parities, and the data from `next` on fill the free indices left
-pub record Filling (ks : List Kind) (ds u : List ℕ) (i next x : ℕ) : Type 0 where
+pub record PartFilled (ks : List Kind) (ds u : List ℕ) (i next x : ℕ) : Type 0 where
   pub size : length u ≡ i
   pub rest : fill u (drop i ks) (drop next ds) ≡ fill [] ks ds
   pub left : next + freeCount (drop i ks) ≡ length ds
-  pub parities : x ≡ paritySet ks u
+  pub parities : x ≡ tieParities ks u
 
-pub fill-start : (ks : List Kind) (ds : List ℕ) → freeCount ks ≡ length ds → Filling ks ds [] 0 0 0
-fill-start ks ds e = record { size = refl; rest = refl; left = omega arith; parities = parities-none ks }
+pub fill-start : (ks : List Kind) (ds : List ℕ) → freeCount ks ≡ length ds → PartFilled ks ds [] 0 0 0
+fill-start ks ds e = record { size = refl; rest = refl; left = omega arith; parities = tie-parities-none ks }
 
-pub fill-end : {ks : List Kind} {ds u : List ℕ} {i next x : ℕ} → Filling ks ds u i next x → length ks ≤ i → u ≡ fill [] ks ds
+pub fill-end : {ks : List Kind} {ds u : List ℕ} {i next x : ℕ} → PartFilled ks ds u i next x → length ks ≤ i → u ≡ fill [] ks ds
 unfolding fill
 fill-end {ks} {ds} {u} {i} {next} f h = ap (λ l. fill u l (drop next ds)) (sym (drop-of-length-le ks h)) ∙ f .rest
 
 module _ {ks : List Kind} {kinds terms : List ℕ} (T : Tabled ks kinds terms) where
   -- the parities take one bit more
-  absorb : (u : List ℕ) {i x : ℕ} (b : ℕ) → length u ≡ i → i < length ks → x ≡ paritySet ks u → Bit b → absorbed x b (getD terms i 0) ≡ paritySet ks (u ++ b ∷ [])
+  absorb : (u : List ℕ) {i x : ℕ} (b : ℕ) → length u ≡ i → i < length ks → x ≡ tieParities ks u → Bit b → absorbed x b (getD terms i 0) ≡ tieParities ks (u ++ b ∷ [])
   absorb u {i} {x} b s h e k =
       ap₂ (λ p n. absorbed p b n) e (T .sets i h ∙ ap (tieSet 0 ks) (sym s)) ∙ parities-next ks u b (T .few) (T .ok) k
 
-  module _ {ds u : List ℕ} {i next x : ℕ} (f : Filling ks ds u i next x) (h : i < length ks) where
+  module _ {ds u : List ℕ} {i next x : ℕ} (f : PartFilled ks ds u i next x) (h : i < length ks) where
     -- a free index takes the next data bit
     pub fill-free-room : getD kinds i 0 ≡ 0 → next < length ds
     unfolding freeCount
     fill-free-room z = omega (arith, f .left, ap freeCount (free-here (T .coded) i h z))
 
-    pub fill-free : getD kinds i 0 ≡ 0 → All Bit ds → Filling ks ds (u ++ getD ds next 0 ∷ []) (i + 1) (next + 1) (absorbed x (getD ds next 0) (getD terms i 0))
+    pub fill-free : getD kinds i 0 ≡ 0 → All Bit ds → PartFilled ks ds (u ++ getD ds next 0 ∷ []) (i + 1) (next + 1) (absorbed x (getD ds next 0) (getD terms i 0))
     unfolding freeCount fill
     fill-free z k =
         let r = fill-free-room z in
@@ -158,7 +159,7 @@ module _ {ks : List Kind} {kinds terms : List ℕ} (T : Tabled ks kinds terms) w
         }
 
     -- another index takes the bit that it must have
-    pub fill-forced : (getD kinds i 0 ≡ 0 → ⊥) → Filling ks ds (u ++ forced (getD kinds i 0) x ∷ []) (i + 1) next (absorbed x (forced (getD kinds i 0) x) (getD terms i 0))
+    pub fill-forced : (getD kinds i 0 ≡ 0 → ⊥) → PartFilled ks ds (u ++ forced (getD kinds i 0) x ∷ []) (i + 1) next (absorbed x (forced (getD kinds i 0) x) (getD terms i 0))
     unfolding CodeOf freeCount fill
     fill-forced z =
         let b : ℕ = forced (getD kinds i 0) x in
@@ -168,13 +169,13 @@ module _ {ks : List Kind} {kinds terms : List ℕ} (T : Tabled ks kinds terms) w
         Next : Type 0
         Next = (fill (u ++ forced (getD kinds i 0) x ∷ []) (drop (i + 1) ks) (drop next ds) ≡ fill [] ks ds) × (next + freeCount (drop (i + 1) ks) ≡ length ds)
 
-        go : (k : Kind) → getD ks i frozen ≡ k → CodeOf 0 ks k (getD kinds i 0) → fill u (k ∷ drop (i + 1) ks) (drop next ds) ≡ fill [] ks ds →
+        go : (k : Kind) → getD ks i frozen ≡ k → CodeOf 0 ks (tiedCount (take i ks)) k (getD kinds i 0) → fill u (k ∷ drop (i + 1) ks) (drop next ds) ≡ fill [] ks ds →
             next + freeCount (k ∷ drop (i + 1) ks) ≡ length ds → Next
         go free q e p l = absurd (z e)
         go frozen q e p l = (ap (λ b. fill (u ++ b ∷ []) (drop (i + 1) ks) (drop next ds)) (forced-frozen (getD kinds i 0) x e) ∙ p, l)
-        go (tied ts) q (t, e, m, o) p l =
+        go (tied ts) q (e, m, o) p l =
             let w = T .few in
-            let v : forced (getD kinds i 0) x ≡ parity u ts = ap (forced (getD kinds i 0)) (f .parities) ∙ forced-tied ks u (getD kinds i 0) t e (omega arith) ∙ ap (parity u) o in
+            let v : forced (getD kinds i 0) x ≡ parity u ts = ap (forced (getD kinds i 0)) (f .parities) ∙ forced-tied ks u (getD kinds i 0) _ e (omega arith) ∙ ap (parity u) o in
             (ap (λ b. fill (u ++ b ∷ []) (drop (i + 1) ks) (drop next ds)) v ∙ p, l)
 
 -- ---- testing
@@ -182,10 +183,10 @@ module _ {ks : List Kind} {kinds terms : List ℕ} (T : Tabled ks kinds terms) w
 -- whether u obeys goes by the indices from i on; x is the set of the parities before
 pub record Obeying (ks : List Kind) (u : List ℕ) (i x : ℕ) : Type 0 where
   pub rest : obeysAll u i (drop i ks) ≡ obeysAll u 0 ks
-  pub parities : x ≡ paritySet ks (take i u)
+  pub parities : x ≡ tieParities ks (take i u)
 
 pub obey-start : (ks : List Kind) (u : List ℕ) → Obeying ks u 0 0
-obey-start ks u = record { rest = refl; parities = parities-none ks }
+obey-start ks u = record { rest = refl; parities = tie-parities-none ks }
 
 pub obey-end : {ks : List Kind} {u : List ℕ} {i x : ℕ} → Obeying ks u i x → length ks ≤ i → true ≡ obeysAll u 0 ks
 unfolding obeysAll
@@ -197,7 +198,7 @@ module _ {ks : List Kind} {kinds terms : List ℕ} (T : Tabled ks kinds terms) {
       record {
         rest = e ∙ o .rest;
         parities = absorb T (take i u) (getD u i 0) (length-take-le i u (omega arith)) h (o .parities) (all-at Bit u i 0 (omega arith) k)
-            ∙ ap (paritySet ks) (sym (ap (λ n. take n u) (add-one i) ∙ take-suc u i 0 (omega arith)));
+            ∙ ap (tieParities ks) (sym (ap (λ n. take n u) (add-one i) ∙ take-suc u i 0 (omega arith)));
       }
 
   pub obey-free : getD kinds i 0 ≡ 0 → All Bit u → Obeying ks u (i + 1) (absorbed x (getD u i 0) (getD terms i 0))
@@ -212,15 +213,15 @@ module _ {ks : List Kind} {kinds terms : List ℕ} (T : Tabled ks kinds terms) {
       both : (b c : ℕ) → b ≡ c → (eqb (getD u i 0) b && obeysAll u (suc i) (drop (i + 1) ks)) ≡ (eqb (getD u i 0) c && obeysAll u (i + 1) (drop (i + 1) ks))
       both b c e = ap₂ (λ d n. eqb (getD u i 0) d && obeysAll u n (drop (i + 1) ks)) e (sym (add-one i))
 
-      go : (k : Kind) → getD ks i frozen ≡ k → CodeOf 0 ks k (getD kinds i 0) →
+      go : (k : Kind) → getD ks i frozen ≡ k → CodeOf 0 ks (tiedCount (take i ks)) k (getD kinds i 0) →
           obeysAll u i (k ∷ drop (i + 1) ks) ≡ (eqb (getD u i 0) (forced (getD kinds i 0) x) && obeysAll u (i + 1) (drop (i + 1) ks))
       go free q e = absurd (z e)
       go frozen q e = both 0 (forced (getD kinds i 0) x) (sym (forced-frozen (getD kinds i 0) x e))
-      go (tied ts) q (t, e, m, p) =
+      go (tied ts) q (e, m, p) =
           let f = T .few in
           let ok : KindOk i (tied ts) = subst (KindOk i) q (rw (zero-add i) at (kind-at 0 ks i h (T .ok))) in
           let same : take i u ≡ take i (take i u) = sym (take-take i i u (omega arith)) in
-          let v : forced (getD kinds i 0) x ≡ parity (take i u) ts = ap (forced (getD kinds i 0)) (o .parities) ∙ forced-tied ks (take i u) (getD kinds i 0) t e (omega arith) ∙ ap (parity (take i u)) p in
+          let v : forced (getD kinds i 0) x ≡ parity (take i u) ts = ap (forced (getD kinds i 0)) (o .parities) ∙ forced-tied ks (take i u) (getD kinds i 0) _ e (omega arith) ∙ ap (parity (take i u)) p in
           both (parity u ts) (forced (getD kinds i 0) x) (parity-front i u (take i u) ts (ok .earlier) same ∙ sym v)
 
   pub obey-right : (getD kinds i 0 ≡ 0 → ⊥) → getD u i 0 ≡ forced (getD kinds i 0) x → All Bit u → Obeying ks u (i + 1) (absorbed x (getD u i 0) (getD terms i 0))
@@ -275,7 +276,7 @@ module _ {ks : List Kind} {kinds : List ℕ} (C : Coded ks kinds) {u ds : List �
   unfolding CodeOf freeCount freeBits
   read-other z = by-kind C i h (λ l. take next ds ++ freeBits l (drop i u) ≡ freeBits ks u → next + freeCount l ≡ length ds → Reading ks u ds (i + 1) next) go (r .rest) (r .left)
     where
-      go : (k : Kind) → getD ks i frozen ≡ k → CodeOf 0 ks k (getD kinds i 0) → take next ds ++ freeBits (k ∷ drop (i + 1) ks) (drop i u) ≡ freeBits ks u →
+      go : (k : Kind) → getD ks i frozen ≡ k → CodeOf 0 ks (tiedCount (take i ks)) k (getD kinds i 0) → take next ds ++ freeBits (k ∷ drop (i + 1) ks) (drop i u) ≡ freeBits ks u →
           next + freeCount (k ∷ drop (i + 1) ks) ≡ length ds → Reading ks u ds (i + 1) next
       go free q e p l = absurd (z e)
       go frozen q e p l = record { rest = ap (λ x. take next ds ++ freeBits (frozen ∷ drop (i + 1) ks) x) bit-here ∙ p; left = l }

@@ -1,4 +1,4 @@
-pub mod Fits
-pub mod Handed
 pub mod Handing
 pub mod Whole
+pub mod Handed
+pub mod Fits

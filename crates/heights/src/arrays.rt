@@ -1,4 +1,5 @@
-// Values of one height from those of the height above, and a block's word, written into arrays of the workspace.
+// Values of one height from those of the height above, and a block's word, written into arrays of the workspace. Relies on the crate polar;
+// specs/Workspace.antt says where an array stands, reader/specs/Arrays what a write leaves.
 ghost use mathlib.Core.Path.{_≡_};
 ghost use mathlib.Core.List.{List};
 ghost use Prim.Native.Nat.{ℕ, suc, _+_, _*_, _^_, _≤_, _<_};

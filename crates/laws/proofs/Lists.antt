@@ -260,6 +260,13 @@ module _ {A : Type 0} (d s : List A) (at : ℕ) where
       ∙ getD-drop (at + i) d (k - (at + i)) z
       ∙ ap (λ n. getD d n z) back
 
+-- ---- a list of zeros
+
+pub getD-zeros : (n i : ℕ) → _≡_ {A = ℕ} (getD (replicate n 0) i 0) 0
+getD-zeros zero i = refl
+getD-zeros (suc n) zero = refl
+getD-zeros (suc n) (suc i) = getD-zeros n i
+
 -- ---- sums
 
 pub sum-bump : (xs : List ℕ) (i : ℕ) → i < length xs → sum (set xs i (suc (getD xs i 0))) ≡ suc (sum xs)

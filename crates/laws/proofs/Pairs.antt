@@ -1,22 +1,13 @@
--- Two lists, or two things that may be there, related element by element; cutting, keeping and mapping both leaves them so. By induction on
--- the lists. Assumes nothing.
+-- Two lists related element by element: cutting, keeping and mapping both leaves them so. By induction on the lists. Assumes nothing.
 use mathlib.Core.Path.{_≡_, refl, ap₂}
 use mathlib.Core.Bool.{Bool, true, false, cond}
 use mathlib.Core.List.{List, [], _∷_, map}
-use mathlib.Core.Option.{Option, none, some}
 use Prim.Native.Nat.{ℕ, zero, suc}
 use lib.ListN.{take, drop}
 use Rattle.laws.specs.Lists.{All, keep}
 use Rattle.laws.specs.Pairs.{Paired}
 
 module _ {A B : Type 0} (R : A → B → Type 0) where
-  -- both are there, and related, or neither is
-  unfoldable pub MayPair : Option A → Option B → Type 0
-  MayPair none none = Unit {0}
-  MayPair none (some y) = ⊥
-  MayPair (some x) none = ⊥
-  MayPair (some x) (some y) = R x y
-
   pub paired-take : (n : ℕ) (xs : List A) (ys : List B) → Paired R xs ys → Paired R (take n xs) (take n ys)
   unfolding Paired
   paired-take zero xs ys h = tt

@@ -21,7 +21,8 @@ set-lt (suc n) f h =
     let k : f n ≤ 1 = omega (arith, h n (omega arith)) in
     omega (arith, set-lt n f (λ t l. h t (omega arith)), two-pow-succ n, mul-le-mul-right (2 ^ n) k, one-mul (2 ^ n))
 
-one-xor : (a b : ℕ) → a < 2 → b < 2 → bitXor a b ≡ (a + b) % 2
+-- of two bits it is their sum modulo 2
+pub one-xor : (a b : ℕ) → a < 2 → b < 2 → bitXor a b ≡ (a + b) % 2
 one-xor zero zero h k = refl
 one-xor zero (suc zero) h k = refl
 one-xor zero (suc (suc b)) h k = absurd (omega arith)

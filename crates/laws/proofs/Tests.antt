@@ -22,6 +22,10 @@ pub T-false : (b : Bool) → T (not b) → b ≡ false
 T-false true t = absurd t
 T-false false t = refl
 
+-- no test both holds and fails
+pub apart : {X : Type 0} → true ≡ false → X
+apart e = absurd (subst T e tt)
+
 -- choices by one test
 pub cond-same : {A : Type 0} (b : Bool) {x y z w : A} → (T b → x ≡ z) → y ≡ w → cond b x y ≡ cond b z w
 cond-same true e f = e tt

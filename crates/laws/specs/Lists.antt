@@ -18,9 +18,9 @@ module _ {A : Type 0} where
   May P (some x) = P x
 
   -- the list has an element
-  unfoldable pub Filled : List A → Type 0
-  Filled [] = ⊥
-  Filled (x ∷ xs) = Unit {0}
+  unfoldable pub NonEmpty : List A → Type 0
+  NonEmpty [] = ⊥
+  NonEmpty (x ∷ xs) = Unit {0}
 
   -- the elements that pass a test, in their order
   unfoldable pub keep : (A → Bool) → List A → List A

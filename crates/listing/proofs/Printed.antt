@@ -10,7 +10,7 @@ use Rattle.codebook.proofs.Loaded.{loaded-valid}
 use Rattle.machine.specs.declared.Decoded.{Decoded}
 use Rattle.machine.specs.Calls.{Input, Lent, plainCall}
 use Rattle.attempts.proofs.Judged.{free-most}
-use Rattle.decoder.proofs.Fits.{Within, plain-within}
+use Rattle.decoder.proofs.Fits.{WalkWithin, plain-within}
 
 pub free-within : (x : Shape) (bytes : List ℕ) → x ≡ shapeOf (load bytes) → x .k ≤ x .n
 unfolding shapeOf
@@ -20,5 +20,5 @@ free-within x bytes e = subst (λ (y : Shape). y .k ≤ y .n) (sym e) (go (load 
     go (refused r) h = omega arith
     go (loaded B) h = omega (arith, free-most (B .kinds), loaded-valid bytes B h .indices)
 
-pub walk-within : (c : Input) (l : Lent) (r : Decoded) → r ≡ plainCall c l .answer → Within (r .counts .extractions) l
-walk-within c l r e = subst (λ (y : Decoded). Within (y .counts .extractions) l) (sym e) (plain-within c l)
+pub walk-within : (c : Input) (l : Lent) (r : Decoded) → r ≡ plainCall c l .answer → WalkWithin (r .counts .extractions) l
+walk-within c l r e = subst (λ (y : Decoded). WalkWithin (y .counts .extractions) l) (sym e) (plain-within c l)

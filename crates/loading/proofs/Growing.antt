@@ -20,11 +20,34 @@ use Rattle.codebook.specs.declared.Command.the-variants.{Length, Tie, Term}
 use Rattle.codebook.specs.Book.{Kind, free, tied, freeCount, tiedCount, startOf}
 use Rattle.codebook.specs.Loading.{Loading, total, lastTerms, member, grown, next}
 use Rattle.codebook.specs.Tables.{Tables, kindCodes, tieSet}
-use Rattle.codebook.specs.Progress.{Holds, withIndices, Extends, kindOf}
+use Rattle.codebook.specs.Progress.{CountsLoaded, HoldsLoaded, withIndices, Extends, kindOf}
 use Rattle.codebook.proofs.Codes.{codes-length, codes-append, codes-run, codes-tie, set-append, set-run, set-below, set-tie, tied-run, bit-in, member-last, kinds-last, last-some, last-tie, last-set, tied-tie}
 use Rattle.codebook.proofs.Indices.{tied-append}
 
-module _ (p : Progress) (t old : Tables) (s : Loading) (h : Holds p t old s) where
+-- no index yet
+pub counts-none : (m n : ℕ) → n ≤ 512 → n ≡ cond (eqb m 0) 0 (2 ^ m)
+    → CountsLoaded (record { m = m; n = n; filled = 0; ties = 0; tying = false; free = 0; blocks = 0; covered = 0 })
+    (record { m = m; kinds = []; ties = 0; tying = false; blocks = []; covered = 0 })
+unfolding total tiedCount startOf freeCount
+counts-none m n small e =
+    record {
+      safe = record { small = small; within = zero-le; few = zero-le; tie = λ b. absurd b; room = zero-le; reach = zero-le; free = zero-le };
+      m = refl;
+      n = e;
+      filled = refl;
+      ties = refl;
+      counted = refl;
+      tying = refl;
+      last = λ b. absurd b;
+      fresh = λ b. absurd b;
+      blocks = refl;
+      covered = refl;
+      start = refl;
+      free = refl;
+      order = λ b. absurd (omega arith);
+    }
+
+module _ (p : Progress) (t old : Tables) (s : Loading) (h : HoldsLoaded p t old s) where
   -- before all indices are filled there is no block
   pub unfilled : p .filled < p .n → length (s .blocks) ≡ 0
   unfilled l = go (lt-or 0 (length (s .blocks)))
@@ -44,7 +67,7 @@ module _ (p : Progress) (t old : Tables) (s : Loading) (h : Holds p t old s) whe
       → filled ≡ length ks → filled ≤ p .n → tiedCount ks ≡ count → ties ≡ count → ties ≤ 32 → (T tying → 0 < ties) → tying ≡ last
       → (T last → getD ks (length ks - 1) free ≡ tied (lastTerms ks))
       → kinds ≡ over (kindCodes 0 ks) (old .kinds) → terms ≡ over (tab (total s) (tieSet 0 ks)) (old .terms)
-      → Holds (record { m = p .m; n = p .n; filled = filled; ties = ties; tying = tying; free = p .free; blocks = p .blocks; covered = p .covered })
+      → HoldsLoaded (record { m = p .m; n = p .n; filled = filled; ties = ties; tying = tying; free = p .free; blocks = p .blocks; covered = p .covered })
       (withIndices t kinds terms) old
       (record { m = s .m; kinds = ks; ties = count; tying = last; blocks = s .blocks; covered = s .covered })
   unfolding total freeCount
@@ -88,7 +111,7 @@ module _ (p : Progress) (t old : Tables) (s : Loading) (h : Holds p t old s) whe
   -- ---- the length
 
   pub begin-holds : (m : ℕ) (terms : List ℕ) → p .m ≡ 0 → 2 ≤ m → m ≤ 9 → Extends (t .terms) terms 0 (replicate (2 ^ m) 0)
-      → Holds (record { m = m; n = 2 ^ m; filled = 0; ties = 0; tying = false; free = 0; blocks = 0; covered = 0 })
+      → HoldsLoaded (record { m = m; n = 2 ^ m; filled = 0; ties = 0; tying = false; free = 0; blocks = 0; covered = 0 })
       (withIndices t (t .kinds) terms) old (next s (Length m))
   unfolding next total Extends tab kindCodes tieSet tiedCount startOf freeCount
   begin-holds m terms none low high ext =
@@ -99,30 +122,7 @@ module _ (p : Progress) (t old : Tables) (s : Loading) (h : Holds p t old s) whe
       let bs : s .blocks ≡ [] = length-none (s .blocks) (omega (arith, c .blocks, c .safe .room, c .safe .reach)) in
       let all : cond (eqb m 0) 0 (2 ^ m) ≡ 2 ^ m = rw (ne-eqb m 0 (omega arith)) in
       record {
-        counts = record {
-          safe = record {
-            small = pow-mono {i = m} {j = 9} high;
-            within = zero-le;
-            few = zero-le;
-            tie = λ b. absurd b;
-            room = zero-le;
-            reach = zero-le;
-            free = zero-le;
-          };
-          m = refl;
-          n = sym all;
-          filled = refl;
-          ties = refl;
-          counted = refl;
-          tying = refl;
-          last = λ b. absurd b;
-          fresh = λ b. absurd b;
-          blocks = refl;
-          covered = refl;
-          start = refl;
-          free = refl;
-          order = λ b. absurd (omega arith);
-        };
+        counts = counts-none m (2 ^ m) (pow-mono {i = m} {j = 9} high) (sym all);
         sized = h .sized;
         kinds = rw ks at (h .kinds);
         terms =
@@ -137,7 +137,7 @@ module _ (p : Progress) (t old : Tables) (s : Loading) (h : Holds p t old s) whe
   -- ---- a run of free or zero indices
 
   pub run-holds : (count code : ℕ) (kinds : List ℕ) → code < 2 → p .filled < p .n → p .filled + count ≤ p .n → Extends (t .kinds) kinds (p .filled) (replicate count code)
-      → Holds (record { m = p .m; n = p .n; filled = p .filled + count; ties = p .ties; tying = false; free = p .free; blocks = p .blocks; covered = p .covered })
+      → HoldsLoaded (record { m = p .m; n = p .n; filled = p .filled + count; ties = p .ties; tying = false; free = p .free; blocks = p .blocks; covered = p .covered })
       (withIndices t kinds (t .terms)) old (grown s (replicate count (kindOf code)))
   unfolding grown Extends
   run-holds count code kinds small l room ext =
@@ -173,7 +173,7 @@ module _ (p : Progress) (t old : Tables) (s : Loading) (h : Holds p t old s) whe
       ∙ getD-tab (total s) (tieSet 0 (s .kinds)) i 0 (omega (arith, h .counts .n))
 
   pub tie-holds : (i : ℕ) → p .filled < p .n → i < p .filled → p .ties < 32
-      → Holds (record { m = p .m; n = p .n; filled = p .filled + 1; ties = p .ties + 1; tying = true; free = p .free; blocks = p .blocks; covered = p .covered })
+      → HoldsLoaded (record { m = p .m; n = p .n; filled = p .filled + 1; ties = p .ties + 1; tying = true; free = p .free; blocks = p .blocks; covered = p .covered })
       (withIndices t (set (t .kinds) (p .filled) (2 + p .ties)) (set (t .terms) i (bitOr (getD (t .terms) i 0) (2 ^ (p .ties))))) old (next s (Tie i))
   unfolding next member
   tie-holds i l earlier few =
@@ -231,7 +231,7 @@ module _ (p : Progress) (t old : Tables) (s : Loading) (h : Holds p t old s) whe
         go false e = e
 
     pub term-holds : (i : ℕ) → i < p .n → member i ts ≡ false
-        → Holds p (withIndices t (t .kinds) (set (t .terms) i (bitOr (getD (t .terms) i 0) (2 ^ (p .ties - 1))))) old (next s (Term i))
+        → HoldsLoaded p (withIndices t (t .kinds) (set (t .terms) i (bitOr (getD (t .terms) i 0) (2 ^ (p .ties - 1))))) old (next s (Term i))
     unfolding next
     term-holds i l fresh =
         let c = h .counts in

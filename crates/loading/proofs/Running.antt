@@ -29,10 +29,11 @@ use Rattle.codebook.specs.Refusals.{unless}
 use Rattle.codebook.specs.Book.{freeCount, tiedCount, startOf}
 use Rattle.codebook.specs.Loading.{Loading, Load, refused, loaded, start, total, placed, listed, width, command, next, refusal, decided, bookOf, loadFrom, load}
 use Rattle.codebook.specs.Tables.{Tables, kindCodes, tieSet, tablesOf, overlaid, Filled, sizesOf}
-use Rattle.codebook.specs.Progress.{readAt, byteOf, isEnd, verdict, Sized, Holds, Goes, Judged, sizesAt}
+use Rattle.codebook.specs.Progress.{readAt, byteOf, isEnd, verdict, Sized, HoldsLoaded, Goes, Judged, sizesAt}
 use Rattle.codebook.proofs.Fuel.{fuel-enough}
 use Rattle.codebook.proofs.Blocks.{start-some}
 use Rattle.codebook.proofs.Loaded.{total-begun}
+use Rattle.loading.proofs.Growing.{counts-none}
 
 -- ---- commands and their bytes
 
@@ -182,7 +183,7 @@ end-stands s (Term i) whole e n = absurd (eqb-false 0x04 0x7f refl (eqb-true 0x0
 end-stands s (NextBlock j bias) whole e n = absurd (eqb-false 0x05 0x7f refl (eqb-true 0x05 0x7f n))
 end-stands s End whole e n = (subst T (sym (unless-none (placed s 0x7f) Misplaced _ e)) tt, refl)
 
-module _ (p : Progress) (t old : Tables) (s : Loading) (h : Holds p t old s) (e : T (placed s 0x7f)) where
+module _ (p : Progress) (t old : Tables) (s : Loading) (h : HoldsLoaded p t old s) (e : T (placed s 0x7f)) where
   begun : s .m ≢ 0
   unfolding placed
   begun = neqb→ne (s .m) 0 (and-left (not (eqb (s .m) 0)) (eqb (s .covered) (total s)) e)
@@ -213,7 +214,7 @@ module _ (p : Progress) (t old : Tables) (s : Loading) (h : Holds p t old s) (e 
 -- The numbers p and tables t, which were old at first, stand for what is loaded of these bytes before a place, and loading goes on from there.
 pub record Reached (bytes : List ℕ) (old : Tables) (p : Progress) (t : Tables) (at : ℕ) : Type 0 where
   pub s : Loading
-  pub holds : Holds p t old s
+  pub holds : HoldsLoaded p t old s
   pub goes : load bytes ≡ loadFrom (length bytes) s (drop at bytes)
   pub within : at ≤ length bytes
 
@@ -229,22 +230,7 @@ reached-none bytes t sized =
     record {
       s = start;
       holds = record {
-        counts = record {
-          safe = record { small = zero-le; within = zero-le; few = zero-le; tie = λ b. absurd b; room = zero-le; reach = zero-le; free = zero-le };
-          m = refl;
-          n = refl;
-          filled = refl;
-          ties = refl;
-          counted = refl;
-          tying = refl;
-          last = λ b. absurd b;
-          fresh = λ b. absurd b;
-          blocks = refl;
-          covered = refl;
-          start = refl;
-          free = refl;
-          order = λ b. absurd (omega arith);
-        };
+        counts = counts-none 0 0 zero-le refl;
         sized = sized;
         kinds = refl;
         terms = refl;
@@ -263,7 +249,7 @@ unfolding Filled
 refused-answer bytes old u f x e a = (rw e a, rw e tt)
 
 -- the answer at the end command, before nothing or more bytes
-ended : (bytes : List ℕ) (old : Tables) (q : Progress) (u : Tables) (s : Loading) (nx : ℕ) → Holds q u old s → T (placed s 0x7f) → nx ≤ length bytes → load bytes ≡ cond (eqb nx (length bytes)) (loaded (bookOf s)) (refused Misplaced)
+ended : (bytes : List ℕ) (old : Tables) (q : Progress) (u : Tables) (s : Loading) (nx : ℕ) → HoldsLoaded q u old s → T (placed s 0x7f) → nx ≤ length bytes → load bytes ≡ cond (eqb nx (length bytes)) (loaded (bookOf s)) (refused Misplaced)
     → sizesOf (load bytes) ≡ cond (ltb nx (length bytes)) (sizesOf (refused Misplaced)) (sizesAt q) × Filled (load bytes) old u
 unfolding Filled
 ended bytes old q u s nx h e w all = go (lt-or nx (length bytes))
@@ -294,17 +280,17 @@ module _ (bytes : List ℕ) (old : Tables) (p : Progress) (t : Tables) (at : ℕ
     unfolding Comes decided
     reached-refused P f j = r .goes ∙ there .0 ∙ rw (judged-refused P _ _ f j)
 
-    pub reached-next : (q : Progress) (u : Tables) → Judged (verdict (r .s) c whole) (isEnd c) (λ (x : Progress). Holds x u old (next (r .s) c)) (Next q) → Reached bytes old q u nx × (at < nx)
+    pub reached-next : (q : Progress) (u : Tables) → Judged (verdict (r .s) c whole) (isEnd c) (λ (x : Progress). HoldsLoaded x u old (next (r .s) c)) (Next q) → Reached bytes old q u nx × (at < nx)
     unfolding Comes decided
     reached-next q u j =
-        let k = judged-next (λ (x : Progress). Holds x u old (next (r .s) c)) _ _ q j in
+        let k = judged-next (λ (x : Progress). HoldsLoaded x u old (next (r .s) c)) _ _ q j in
         (record { s = next (r .s) c; holds = k .2; goes = r .goes ∙ there .0 ∙ rw (k .0, k .1); within = there .2 }, there .1)
 
     -- the end, with what follows it
-    pub reached-last : (q : Progress) (u : Tables) → Judged (verdict (r .s) c whole) (isEnd c) (λ (x : Progress). Holds x u old (next (r .s) c)) (Ended q)
+    pub reached-last : (q : Progress) (u : Tables) → Judged (verdict (r .s) c whole) (isEnd c) (λ (x : Progress). HoldsLoaded x u old (next (r .s) c)) (Ended q)
         → sizesOf (load bytes) ≡ cond (ltb nx (length bytes)) (sizesOf (refused Misplaced)) (sizesAt q) × Filled (load bytes) old u
     unfolding Comes decided
     reached-last q u j =
-        let k = judged-end (λ (x : Progress). Holds x u old (next (r .s) c)) _ _ q j in
+        let k = judged-end (λ (x : Progress). HoldsLoaded x u old (next (r .s) c)) _ _ q j in
         let f = end-stands (r .s) c whole (k .0) (k .1) in
         ended bytes old q u (r .s) nx (rw (f .1) at (k .2)) (f .0) (there .2) (r .goes ∙ there .0 ∙ rw (k .0, k .1))

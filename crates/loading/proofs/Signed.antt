@@ -1,16 +1,17 @@
 -- A number of 32 bits read as two's complement, as code computes it: the number itself below 2^31, else one less than the negative of its
 -- complement; and the test of a magnitude. Assumes nothing.
-use mathlib.Core.Path.{_≡_, refl, sym, _∙_, subst}
+use mathlib.Core.Path.{_≡_, refl, sym, _∙_}
 use mathlib.Core.Bool.{true, false}
 use Prim.Native.Nat.{ℕ, zero, suc, _-_, _≤_, _<_}
 use native.Mathlib.Omega.{arith}
 use lib.IntN.{ℤ, pos, negsuc, negℤ, natAbs, _-ℤ_, +ℤ-idl, -ℤ-one, predℤ}
 use lib.Signed.{ltZ, leZ}
-use lib.Dec.{T, leb}
+use lib.Dec.{leb}
 use mir.Syntax.{w32}
 use mir.Val.{SFits, toZ, ofZ}
 use mir.ValLaws.{toZ-ofZ}
 use borrow.Author.Tests.{lt-ltb, le-ltb, le-leb, lt-leb, ltb-true, ltb-false}
+use Rattle.laws.proofs.Tests.{apart}
 use Rattle.codebook.specs.Loading.{signed}
 
 pub signed-low : (x : ℕ) → x < 2147483648 → toZ w32 x ≡ signed x
@@ -46,9 +47,6 @@ module _ (x : ℕ) (h : 2147483648 ≤ x) (g : x < 4294967296) where
       toZ-ofZ w32 _ less-ok ∙ less-is ∙ rw (le-ltb x 2147483648 h, e)
 
 -- ---- a magnitude's limit
-
-apart : {X : Type 0} → true ≡ false → X
-apart e = absurd (subst T e tt)
 
 pub below-range : (z : ℤ) → ltZ z (negsuc 1048575) ≡ true → false ≡ leb (natAbs z) 1048576
 below-range (pos n) e = apart (sym e)

@@ -22,7 +22,7 @@ use Rattle.codebook.specs.declared.Step.the-variants.{Next, End as Ended, Refus
 use Rattle.codebook.specs.Refusals.{unless}
 use Rattle.codebook.specs.Book.{freeCount}
 use Rattle.codebook.specs.Loading.{Loading, total, lastTerms, member, placed, fault, grown, next}
-use Rattle.codebook.specs.Progress.{byteOf, isEnd, verdict, Counts, Goes, Judged, runOf, blockFits, kindOf}
+use Rattle.codebook.specs.Progress.{byteOf, isEnd, verdict, CountsLoaded, Goes, Judged, runOf, blockFits, kindOf}
 use Rattle.codebook.proofs.Command.{the-type}
 
 -- ---- steps
@@ -72,7 +72,7 @@ unfolding isEnd byteOf next runOf kindOf
 run-goes s zero count = (refl, refl)
 run-goes s (suc code) count = (refl, refl)
 
-module _ (p : Progress) (s : Loading) (c : Counts p s) where
+module _ (p : Progress) (s : Loading) (c : CountsLoaded p s) where
   -- ---- faults
 
   pub length-low : (m : ℕ) → m < 2 → fault s (Length m) ≡ some OutOfRange

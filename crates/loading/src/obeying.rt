@@ -175,7 +175,7 @@ fn fits(covered: u32, n: u32, j: u32, bias: i32) -> bool
 }
 
 // The next block, at the first index that is in none.
-fn place(
+fn place_block(
     p: Progress,
     j: u32,
     bias: i32,
@@ -233,7 +233,7 @@ fn block(
     if !fits(p.covered, p.n, j, bias) {
         return Step::Refused(Refusal::OutOfRange);
     }
-    place(p, j, bias, kinds, heights, starts, biases, frees)
+    place_block(p, j, bias, kinds, heights, starts, biases, frees)
 }
 
 // A command after those before it: a term belongs to the tie before it; else the length comes first, then index commands until all indices

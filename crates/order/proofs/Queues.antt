@@ -57,17 +57,13 @@ pub rising-none : (l : List ℕ) → Rising l 0
 unfolding Rising
 rising-none l i j h b = absurd (omega arith)
 
--- ---- place
+-- ---- position
 
--- where one entry is below e but for its slot, so are those before it; where it is not, neither are those after it
+-- where one entry is below e but for its slot, so are those before it
 module _ (l : List ℕ) (queued mid e : ℕ) (r : Rising l queued) (b : mid < queued) where
-  pub place-low : getD l mid 0 < e / 256 * 256 → (k : ℕ) → k ≤ mid → getD l k 0 / 256 < e / 256
+  pub position-low : getD l mid 0 < e / 256 * 256 → (k : ℕ) → k ≤ mid → getD l k 0 / 256 < e / 256
   unfolding Rising
-  place-low h k j = omega (arith, r k mid j b)
-
-  pub place-high : e / 256 * 256 ≤ getD l mid 0 → (k : ℕ) → mid ≤ k → k < queued → e / 256 ≤ getD l k 0 / 256
-  unfolding Rising
-  place-high h k j m = omega (arith, r mid k j m)
+  position-low h k j = omega (arith, r k mid j b)
 
 -- ---- insert
 

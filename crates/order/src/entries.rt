@@ -1,4 +1,4 @@
-// Entries of the queue's order: made and read.
+// Entries of the queue's order: made and read. Relies on no other file; specs/Entries.antt says what an entry holds.
 ghost use mathlib.Core.Path.{_≡_};
 ghost use Prim.Native.Nat.{_<_};
 ghost use Rattle.polar.specs.Layers.{Within};

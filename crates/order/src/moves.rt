@@ -1,5 +1,5 @@
 // The moves of the queue: a path inserted, the last ones cut off, those with few blocks removed. Entries move within the array; nothing else is
-// touched.
+// touched. Relies on entries.rt; machine/specs/Queue says what each move is, specs/Entries.antt which queue an array holds.
 ghost use mathlib.Core.Path.{_≡_};
 ghost use Prim.Native.Nat.{ℕ, suc, _+_, _/_, _≤_, _<_};
 ghost use lib.ListN.{length, getD, take};
@@ -26,7 +26,7 @@ fn halve(order: &[u64; 256], queued: usize, e: u64, low: usize, half: usize) -> 
 }
 
 // Where an entry goes among the `queued` entries: above those that it comes before.
-fn place(order: &[u64; 256], queued: usize, e: u64) -> usize
+fn position(order: &[u64; 256], queued: usize, e: u64) -> usize
     requires { ⌜ (length (now order) ≡ 256) × (queued ≤ 256) ⌝ }
     requires { ⌜ Rising (now order) queued ⌝ }
     ensures { λ r. ⌜ (r ≤ queued) × ((k : ℕ) → k < r → getD (now (order .entry)) k 0 / 256 < e / 256)
@@ -59,7 +59,7 @@ pub fn insert(order: &mut [u64; 256], queued: usize, e: u64)
         × (queueOf (now (order .exit)) (suc queued) ≡ Q.insert keyAt e (queueOf (now (order .entry)) queued)) ⌝ }
     ensures { λ _. ⌜ Rising (now (order .exit)) (suc queued) ⌝ }
 {
-    let at = place(order, queued, e);
+    let at = position(order, queued, e);
     let mut k = queued;
     while k > at {
         order[k] = order[k - 1];

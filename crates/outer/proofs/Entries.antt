@@ -17,6 +17,7 @@ use Rattle.polar.proofs.Bits.{mod-bit, toBits-length}
 use Rattle.codebook.specs.Book.{Book, Kind, free, frozen, tied, freeCount, tiedCount, startOf, blockAt, kindsOf}
 use Rattle.codebook.specs.Limits.{Valid}
 use Rattle.codebook.specs.Tables.{kindCodes, tieSet}
+use Rattle.codebook.proofs.Placing.{free-append}
 use Rattle.codec.specs.Ties.{Parities, absorb, Filling, push, fillFrom, fillBlock}
 use Rattle.outer.specs.Search.{rowOf, Entry, put, later, grown, settings, entry, Walkable}
 use Rattle.outer.specs.Blocks.{paritySet, Bits, BlockTabled}
@@ -32,13 +33,6 @@ to-snoc zero w = let e : w / 2 ^ 0 % 2 ≡ w % 2 = omega arith in ap (λ (d : �
 to-snoc (suc f) w =
     let e : w / 2 ^ suc f ≡ w / 2 / 2 ^ f = ap (λ n. w / 2 ^ n) (omega arith) ∙ sym (shr-shr w 1 f) in
     ap₂ (λ (d : ℕ) (l : List ℕ). d ∷ l) (ap (λ n. n % 2) e) (to-snoc f w)
-
-free-append : (ks ms : List Kind) → freeCount (ks ++ ms) ≡ freeCount ks + freeCount ms
-unfolding freeCount
-free-append [] ms = omega arith
-free-append (free ∷ ks) ms = omega (arith, free-append ks ms)
-free-append (frozen ∷ ks) ms = free-append ks ms
-free-append (tied ts ∷ ks) ms = free-append ks ms
 
 -- ---- a block filled index by index
 

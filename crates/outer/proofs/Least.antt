@@ -13,35 +13,41 @@ use Rattle.laws.proofs.Tests.{cond-case, lt-or}
 use Rattle.machine.specs.Choice.{choose, firstOf}
 use Rattle.outer.specs.Search.{tried, lesser, leastFrom}
 
--- the setting found, by another count
-abbrev pub mapped : (ℕ → ℕ) → Option ℕ → Option ℕ
-mapped f none = none
-mapped f (some w) = some (f w)
+-- no setting is tried before its turn
+tried-low : (n : ℕ) → tried n ≤ n
+unfolding tried
+tried-low n = omega arith
 
 -- what is found is among the settings
 pub least-below : (k : ℕ → ℕ) (bound n : ℕ) → May (λ (w : ℕ). w < n) (leastFrom k bound n)
-unfolding leastFrom firstOf tried May choose
+unfolding leastFrom firstOf May choose
 least-below k bound zero = tt
-least-below k bound (suc n) = go (leb bound (k n)) (leastFrom k bound n) (least-below k bound n)
+least-below k bound (suc n) = go (leb bound (k (tried n))) (leastFrom k bound n) (least-below k bound n)
   where
-    go : (t : Bool) (o : Option ℕ) → May (λ (w : ℕ). w < n) o → May (λ (w : ℕ). w < suc n) (choose (lesser k) t n o)
-    go true none h = omega arith
-    go true (some y) h = cond-case (λ (w : ℕ). w < suc n) (lesser k n y) (λ _. omega arith) (λ _. omega arith)
+    last : tried n < suc n
+    last = omega (arith, tried-low n)
+
+    go : (t : Bool) (o : Option ℕ) → May (λ (w : ℕ). w < n) o → May (λ (w : ℕ). w < suc n) (choose (lesser k) t (tried n) o)
+    go true none h = last
+    go true (some y) h = cond-case (λ (w : ℕ). w < suc n) (lesser k (tried n) y) (λ _. last) (λ _. omega arith)
     go false none h = tt
     go false (some y) h = omega arith
 
 -- keys with the same order, and bounds that they pass alike
 pub least-like : (f g : ℕ → ℕ) (b b′ n : ℕ) → ((v w : ℕ) → v < n → w < n → lesser f v w ≡ lesser g v w) → ((w : ℕ) → w < n → leb b (f w) ≡ leb b′ (g w))
     → leastFrom f b n ≡ leastFrom g b′ n
-unfolding leastFrom firstOf tried May choose
+unfolding leastFrom firstOf May choose
 least-like f g b b′ zero o t = refl
 least-like f g b b′ (suc n) o t =
-    go (leb b (f n)) (leastFrom f b n) (least-below f b n)
-    ∙ ap₂ (λ (c : Bool) (y : Option ℕ). choose (lesser g) c n y) (t n (omega arith)) (least-like f g b b′ n (λ v w l k. o v w (omega arith) (omega arith)) (λ w l. t w (omega arith)))
+    go (leb b (f (tried n))) (leastFrom f b n) (least-below f b n)
+    ∙ ap₂ (λ (c : Bool) (y : Option ℕ). choose (lesser g) c (tried n) y) (t (tried n) last) (least-like f g b b′ n (λ v w l k. o v w (omega arith) (omega arith)) (λ w l. t w (omega arith)))
   where
-    go : (c : Bool) (y : Option ℕ) → May (λ (w : ℕ). w < n) y → choose (lesser f) c n y ≡ choose (lesser g) c n y
+    last : tried n < suc n
+    last = omega (arith, tried-low n)
+
+    go : (c : Bool) (y : Option ℕ) → May (λ (w : ℕ). w < n) y → choose (lesser f) c (tried n) y ≡ choose (lesser g) c (tried n) y
     go true none l = refl
-    go true (some y) l = ap (λ (c : Bool). some (cond c n y)) (o n y (omega arith) (omega arith))
+    go true (some y) l = ap (λ (c : Bool). some (cond c (tried n) y)) (o (tried n) y last (omega arith))
     go false y l = refl
 
 -- keys that agree
@@ -81,20 +87,3 @@ least-chosen k b (suc n) = go (lt-or (k n) b) (leastFrom k b n) (least-chosen k 
         pick (inl m) =
             rw (lt-ltb (k n) (k y) m) (omega arith, l, both (λ x. b ≤ x → k n ≤ x) (λ v j q. omega (arith, h .2 v j q)) (λ q. omega arith), λ v j q. omega (arith, h .2 v j q))
         pick (inr m) = rw (le-ltb (k n) (k y) m) (omega arith, h .1, both (λ x. b ≤ x → k y ≤ x) (h .2) (λ q. m), h .3)
-
--- the same keys in another order, where no two are equal: it is found at its place there
-pub least-moved : (k : ℕ → ℕ) (b n : ℕ) (there back : ℕ → ℕ) → ((w : ℕ) → w < n → there w < n) → ((w : ℕ) → w < n → back w < n)
-    → ((w : ℕ) → w < n → back (there w) ≡ w) → ((x : ℕ) → x < n → there (back x) ≡ x) → ((x y : ℕ) → x < n → y < n → k x ≡ k y → x ≡ y)
-    → (o : Option ℕ) → leastFrom k b n ≡ o → leastFrom (λ w. k (there w)) b n ≡ mapped back o
-least-moved k b n there back t u p q i o e = go o (subst (Chosen k b n) e (least-chosen k b n)) (leastFrom (λ w. k (there w)) b n) (least-chosen (λ w. k (there w)) b n)
-  where
-    same : (x : ℕ) → x < n → k (there (back x)) ≡ k x
-    same x l = ap k (q x l)
-
-    go : (o : Option ℕ) → Chosen k b n o → (r : Option ℕ) → Chosen (λ w. k (there w)) b n r → r ≡ mapped back o
-    go none h none g = refl
-    go none h (some y) g = absurd (omega (arith, h (there y) (t y (g .0)), g .1))
-    go (some x) h none g = absurd (omega (arith, g (back x) (u x (h .0)), same x (h .0), h .1))
-    go (some x) h (some y) g =
-        let least : k x ≡ k (there y) = omega (arith, h .2 (there y) (t y (g .0)) (g .1), g .2 (back x) (u x (h .0)) (omega (arith, same x (h .0), h .1)), same x (h .0)) in
-        ap some (sym (p y (g .0)) ∙ ap back (sym (i x (there y) (h .0) (t y (g .0)) least)))

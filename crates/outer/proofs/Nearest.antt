@@ -13,7 +13,7 @@ use lib.Dec.{ltb, leb, eqb}
 use lib.Pow.{pow-mono}
 use borrow.Author.Tests.{lt-ltb, le-ltb, le-leb, lt-leb, eq-eqb, ne-eqb}
 use Rattle.laws.specs.Lists.{All}
-use Rattle.laws.proofs.Pairs.{MayPair}
+use Rattle.laws.specs.Pairs.{MayPair}
 use Rattle.polar.specs.Bits.{Bit, number}
 use Rattle.polar.specs.Transform.{transform}
 use Rattle.polar.specs.Soft.{discrepancy}
@@ -23,7 +23,7 @@ use Rattle.codec.specs.Ties.{Parities, fillBlock}
 use Rattle.outer.specs.declared.Candidate.{Candidate}
 use Rattle.outer.specs.Words.{Word, wordOf, nearer, nearestWith, nearest, nextAfter}
 use Rattle.outer.specs.Blocks.{paritySet, Bits, BlockTabled, candidateOf}
-use Rattle.outer.specs.Search.{Entry, entry, costOf, keyOf, tried, lesser, leastFrom, answer, keyAt, found, foundPair}
+use Rattle.outer.specs.Search.{Entry, entry, costOf, keyOf, tried, lesser, leastFrom, answer, settingKey, found, foundPair}
 use Rattle.outer.proofs.Words.{first-pair}
 use Rattle.outer.proofs.Numbers.{number-lt}
 use Rattle.outer.proofs.Sums.{discrepancy-number}
@@ -93,8 +93,8 @@ module _ (B : Book) (b : ℕ) (kinds terms : List ℕ) (start j : ℕ) (o : Bloc
         let q : 2 ^ length c ≤ 2 ^ 32 = pow-mono size in
         omega (arith, number-lt c c-bits, ap (λ k. number (transform k (fillBlock B x b w .bits))) (o .height))
 
-    entry-key : keyAt e vs w ≡ keyOf (W w .cost) (W w .number)
-    unfolding keyAt
+    entry-key : settingKey e vs w ≡ keyOf (W w .cost) (W w .number)
+    unfolding settingKey
     entry-key = ap₂ keyOf entry-cost (entry-word w)
 
   -- ---- what is found
@@ -102,7 +102,7 @@ module _ (B : Book) (b : ℕ) (kinds terms : List ℕ) (start j : ℕ) (o : Bloc
   Same : ℕ → Word → Type 0
   Same w y = y ≡ W w
 
-  order-same : (w w′ : ℕ) (y y′ : Word) → Same w y → Same w′ y′ → lesser (keyAt e vs) w w′ ≡ nearer y y′
+  order-same : (w w′ : ℕ) (y y′ : Word) → Same w y → Same w′ y′ → lesser (settingKey e vs) w w′ ≡ nearer y y′
   unfolding Same lesser nearer
   order-same w w′ y y′ p q =
       rw (p, q) (ap₂ ltb (entry-key w) (entry-key w′) ∙ key-order (W w .cost) (W w .number) (W w′ .cost) (W w′ .number) (word-lt w) (word-lt w′))
@@ -115,35 +115,35 @@ module _ (B : Book) (b : ℕ) (kinds terms : List ℕ) (start j : ℕ) (o : Bloc
   answered (some w) (some y) p = rw (entry-cost w, entry-set w, entry-word w) (ap (λ (z : Word). candidateOf B (some z)) (sym p))
 
   -- the setting found, and the word
-  paired : (test : Word → Bool) (bound : ℕ) → ((w : ℕ) → leb bound (keyAt e vs w) ≡ test (W w))
-      → MayPair Same (leastFrom (keyAt e vs) bound (2 ^ freeCount (kindsOf B b))) (nearestWith test B vs x b)
+  paired : (test : Word → Bool) (bound : ℕ) → ((w : ℕ) → leb bound (settingKey e vs w) ≡ test (W w))
+      → MayPair Same (leastFrom (settingKey e vs) bound (2 ^ freeCount (kindsOf B b))) (nearestWith test B vs x b)
   unfolding leastFrom nearestWith tried Same W
   paired test bound t =
-      first-pair Same (lesser (keyAt e vs)) nearer (λ w. leb bound (keyAt e vs w)) test order-same (λ w y p. t w ∙ ap test (sym p)) tried W (λ w. refl) (2 ^ freeCount (kindsOf B b))
+      first-pair Same (lesser (settingKey e vs)) nearer (λ w. leb bound (settingKey e vs w)) test order-same (λ w y p. t w ∙ ap test (sym p)) tried W (λ w. refl) (2 ^ freeCount (kindsOf B b))
 
-  found-with : (test : Word → Bool) (bound : ℕ) → ((w : ℕ) → leb bound (keyAt e vs w) ≡ test (W w)) → found kinds terms start (paritySet B x) (2 ^ j) vs bound ≡ candidateOf B (nearestWith test B vs x b)
+  found-with : (test : Word → Bool) (bound : ℕ) → ((w : ℕ) → leb bound (settingKey e vs w) ≡ test (W w)) → found kinds terms start (paritySet B x) (2 ^ j) vs bound ≡ candidateOf B (nearestWith test B vs x b)
   unfolding found e
   found-with test bound t =
-      ap (λ n. answer e vs (leastFrom (keyAt e vs) bound n)) (block-settings B b kinds terms start j o x hx)
-      ∙ answered (leastFrom (keyAt e vs) bound (2 ^ freeCount (kindsOf B b))) (nearestWith test B vs x b) (paired test bound t)
+      ap (λ n. answer e vs (leastFrom (settingKey e vs) bound n)) (block-settings B b kinds terms start j o x hx)
+      ∙ answered (leastFrom (settingKey e vs) bound (2 ^ freeCount (kindsOf B b))) (nearestWith test B vs x b) (paired test bound t)
 
   pub found-nearest : found kinds terms start (paritySet B x) (2 ^ j) vs 0 ≡ candidateOf B (nearest B vs x b)
   unfolding nearest
-  found-nearest = found-with (λ _. true) 0 (λ w. le-leb 0 (keyAt e vs w) (omega arith))
+  found-nearest = found-with (λ _. true) 0 (λ w. le-leb 0 (settingKey e vs w) (omega arith))
 
   pub found-next : (own : Word) → own .number < 4294967296 → found kinds terms start (paritySet B x) (2 ^ j) vs (keyOf (own .cost) (own .number) + 1) ≡ candidateOf B (nextAfter own B vs x b)
   unfolding nextAfter nearer
   found-next own l =
       found-with (nearer own) (keyOf (own .cost) (own .number) + 1)
-      (λ w. above (keyOf (own .cost) (own .number)) (keyAt e vs w) ∙ ap (ltb (keyOf (own .cost) (own .number))) (entry-key w) ∙ key-order (own .cost) (own .number) (W w .cost) (W w .number) l (word-lt w))
+      (λ w. above (keyOf (own .cost) (own .number)) (settingKey e vs w) ∙ ap (ltb (keyOf (own .cost) (own .number))) (entry-key w) ∙ key-order (own .cost) (own .number) (W w .cost) (W w .number) l (word-lt w))
 
   -- the number of the nearest word
   nearest-lt : (w : Word) → nearest B vs x b ≡ some w → w .number < 4294967296
   unfolding nearest Same MayPair
-  nearest-lt w q = go (leastFrom (keyAt e vs) 0 (2 ^ freeCount (kindsOf B b))) (subst (MayPair Same (leastFrom (keyAt e vs) 0 (2 ^ freeCount (kindsOf B b)))) q (paired (λ _. true) 0 every))
+  nearest-lt w q = go (leastFrom (settingKey e vs) 0 (2 ^ freeCount (kindsOf B b))) (subst (MayPair Same (leastFrom (settingKey e vs) 0 (2 ^ freeCount (kindsOf B b)))) q (paired (λ _. true) 0 every))
     where
-      every : (v : ℕ) → leb 0 (keyAt e vs v) ≡ true
-      every v = le-leb 0 (keyAt e vs v) (omega arith)
+      every : (v : ℕ) → leb 0 (settingKey e vs v) ≡ true
+      every v = le-leb 0 (settingKey e vs v) (omega arith)
 
       go : (s : Option ℕ) → MayPair Same s (some w) → w .number < 4294967296
       go none p = absurd p

@@ -5,11 +5,12 @@ use mathlib.Core.List.{List, [], _∷_, _++_, append-assoc, zipWith}
 use Prim.Native.Nat.{ℕ, zero, suc, _+_, _-_, _*_, _%_, _^_, _≤_, _<_}
 use native.Mathlib.Nat.{mul-zero, mul-one, two-pow-succ}
 use native.Mathlib.Omega.{arith}
-use lib.Bits.{bitXor, xor-zero-r, xor-block, xor-add-and, xor-lt}
+use lib.Bits.{bitXor, xor-zero-r, xor-block}
 use lib.Dec.{eqb, eqb→eq}
 use lib.ListN.{length, replicate, length-append, length-replicate}
 use Rattle.laws.specs.Lists.{All}
 use Rattle.laws.proofs.Lists.{all-append, all-replicate}
+use Rattle.laws.proofs.Sets.{one-xor}
 use Rattle.polar.specs.Bits.{Bit, addBits, number}
 use Rattle.polar.specs.Transform.{transform}
 use Rattle.polar.proofs.Bits.{add-append}
@@ -25,10 +26,9 @@ number-add (x ∷ a) [] e h k = absurd (omega arith)
 number-add (x ∷ a) (y ∷ b) e h k =
     let A : ℕ = number a in
     let C : ℕ = number b in
-    let one : bitXor x y ≡ (x + y) % 2 = omega (arith, xor-add-and x y, xor-lt 1 x y (h .0) (k .0), h .0, k .0) in
     let p : A * 2 ^ 1 + x ≡ x + 2 * A = omega arith in
     let q : C * 2 ^ 1 + y ≡ y + 2 * C = omega arith in
-    omega (arith, number-add a b (omega arith) (h .1) (k .1), ap₂ bitXor (sym p) (sym q), xor-block 1 A C x y (h .0) (k .0))
+    omega (arith, one-xor x y (h .0) (k .0), number-add a b (omega arith) (h .1) (k .1), ap₂ bitXor (sym p) (sym q), xor-block 1 A C x y (h .0) (k .0))
 
 pub number-lt : (a : List ℕ) → All Bit a → number a < 2 ^ length a
 unfolding number All

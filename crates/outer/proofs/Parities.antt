@@ -1,6 +1,6 @@
 -- The set of parities before an index and after it: bit d there takes the exclusive or with d times the set of ties that the index is a term of,
 -- and a tied index finds its own bit in the set. By induction on the kinds. Assumes nothing.
-use mathlib.Core.Path.{_≡_, refl, ap, _∙_}
+use mathlib.Core.Path.{_≡_, refl, ap, _∙_, subst}
 use mathlib.Core.List.{List, [], _∷_}
 use Prim.Native.Nat.{ℕ, zero, suc, _+_, _*_, _/_, _%_, _^_, _<_}
 use native.Mathlib.Nat.{mul-zero, mul-one, one-mul}
@@ -16,6 +16,7 @@ use Rattle.codebook.specs.Tables.{kindCodes, tieSet}
 use Rattle.codebook.specs.Loading.{member}
 use Rattle.codec.specs.Ties.{Parities, names, absorb}
 use Rattle.codec.proofs.TieSets.{tieTerms, mark, mark-bit, tie-set, times-once, terms-once}
+use Rattle.codec.proofs.Turns.{CodeOf, code-at}
 use Rattle.outer.specs.Blocks.{tieIndex, paritySet, Bits}
 
 -- ---- the t-th tie
@@ -50,35 +51,21 @@ pub ties-before : (ks : List Kind) (i : ℕ) (ts : List ℕ) → getD ks i froze
 ties-before ks i ts e = index-at ks i ts e .1
 
 -- the code of an index, by its kind and the ties before it
-codeOf : ℕ → Kind → ℕ
-codeOf t free = 0
-codeOf t frozen = 1
-codeOf t (tied ts) = 2 + t
-
-code-at : (t : ℕ) (ks : List Kind) (i : ℕ) → i < length ks → getD (kindCodes t ks) i 0 ≡ codeOf (t + tiedCount (take i ks)) (getD ks i frozen)
-unfolding kindCodes tiedCount codeOf
-code-at t [] i h = absurd (omega arith)
-code-at t (free ∷ ks) zero h = refl
-code-at t (frozen ∷ ks) zero h = refl
-code-at t (tied ts ∷ ks) zero h = omega arith
-code-at t (free ∷ ks) (suc i) h = code-at t ks i (omega arith)
-code-at t (frozen ∷ ks) (suc i) h = code-at t ks i (omega arith)
-code-at t (tied ts ∷ ks) (suc i) h =
-    let e : suc t + tiedCount (take i ks) ≡ t + suc (tiedCount (take i ks)) = omega arith in
-    code-at (suc t) ks i (omega arith) ∙ ap (λ n. codeOf n (getD ks i frozen)) e
-
 module _ (t : ℕ) (ks : List Kind) (i : ℕ) (h : i < length ks) where
+  coded : (k : Kind) → getD ks i frozen ≡ k → CodeOf t ks (tiedCount (take i ks)) k (getD (kindCodes t ks) i 0)
+  coded k e = subst (λ (x : Kind). CodeOf t ks (tiedCount (take i ks)) x (getD (kindCodes t ks) i 0)) e (code-at t ks i h)
+
   pub code-free : getD ks i frozen ≡ free → getD (kindCodes t ks) i 0 ≡ 0
-  unfolding codeOf
-  code-free e = code-at t ks i h ∙ ap (codeOf (t + tiedCount (take i ks))) e
+  unfolding CodeOf
+  code-free e = coded free e
 
   pub code-zero : getD ks i frozen ≡ frozen → getD (kindCodes t ks) i 0 ≡ 1
-  unfolding codeOf
-  code-zero e = code-at t ks i h ∙ ap (codeOf (t + tiedCount (take i ks))) e
+  unfolding CodeOf
+  code-zero e = coded frozen e
 
   pub code-tied : (ts : List ℕ) → getD ks i frozen ≡ tied ts → getD (kindCodes t ks) i 0 ≡ suc (suc (t + tiedCount (take i ks)))
-  unfolding codeOf
-  code-tied ts e = code-at t ks i h ∙ ap (codeOf (t + tiedCount (take i ks))) e ∙ omega arith
+  unfolding CodeOf
+  code-tied ts e = omega (arith, coded (tied ts) e .0)
 
 -- ---- the set
 

@@ -13,24 +13,25 @@ use lib.IntN.{ℤ, pos, negℤ}
 use lib.Dec.{ltb, eqb}
 use borrow.Author.Tests.{lt-ltb, le-ltb, eq-eqb, ne-eqb}
 use Rattle.laws.specs.Lists.{All}
+use Rattle.laws.specs.Pairs.{MayPair}
 use Rattle.laws.proofs.Integers.{neg-ltZ}
-use Rattle.laws.proofs.Pairs.{MayPair}
 use Rattle.polar.specs.Bits.{Bit, number}
 use Rattle.polar.specs.Transform.{transform}
 use Rattle.polar.specs.Soft.{discrepancy}
+use Rattle.polar.specs.Value.{costs}
 use Rattle.polar.specs.Node.{node}
 use Rattle.polar.proofs.Bits.{toBits-bits}
-use Rattle.polar.proofs.Value.{costs, penalties-costs, Same}
+use Rattle.polar.proofs.Value.{penalties-costs, Same}
 use Rattle.polar.proofs.Node.{block-costs, node-same}
 use Rattle.codebook.specs.Book.{Book, freeCount, startOf, blockAt, kindsOf}
+use Rattle.codec.specs.Ties.{paritiesOf, filled, fillBlock}
 use Rattle.codec.proofs.Fill.{After, fill-after}
+use Rattle.codec.proofs.Ties.{filled-drop, filled-parities}
 use Rattle.machine.specs.Choice.{choose, firstOf}
 use Rattle.machine.specs.Words as M
 use Rattle.machine.specs.Words.{Ranked, rank, setting}
-use Rattle.codec.specs.Ties.{fillBlock}
 use Rattle.outer.specs.Words as R
 use Rattle.outer.specs.Words.{Word, wordOf}
-use Rattle.codec.proofs.Ties.{paritiesOf, filled, filled-drop, filled-parities}
 use Rattle.outer.proofs.Blocks.{Placed}
 
 -- ---- one order

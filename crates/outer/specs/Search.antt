@@ -144,14 +144,14 @@ answer e vs none = record { some = false; setting = 0; parities = 0; cost = 0; n
 answer e vs (some w) = record { some = true; setting = w; parities = e w .set; cost = costOf (e w .word) vs; number = e w .word }
 
 -- the key of a setting
-unfoldable pub keyAt : (ℕ → Entry) → List ℤ → ℕ → ℕ
-keyAt e vs w = keyOf (costOf (e w .word) vs) (e w .word)
+unfoldable pub settingKey : (ℕ → Entry) → List ℤ → ℕ → ℕ
+settingKey e vs w = keyOf (costOf (e w .word) vs) (e w .word)
 
 -- the first word with the least key from a bound on, of the n indices from `start` on, after the set of parities p, at the values vs
 unfoldable pub found : List ℕ → List ℕ → ℕ → ℕ → ℕ → List ℤ → ℕ → Candidate
 found kinds terms start p n vs bound =
     let e = entry kinds terms start p n in
-    answer e vs (leastFrom (keyAt e vs) bound (settings kinds start n))
+    answer e vs (leastFrom (settingKey e vs) bound (settings kinds start n))
 
 -- the first of all words, and the first after it
 unfoldable pub foundPair : List ℕ → List ℕ → ℕ → ℕ → ℕ → List ℤ → Pair

@@ -5,7 +5,7 @@ ghost use Prim.Native.Nat.{ℕ, _+_, _-_, _^_, _≤_, _<_};
 ghost use lib.ListN.{length, getD};
 ghost use Rattle.laws.specs.Lists.{All};
 ghost use Rattle.polar.specs.Layers.{part, Within};
-ghost use Rattle.outer.specs.Search.{Entry, Spans, picked, Runs, Small, leastFrom, answer, keyAt};
+ghost use Rattle.outer.specs.Search.{Entry, Spans, picked, Runs, Small, leastFrom, answer, settingKey};
 ghost use Rattle.passes.specs.Pass.{afterFirst, twoLeast, Turned, summedKey, chosen};
 use crate::Two;
 use crate::least_two::none;
@@ -146,7 +146,7 @@ pub fn find_two(
     ensures { λ _. ⌜ (length (now (words .exit)) ≡ 256) × (length (now (sums .exit)) ≡ 128) ⌝ }
     ensures { λ r. ⌜ ((e : ℕ → Entry) → Spans (now (steps .entry)) (now (ties .entry)) free e → ((w : ℕ) → e w .word < 4294967296)
         → (let vs = part at n (now (numbers .entry)) in
-        (r .first ≡ answer e vs (leastFrom (keyAt e vs) bound (2 ^ free))) × (r .second ≡ answer e vs (afterFirst (keyAt e vs) bound (2 ^ free))))) ⌝ }
+        (r .first ≡ answer e vs (leastFrom (settingKey e vs) bound (2 ^ free))) × (r .second ≡ answer e vs (afterFirst (settingKey e vs) bound (2 ^ free))))) ⌝ }
 {
     let count = double_all(words, steps, free);
     let runs = prepare(numbers, at, n, sums);

@@ -17,8 +17,7 @@ use Rattle.laws.proofs.Integers.{neg-abs}
 use Rattle.polar.specs.Bits.{Bit, addBits}
 use Rattle.polar.specs.Transform.{transform}
 use Rattle.polar.specs.Soft.{Qs, Ps, cost, discrepancy}
-use Rattle.polar.specs.Value.{value, penalties, R}
-unfoldable pub use Rattle.polar.specs.Value.{costs}
+use Rattle.polar.specs.Value.{value, costs, penalties, R}
 use Rattle.polar.proofs.Bits.{first-half, last-half, add-length}
 use Rattle.polar.proofs.Transform.{transform-suc, transform-length, transform-bits}
 use Rattle.polar.proofs.Soft.{penalty-cost, lemma1, discrepancy-append, Qs-length, Ps-length}

@@ -10,11 +10,12 @@ use native.Mathlib.Numerals.{add-one}
 use native.Mathlib.Omega.{arith}
 use lib.ListN.{length, getD, set, take, drop, length-take, length-drop}
 use lib.Seq.{getD-take, getD-drop, take-all, paste, paste-zero}
-use lib.Bits.{bitXor, xor-add-and, xor-lt}
+use lib.Bits.{bitXor}
 use lib.IntN.{ℤ, pos, natAbs}
 use mir.Facts.{toZ-ofZ}
 use Rattle.laws.specs.Lists.{All}
 use Rattle.laws.proofs.Lists.{all-at, all-take, all-drop, getD-zip, paste-next, getD-paste-before, getD-paste-after}
+use Rattle.laws.proofs.Sets.{one-xor}
 use Rattle.laws.proofs.Signed.{back, abs-fits}
 use Rattle.polar.specs.Bits.{Bit, _⊕_, addBits}
 use Rattle.polar.specs.Soft.{Q, P, Qs, Ps}
@@ -130,9 +131,6 @@ module _ (from n : ℕ) (l : List ℤ) (h : from + (n + n) ≤ length l) where
 
 -- ---- sums of words
 
-xor-bit : (x y : ℕ) → Bit x → Bit y → bitXor x y ≡ x ⊕ y
-xor-bit x y h k = omega (arith, xor-add-and x y, xor-lt 1 x y h k)
-
 -- what is written from the words at `low` and `high`
 module _ (low high n : ℕ) (l : List ℕ) (h : low + n ≤ length l) (g : high + n ≤ length l) where
   pub add-sums-length : length (addBits (part low n l) (part high n l)) ≡ n
@@ -142,7 +140,7 @@ module _ (low high n : ℕ) (l : List ℕ) (h : low + n ≤ length l) (g : high 
       bitXor (getD l (low + i) 0) (getD l (high + i) 0) ≡ getD (addBits (part low n l) (part high n l)) i 0
   unfolding addBits
   add-sums-at a b i j =
-      xor-bit (getD l (low + i) 0) (getD l (high + i) 0) (part-all low n l Bit 0 h a i j) (part-all high n l Bit 0 g b i j)
+      one-xor (getD l (low + i) 0) (getD l (high + i) 0) (part-all low n l Bit 0 h a i j) (part-all high n l Bit 0 g b i j)
       ∙ ap₂ _⊕_ (sym (part-at low n l 0 i j)) (sym (part-at high n l 0 i j))
       ∙ sym (getD-zip _⊕_ (part low n l) (part high n l) i 0 0 0 (omega (arith, part-length low n l h)) (omega (arith, part-length high n l g)))
 

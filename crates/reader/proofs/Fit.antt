@@ -36,7 +36,7 @@ use Rattle.reader.specs.Fit.{FitFor}
 use Rattle.reader.specs.Reached.{Vals, Sums, Inv, StandsFor, Rooted}
 use Rattle.reader.proofs.Tree.{vals-node, turn-low, turn-high, turn-past, root-starts}
 use Rattle.reader.proofs.Arrays.{Sees, sees-same, claim-kept}
-use Rattle.reader.proofs.Good.{Sized, sized}
+use Rattle.reader.proofs.Good.{PathSized, sized}
 use Rattle.reader.proofs.Descent.{place-own}
 
 -- ---- the values of the nodes on the way
@@ -104,7 +104,7 @@ sums-bits (suc d) j (suc m) u s t C e a f b q =
 -- ---- fit for the next extraction
 
 module _ (B : Book) (ys : List ℤ) (ok : Valid B) (ly : length ys ≡ 2 ^ (B .m)) (w : All (Within 2047) ys) where
-  total-range : (u : List ℕ) (p : Path) (b : ℕ) → Sized B ys u p b → length u ≤ 2 ^ (B .m) → p .spent + p .cost ≤ 1048064
+  total-range : (u : List ℕ) (p : Path) (b : ℕ) → PathSized B ys u p b → length u ≤ 2 ^ (B .m) → p .spent + p .cost ≤ 1048064
   total-range u p b z l =
       let k : 2 ^ (B .m) ≤ 2 ^ 9 = pow-mono (ok .high) in
       omega (arith, z .total, costs-le (B .m) 2047 ys u ly l (z .bits) w)

@@ -13,8 +13,8 @@ use lib.Seq.{take-all, take-take, length-take-le}
 use lib.Pow.{pow-mono}
 use lib.IntN.{ℤ}
 use Rattle.laws.specs.Lists.{All, May}
+use Rattle.laws.specs.Pairs.{MayPair}
 use Rattle.laws.proofs.Lists.{all-take}
-use Rattle.laws.proofs.Pairs.{MayPair}
 use Rattle.polar.specs.Bits.{Bit, number}
 use Rattle.polar.specs.Transform.{transform}
 use Rattle.polar.specs.Layers.{Within}
@@ -35,8 +35,8 @@ use Rattle.outer.proofs.Words.{Matches, filled-after}
 use Rattle.reader.specs.Arrays.{Arrays, valsOf}
 use Rattle.reader.specs.Paths.{Path, ownWord, idsOf, viewOf}
 use Rattle.reader.specs.Reader.{Cut, copy, nextView}
-use Rattle.reader.specs.Reached.{Good, Inv, Holds, Reached}
-use Rattle.reader.proofs.Good.{holds-frame, Sized, sized}
+use Rattle.reader.specs.Reached.{Good, Inv, HoldsBits, Reached}
+use Rattle.reader.proofs.Good.{holds-frame, PathSized, sized}
 use Rattle.reader.proofs.Step.{next-matches, near-matches}
 use Rattle.reader.proofs.Fit.{copy-sees}
 use Rattle.reader.proofs.Reached.{Headed, reached-headed}
@@ -130,7 +130,7 @@ module _ (B : Book) (ys : List ℤ) (ok : Valid B) (ly : length ys ≡ 2 ^ (B .m
 
   -- ---- step 3: the next block has a nearest word
 
-  pub holds-found : (others : List (ℕ → ℕ)) (A : Arrays) (u : List ℕ) (p : Path) → Holds B ys A u p → p .blocks < length (B .blocks) →
+  pub holds-found : (others : List (ℕ → ℕ)) (A : Arrays) (u : List ℕ) (p : Path) → HoldsBits B ys A u p → p .blocks < length (B .blocks) →
       MoveFound B others A p
   holds-found others A u p h l =
       go (MW.nearest B ys u b) _ (nearest-found B ys u b) (near-matches B ys ok ly A u p others h l) refl
@@ -138,7 +138,7 @@ module _ (B : Book) (ys : List ℤ) (ok : Valid B) (ly : length ys ≡ 2 ^ (B .m
       b : ℕ
       b = p .blocks
 
-      now : Sized B ys u p b
+      now : PathSized B ys u p b
       now = sized B ys (viewOf A p) u p ok b (h .inv)
 
       found : Option Word

@@ -26,7 +26,7 @@ use Rattle.codec.specs.Ties.{paritiesOf, fillBlock, filled}
 use Rattle.outer.specs.Words.{Word}
 use Rattle.reader.specs.Paths.{Path, scoreOf, lastWord, ownWord, place, viewOf}
 use Rattle.reader.specs.Reader.{commit}
-use Rattle.reader.specs.Reached.{Vals, Sums, Good, Inv, Holds, plain, StandsFor}
+use Rattle.reader.specs.Reached.{Vals, Sums, Good, Inv, HoldsBits, plain, StandsFor}
 use Rattle.reader.proofs.Upd.{upd-other, upd-agree}
 use Rattle.reader.proofs.Tree.{Prior, vals-same, sums-same, vals-prior, prior-zero, sums-zero, prior-turn, turn-low, turn-less, root-join}
 use Rattle.codec.proofs.Ties.{filled-take, filled-drop}
@@ -58,7 +58,7 @@ inv-frame B ys v v′ u p (suc b) e f h =
     }
 
 module _ (B : Book) (ys : List ℤ) (A A′ : Arrays) where
-  pub holds-frame : (u : List ℕ) (p : Path) → Sees A A′ (p .ids) → Holds B ys A u p → Holds B ys A′ u p
+  pub holds-frame : (u : List ℕ) (p : Path) → Sees A A′ (p .ids) → HoldsBits B ys A u p → HoldsBits B ys A′ u p
   holds-frame u p e h =
       record { parities = h .parities; inv = inv-frame B ys (viewOf A p) (viewOf A′ p) u p (p .blocks) (e .vals) (e .sums) (h .inv) }
 
@@ -68,7 +68,7 @@ module _ (B : Book) (ys : List ℤ) (A A′ : Arrays) where
 -- ---- what the record says
 
 -- of a path with b blocks
-pub record Sized (B : Book) (ys : List ℤ) (u : List ℕ) (p : Path) (b : ℕ) : Type 0 where
+pub record PathSized (B : Book) (ys : List ℤ) (u : List ℕ) (p : Path) (b : ℕ) : Type 0 where
   pub within : b ≤ length (B .blocks)
   pub size : length u ≡ startOf (B .blocks) b
   pub bits : All Bit u
@@ -82,7 +82,7 @@ pub record Ready (B : Book) (ys : List ℤ) (others : List (ℕ → ℕ)) (u : L
   pub alone : b < length (B .blocks) → 0 < startOf (B .blocks) b → Alone others (turn (B .m) (startOf (B .blocks) b)) (v .ids)
 
 module _ (B : Book) (ys : List ℤ) (v : View) (u : List ℕ) (p : Path) where
-  pub sized : Valid B → (b : ℕ) → Inv B ys v u p b → Sized B ys u p b
+  pub sized : Valid B → (b : ℕ) → Inv B ys v u p b → PathSized B ys u p b
   unfolding Inv startOf All costs
   sized ok zero h =
       record {
@@ -134,7 +134,7 @@ module _ (B : Book) (ys : List ℤ) (v : View) (u : List ℕ) (p : Path) where
         }
 
 -- the machine scores its path alike
-pub plain-path : (B : Book) (ys : List ℤ) (u : List ℕ) (p : Path) → Sized B ys u p (p .blocks) → M.path B ys (p .number) (p .blocks) u ≡ plain B p u
+pub plain-path : (B : Book) (ys : List ℤ) (u : List ℕ) (p : Path) → PathSized B ys u p (p .blocks) → M.path B ys (p .number) (p .blocks) u ≡ plain B p u
 unfolding M.path M.scoreOf plain scoreOf
 plain-path B ys u p h = ap {A = ℤ} {B = M.Path} (λ z. record { number = p .number; blocks = p .blocks; bits = u; score = z }) (score (p .blocks))
   where

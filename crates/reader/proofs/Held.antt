@@ -70,20 +70,20 @@ arrays-held n h ps = omega (arith, held-most n (map (λ (p : Path). p .ids h) ps
 -- ---- ids within N
 
 -- each id is that of one of the N arrays, or 0
-abbrev pub Within : ℕ → (ℕ → ℕ) → Type 0
-Within N ids = (h : ℕ) → ids h ≤ N
+abbrev pub IdsWithin : ℕ → (ℕ → ℕ) → Type 0
+IdsWithin N ids = (h : ℕ) → ids h ≤ N
 
 -- of a path
 abbrev Housed : ℕ → Path → Type 0
-Housed N p = Within N (p .ids)
+Housed N p = IdsWithin N (p .ids)
 
 module _ (N : ℕ) (others : List (ℕ → ℕ)) (few : length others < N) where
-  writes-within : (h : ℕ) (v : View) → Within N (v .ids) → writes others h v ≤ N
+  writes-within : (h : ℕ) (v : View) → IdsWithin N (v .ids) → writes others h v ≤ N
   unfolding writes
   writes-within h v w = own-most N (v .ids h) (map (λ (o : ℕ → ℕ). o h) others) (w h) (omega (arith, length-map others (λ (o : ℕ → ℕ). o h)))
 
   -- whenever a path writes, the array is one of the N, and no other path's
-  pub writes-free : (h : ℕ) (v : View) → Within N (v .ids) →
+  pub writes-free : (h : ℕ) (v : View) → IdsWithin N (v .ids) →
       (0 < writes others h v) × (writes others h v ≤ N) × All (λ (o : ℕ → ℕ). o h ≡ writes others h v → ⊥) others
   writes-free h v w = (
     writes-some others h v,
@@ -91,24 +91,24 @@ module _ (N : ℕ) (others : List (ℕ → ℕ)) (few : length others < N) where
     writes-new others h v,
   )
 
-  upd-within : (h : ℕ) (v : View) → Within N (v .ids) → Within N (upd (v .ids) h (writes others h v))
+  upd-within : (h : ℕ) (v : View) → IdsWithin N (v .ids) → IdsWithin N (upd (v .ids) h (writes others h v))
   unfolding upd
   upd-within h v w k = cond-case (λ (i : ℕ). i ≤ N) (eqb k h) (λ _. writes-within h v w) (λ _. w k)
 
-  claim-within : (j h : ℕ) (v : View) → Within N (v .ids) → Within N (claim others j h v .ids)
-  claim-within j h v w = subst (Within N) (sym (claim-ids others h v j)) (upd-within h v w)
+  claim-within : (j h : ℕ) (v : View) → IdsWithin N (v .ids) → IdsWithin N (claim others j h v .ids)
+  claim-within j h v w = subst (IdsWithin N) (sym (claim-ids others h v j)) (upd-within h v w)
 
-  commit-within : (B : Book) (p : Path) (b : ℕ) (v : View) → Within N (v .ids) → Within N (commit B others p b v .ids)
+  commit-within : (B : Book) (p : Path) (b : ℕ) (v : View) → IdsWithin N (v .ids) → IdsWithin N (commit B others p b v .ids)
   unfolding commit putSums
   commit-within B p zero v w = w
   commit-within B p (suc b) v w = upd-within (place B b) v w
 
-  descend-within : (d m t : ℕ) (v : View) → Within N (v .ids) → Within N (descend others d m t v .ids)
+  descend-within : (d m t : ℕ) (v : View) → IdsWithin N (v .ids) → IdsWithin N (descend others d m t v .ids)
   unfolding putVals
-  descend-within d m t v w = descend-keeps others (λ z. Within N (z .ids)) d m t v (λ k x z _ h. upd-within k z h) w
+  descend-within d m t v w = descend-keeps others (λ z. IdsWithin N (z .ids)) d m t v (λ k x z _ h. upd-within k z h) w
 
 -- path 0 holds array 1
-pub first-within : (B : Book) (N : ℕ) → 1 ≤ N → Within N (firstPath B .ids)
+pub first-within : (B : Book) (N : ℕ) → 1 ≤ N → IdsWithin N (firstPath B .ids)
 unfolding firstPath upd
 first-within B N l h = cond-case (λ (i : ℕ). i ≤ N) (eqb h (B .m)) (λ _. l) (λ _. omega arith)
 
@@ -130,7 +130,7 @@ module _ (B : Book) (L D : ℕ) (two : 2 ≤ D) where
   copy-housed A p ps n zero w h = h
   copy-housed A p ps n (suc b) w h = copyWith-housed A p b ps n _ w h
 
-  moveWith-housed : (A : Arrays) (p : Path) (v : View) (o : Option Word) → Housed D p → Within D (v .ids) → Housed D (moveWith A p v o .path)
+  moveWith-housed : (A : Arrays) (p : Path) (v : View) (o : Option Word) → Housed D p → IdsWithin D (v .ids) → Housed D (moveWith A p v o .path)
   unfolding moveWith
   moveWith-housed A p v none w x = w
   moveWith-housed A p v (some y) w x = x
@@ -147,10 +147,10 @@ module _ (B : Book) (L D : ℕ) (two : 2 ≤ D) where
   -- the ids that paths hold at a moment: before the extraction, once the copy is made, and once the path has its next block
   pub record AllHoused (t : Moment) : Type 0 where
     pub alive : Alive B D t
-    pub taken : Within D (t .path .ids)
-    pub queue : All (λ (p : Path). Within D (p .ids)) (t .state .queue)
-    pub copied : All (λ (p : Path). Within D (p .ids)) (copyAt B D t .queue)
-    pub moved : Within D (movedAt B D t .ids)
+    pub taken : IdsWithin D (t .path .ids)
+    pub queue : All (λ (p : Path). IdsWithin D (p .ids)) (t .state .queue)
+    pub copied : All (λ (p : Path). IdsWithin D (p .ids)) (copyAt B D t .queue)
+    pub moved : IdsWithin D (movedAt B D t .ids)
 
   pub housed : (t : Moment) → length (t .state .queue) < D → Housed D (t .path) → All (Housed D) (t .state .queue) → AllHoused t
   unfolding copyAt movedAt

@@ -26,11 +26,11 @@ use Rattle.reader.specs.Arrays.{Arrays, View, sumsOf}
 use Rattle.reader.specs.Paths.{Path, firstPath, scoreOf, idsOf, viewOf}
 use Rattle.reader.specs.Reader as R
 use Rattle.reader.specs.Reader.{commit}
-use Rattle.reader.specs.Reached.{Sums, Inv, Holds, plain, StandsFor}
+use Rattle.reader.specs.Reached.{Sums, Inv, HoldsBits, plain, StandsFor}
 use Rattle.reader.proofs.Upd.{upd-same}
 use Rattle.reader.proofs.Tree.{root-word}
 use Rattle.codec.proofs.Ties.{parities-none}
-use Rattle.reader.proofs.Good.{Sized, sized, Ready, ready}
+use Rattle.reader.proofs.Good.{PathSized, sized, Ready, ready}
 use Rattle.reader.proofs.Step.{StepIs, stands-blocks, extract-is}
 
 -- what comes of the machine's final path, if there is one
@@ -59,12 +59,12 @@ first-stands B ys A e =
 module _ (B : Book) (ys : List ℤ) (ok : Valid B) (ly : length ys ≡ 2 ^ (B .m)) where
   -- ---- where step 1 stops
 
-  stopped-plain : (A : Arrays) (u : List ℕ) (p : Path) (ps : List Path) → Holds B ys A u p → p .blocks ≡ length (B .blocks) →
+  stopped-plain : (A : Arrays) (u : List ℕ) (p : Path) (ps : List Path) → HoldsBits B ys A u p → p .blocks ≡ length (B .blocks) →
       RunIs B ys (M.stopped (plain B p u)) (R.stopped B A p ps)
   unfolding M.stopped R.stopped plain finalFrom finalOf readData
   stopped-plain A u p ps h e =
       let v : View = commit B (idsOf ps) p (p .blocks) (viewOf A p) in
-      let z : Sized B ys u p (p .blocks) = sized B ys (viewOf A p) u p ok (p .blocks) (h .inv) in
+      let z : PathSized B ys u p (p .blocks) = sized B ys (viewOf A p) u p ok (p .blocks) (h .inv) in
       let r : Ready B ys (idsOf ps) u (p .blocks) v = ready B ys ok (idsOf ps) u p (p .blocks) (viewOf A p) (h .inv) in
       let f : startOf (B .blocks) (p .blocks) ≡ 2 ^ (B .m) = ap (startOf (B .blocks)) e ∙ ok .covered in
       let word : sumsOf v (B .m) ≡ transform (B .m) u =

@@ -12,8 +12,8 @@ use lib.IntN.{ℤ}
 use lib.Dec.{eqb}
 use Rattle.laws.specs.Lists.{All}
 use Rattle.laws.proofs.Lists.{all-take, all-unmapped}
-use Rattle.laws.specs.Pairs.{Paired}
-use Rattle.laws.proofs.Pairs.{MayPair, paired-take, paired-drop, paired-with}
+use Rattle.laws.specs.Pairs.{Paired, MayPair}
+use Rattle.laws.proofs.Pairs.{paired-take, paired-drop, paired-with}
 use Rattle.polar.specs.Bits.{Bit}
 use Rattle.polar.specs.Node.{node}
 use Rattle.polar.specs.Value.{costs}
@@ -32,12 +32,12 @@ use Rattle.outer.specs.Words.{Word}
 use Rattle.reader.specs.Paths.{Path, keyOf, scoreOf, ownWord, place, idsOf, viewOf}
 use Rattle.reader.specs.Reader as R
 use Rattle.reader.specs.Reader.{Moved, commit, downTo, nextView}
-use Rattle.reader.specs.Reached.{Vals, Sums, Good, Inv, Holds, plain, StandsFor}
+use Rattle.reader.specs.Reached.{Vals, Sums, Good, Inv, HoldsBits, plain, StandsFor}
 use Rattle.reader.proofs.Tree.{vals-node, vals-same, sums-same, sums-root, sums-unroot, root-turn}
 use Rattle.outer.proofs.Blocks.{Placed, placed, start-less}
 use Rattle.outer.proofs.Words.{Matches, nearer-matches, nearest-matches}
 use Rattle.reader.proofs.Arrays.{Sees, sees-same, Kept, kept-on, claim-kept, claim-vals, claim-own, claim-sums, descend-kept, descend-above, descend-good}
-use Rattle.reader.proofs.Good.{holds-frame, stands-frame, Sized, sized, plain-path, own-matches, commit-kept, Ready, ready, enter}
+use Rattle.reader.proofs.Good.{holds-frame, stands-frame, PathSized, sized, plain-path, own-matches, commit-kept, Ready, ready, enter}
 use Rattle.reader.proofs.Queue.{insert-paired, ahead-paired, behind-paired, numbers-paired}
 
 module _ (B : Book) (ys : List ℤ) (A : Arrays) (q : M.Path) (p : Path) (h : StandsFor B ys A q p) where
@@ -169,7 +169,7 @@ module _ (B : Book) (ys : List ℤ) (ok : Valid B) (ly : length ys ≡ 2 ^ (B .m
   -- ---- step 3: the path's own next block
 
   -- what it sees once it has gone down to that block, and the block's nearest word there, which is the machine's
-  module _ (A : Arrays) (u : List ℕ) (p : Path) (others : List (ℕ → ℕ)) (h : Holds B ys A u p) (l : p .blocks < length (B .blocks)) where
+  module _ (A : Arrays) (u : List ℕ) (p : Path) (others : List (ℕ → ℕ)) (h : HoldsBits B ys A u p) (l : p .blocks < length (B .blocks)) where
     down-good : Vals (B .m - blockAt B (p .blocks) .j) (B .m) ys u (startOf (B .blocks) (p .blocks)) (valsOf (downTo B others A p (p .blocks)))
         × Sums (B .m) u (startOf (B .blocks) (p .blocks)) (sumsOf (downTo B others A p (p .blocks)))
     down-good =
@@ -197,7 +197,7 @@ module _ (B : Book) (ys : List ℤ) (ok : Valid B) (ly : length ys ≡ 2 ^ (B .m
         let j : ℕ = blockAt B b .j in
         let m : ℕ = B .m in
         let o : Placed B b = placed B ok b l in
-        let z : Sized B ys u p b = sized B ys (viewOf A p) u p ok b (h .inv) in
+        let z : PathSized B ys u p b = sized B ys (viewOf A p) u p ok b (h .inv) in
         let v : View = downTo B others A p b in
         let vs : List ℤ = valsOf (nextView B others A p b) j in
         let near : Option Ranked = MW.nearest B ys u b in
@@ -214,8 +214,8 @@ module _ (B : Book) (ys : List ℤ) (ok : Valid B) (ly : length ys ≡ 2 ^ (B .m
     path : StandsFor B ys (x .arrays) q (x .path)
 
   module _ (A : Arrays) (u : List ℕ) (p : Path) (qs : List M.Path) (ps : List Path) where
-    module _ (hs : Paired (StandsFor B ys A) qs ps) (h : Holds B ys A u p) (l : p .blocks < length (B .blocks)) where
-      now : Sized B ys u p (p .blocks)
+    module _ (hs : Paired (StandsFor B ys A) qs ps) (h : HoldsBits B ys A u p) (l : p .blocks < length (B .blocks)) where
+      now : PathSized B ys u p (p .blocks)
       now = sized B ys (viewOf A p) u p ok (p .blocks) (h .inv)
 
       moveWith-is : (v : View) (way : ℕ → List ℤ) (o : Option Ranked) (o′ : Option Word) → Kept (idsOf ps) A (v .arrays) → way (B .m) ≡ ys →
@@ -280,7 +280,7 @@ module _ (B : Book) (ys : List ℤ) (ok : Valid B) (ly : length ys ≡ 2 ^ (B .m
         go true = behind-paired M.keyOf (keyOf B) (StandsFor B ys A) (stands-key B ys A) b qs ps hs
         go false = unfold Paired in tt
 
-  extract-plain : (L D : ℕ) (A : Arrays) (u : List ℕ) (p : Path) (qs : List M.Path) (ps : List Path) (n : ℕ) (visits : List ℕ) → Holds B ys A u p →
+  extract-plain : (L D : ℕ) (A : Arrays) (u : List ℕ) (p : Path) (qs : List M.Path) (ps : List Path) (n : ℕ) (visits : List ℕ) → HoldsBits B ys A u p →
       Paired (StandsFor B ys A) qs ps → p .blocks < length (B .blocks) →
       StepIs B ys (M.extract B L D ys (plain B p u) qs n visits) (R.extract B L D A p ps n visits)
   unfolding M.extract R.extract plain
@@ -310,6 +310,6 @@ module _ (B : Book) (ys : List ℤ) (ok : Valid B) (ly : length ys ≡ 2 ^ (B .m
       StandsFor B ys A q p → Paired (StandsFor B ys A) qs ps → (q .blocks ≡ length (B .blocks) → ⊥) →
       StepIs B ys (M.extract B L D ys q qs n visits) (R.extract B L D A p ps n visits)
   extract-is L D A q p qs ps n visits h hs ne =
-      let z : Sized B ys (q .bits) p (p .blocks) = sized B ys (viewOf A p) (q .bits) p ok (p .blocks) (h .holds .inv) in
+      let z : PathSized B ys (q .bits) p (p .blocks) = sized B ys (viewOf A p) (q .bits) p ok (p .blocks) (h .holds .inv) in
       subst (λ (q′ : M.Path). StepIs B ys (M.extract B L D ys q′ qs n visits) (R.extract B L D A p ps n visits)) (sym (h .same))
       (extract-plain L D A (q .bits) p qs ps n visits (h .holds) hs (omega (arith, z .within, stands-blocks B ys A q p h)))

@@ -61,7 +61,7 @@ Inv B ys v u p zero = Empty B ys v u p
 Inv B ys v u p (suc b) = Good B ys v u p b
 
 -- p, with what it keeps of the bits u and what it sees in the arrays
-pub record Holds (B : Book) (ys : List ℤ) (A : Arrays) (u : List ℕ) (p : Path) : Type 0 where
+pub record HoldsBits (B : Book) (ys : List ℤ) (A : Arrays) (u : List ℕ) (p : Path) : Type 0 where
   pub parities : p .parities ≡ paritiesOf B u
   pub inv : Inv B ys (viewOf A p) u p (p .blocks)
 
@@ -72,7 +72,7 @@ plain B p u = record { number = p .number; blocks = p .blocks; bits = u; score =
 -- p stands for the machine's path q
 pub record StandsFor (B : Book) (ys : List ℤ) (A : Arrays) (q : M.Path) (p : Path) : Type 0 where
   pub same : q ≡ plain B p (q .bits)
-  pub holds : Holds B ys A (q .bits) p
+  pub holds : HoldsBits B ys A (q .bits) p
 
 -- where p has arrays: at the root, and at each height from its last block's up
 pub record Rooted (B : Book) (p : Path) : Type 0 where

@@ -13,9 +13,9 @@ use lib.ListN.{length, getD, replicate, length-set, length-replicate}
 use lib.Seq.{getD-set-same, getD-set-other}
 use lib.IntN.{ℤ}
 use lib.Dec.{T, ltb, eqb, eqb→eq, ltb→lt, lt→ltb, T-not}
-use Rattle.laws.specs.Lists.{All, May, Filled, keep, sum}
+use Rattle.laws.specs.Lists.{All, May, NonEmpty, keep, sum}
 use Rattle.laws.proofs.Tests.{cond-case, neqb→ne}
-use Rattle.laws.proofs.Lists.{all-map, all-set, all-at, all-keep, all-replicate, sum-bump, sum-le}
+use Rattle.laws.proofs.Lists.{all-map, all-set, all-at, all-keep, all-replicate, getD-zeros, sum-bump, sum-le}
 use Rattle.codebook.specs.Book.{Book}
 use Rattle.machine.specs.Queue.{before, insert, ahead, staying, visit, Step}
 use Rattle.machine.specs.Machine.{Path, keyOf, Run, emptyPath, copyOf, advance, extract, run, runOf, after, stopped}
@@ -29,7 +29,7 @@ visit-sum : (visits : List ℕ) (b : ℕ) → b < length visits → sum (visit v
 unfolding visit
 visit-sum visits b h = sum-bump visits b h
 
-visit-same : (visits : List ℕ) (b : ℕ) → b < length visits → getD (visit visits b) b 0 ≡ suc (getD visits b 0)
+pub visit-same : (visits : List ℕ) (b : ℕ) → b < length visits → getD (visit visits b) b 0 ≡ suc (getD visits b 0)
 unfolding visit
 visit-same visits b h = getD-set-same visits b (suc (getD visits b 0)) 0 h
 
@@ -77,23 +77,23 @@ staying-open b N L visits qs h g =
 
 -- ---- the queue is never empty
 
-keep-filled : (f : Path → Bool) (p : Path) (qs : List Path) → T (f p) → Filled (keep f (insert keyOf p qs))
-unfolding insert keep Filled
-keep-filled f p [] t = cond-case Filled (f p) (λ _. tt) (λ n. T-not (f p) n t)
+keep-filled : (f : Path → Bool) (p : Path) (qs : List Path) → T (f p) → NonEmpty (keep f (insert keyOf p qs))
+unfolding insert keep NonEmpty
+keep-filled f p [] t = cond-case NonEmpty (f p) (λ _. tt) (λ n. T-not (f p) n t)
 keep-filled f p (q ∷ qs) t =
-    cond-case (λ (xs : List Path). Filled (keep f xs)) (before (keyOf p) (keyOf q))
-    (λ _. cond-case Filled (f p) (λ _. tt) (λ n. absurd (T-not (f p) n t)))
-    (λ _. cond-case Filled (f q) (λ _. tt) (λ _. keep-filled f p qs t))
+    cond-case (λ (xs : List Path). NonEmpty (keep f xs)) (before (keyOf p) (keyOf q))
+    (λ _. cond-case NonEmpty (f p) (λ _. tt) (λ n. absurd (T-not (f p) n t)))
+    (λ _. cond-case NonEmpty (f q) (λ _. tt) (λ _. keep-filled f p qs t))
 
-insert-filled : (p : Path) (qs : List Path) → Filled (insert keyOf p qs)
-unfolding insert Filled
+insert-filled : (p : Path) (qs : List Path) → NonEmpty (insert keyOf p qs)
+unfolding insert NonEmpty
 insert-filled p [] = tt
-insert-filled p (q ∷ qs) = cond-case Filled (before (keyOf p) (keyOf q)) (λ _. tt) (λ _. tt)
+insert-filled p (q ∷ qs) = cond-case NonEmpty (before (keyOf p) (keyOf q)) (λ _. tt) (λ _. tt)
 
-staying-filled : (L b : ℕ) (visits : List ℕ) (p : Path) (qs : List Path) → b < p .blocks → Filled (staying keyOf L b visits (insert keyOf p qs))
+staying-filled : (L b : ℕ) (visits : List ℕ) (p : Path) (qs : List Path) → b < p .blocks → NonEmpty (staying keyOf L b visits (insert keyOf p qs))
 unfolding staying ahead keyOf
 staying-filled L b visits p qs h =
-    cond-case Filled (eqb (getD visits b 0) L) (λ _. keep-filled _ p qs (lt→ltb b (p .blocks) h)) (λ _. insert-filled p qs)
+    cond-case NonEmpty (eqb (getD visits b 0) L) (λ _. keep-filled _ p qs (lt→ltb b (p .blocks) h)) (λ _. insert-filled p qs)
 
 -- ---- one extraction keeps the invariant
 
@@ -126,7 +126,7 @@ module _ (B : Book) (L D : ℕ) (ys : List ℤ) (p : Path) (qs : List Path) (n :
       (later-but b N L w p (advance B ys p) (omega arith) (omega arith) me)
       (all-cut (OpenBut b N L w) D qs n (copyOf B ys n b (p .bits)) (all-map (open-but b N L visits) qs gs) (copy-but N L w p me _ (copy-blocks B ys n b (p .bits)))))
 
-  extract-filled : Filled (extract B L D ys p qs n visits .state .queue)
+  extract-filled : NonEmpty (extract B L D ys p qs n visits .state .queue)
   unfolding extract
   extract-filled = staying-filled L (p .blocks) _ (advance B ys p) _ (omega (arith, advance-blocks B ys p))
 
@@ -135,7 +135,7 @@ module _ (B : Book) (L D : ℕ) (ys : List ℤ) (p : Path) (qs : List Path) (n :
 -- what a state needs for the rest of the run
 abbrev pub Going : Book → ℕ → List Path → List ℕ → Type 0
 Going B L qs visits =
-    (length visits ≡ length (B .blocks)) × All (λ (v : ℕ). v ≤ L) visits × All (Open (length (B .blocks)) L visits) qs × Filled qs
+    (length visits ≡ length (B .blocks)) × All (λ (v : ℕ). v ≤ L) visits × All (Open (length (B .blocks)) L visits) qs × NonEmpty qs
 
 going-on : (B : Book) (L D : ℕ) (ys : List ℤ) (p : Path) (qs : List Path) (n : ℕ) (visits : List ℕ) → T (not (eqb (p .blocks) (length (B .blocks)))) → Going B L (p ∷ qs) visits →
     Going B L (extract B L D ys p qs n visits .state .queue) (visit visits (p .blocks))
@@ -150,7 +150,7 @@ going-on B L D ys p qs n visits t g =
     )
 
 ends : (fuel : ℕ) (B : Book) (L D : ℕ) (ys : List ℤ) (qs : List Path) (n : ℕ) (visits : List ℕ) → Going B L qs visits → L * length (B .blocks) < fuel + sum visits → Ended (length (B .blocks)) (run fuel B L D ys qs n visits)
-unfolding run Ended after stopped extract Filled All
+unfolding run Ended after stopped extract NonEmpty All
 ends zero B L D ys qs n visits g m = absurd (lt-irrefl 0 (omega (arith, sum-le L visits (g .1), ap (λ (x : ℕ). L * x) (g .0))))
 ends (suc fuel) B L D ys [] n visits g m = absurd (g .3)
 ends (suc fuel) B L D ys (p ∷ qs) n visits g m =
@@ -162,18 +162,13 @@ ends (suc fuel) B L D ys (p ∷ qs) n visits g m =
     let r = ends fuel B L D ys _ _ (visit visits (p .blocks)) (going-on B L D ys p qs n visits t g) (omega arith) in
     (r .0, r .1, r .2))
 
-no-visits : (n i : ℕ) → _≡_ {A = ℕ} (getD (replicate n 0) i 0) 0
-no-visits zero i = refl
-no-visits (suc n) zero = refl
-no-visits (suc n) (suc i) = no-visits n i
-
 pub first-going : (B : Book) (L : ℕ) → 0 < L → Going B L (emptyPath ∷ []) (replicate (length (B .blocks)) 0)
-unfolding All Filled emptyPath
+unfolding All NonEmpty emptyPath
 first-going B L h =
     let N = length (B .blocks) in (
       length-replicate {A = ℕ} N 0,
       all-replicate (λ (v : ℕ). v ≤ L) N 0 zero-le,
-      ((zero-le, λ i _ _. subst (λ (x : ℕ). x < L) (sym (no-visits N i)) h), tt),
+      ((zero-le, λ i _ _. subst (λ (x : ℕ). x < L) (sym (getD-zeros N i)) h), tt),
       tt,
     )
 

@@ -36,14 +36,14 @@ use Rattle.runs.proofs.Ends.{run-ends}
 
 -- ---- bits that fill the first s indices and obey their kinds
 
-pub record Filling (B : Book) (s : ℕ) (u : List ℕ) : Type 0 where
+pub record Fills (B : Book) (s : ℕ) (u : List ℕ) : Type 0 where
   pub size : length u ≡ s
   pub bits : All Bit u
   pub obey : T (obeysAll u 0 (take s (B .kinds)))
 
 module _ (B : Book) (ok : Valid B) where
   -- the first of them
-  filling-cut : (s t : ℕ) (u : List ℕ) → s ≤ t → t ≤ 2 ^ (B .m) → Filling B t u → Filling B s (take s u)
+  filling-cut : (s t : ℕ) (u : List ℕ) → s ≤ t → t ≤ 2 ^ (B .m) → Fills B t u → Fills B s (take s u)
   filling-cut s t u h l f =
       let ks : List Kind = take t (B .kinds) in
       let front : take s ks ≡ take s (B .kinds) = take-take s t (B .kinds) h in
@@ -59,7 +59,7 @@ module _ (B : Book) (ok : Valid B) where
       }
 
   -- n more, filled by their kinds
-  filling-more : (s n : ℕ) (u ds : List ℕ) → s + n ≤ 2 ^ (B .m) → All Bit ds → Filling B s u → Filling B (s + n) (fill u (take n (drop s (B .kinds))) ds)
+  filling-more : (s n : ℕ) (u ds : List ℕ) → s + n ≤ 2 ^ (B .m) → All Bit ds → Fills B s u → Fills B (s + n) (fill u (take n (drop s (B .kinds))) ds)
   filling-more s n u ds l h f =
       let ks : List Kind = take s (B .kinds) in
       let ls : List Kind = take n (drop s (B .kinds)) in
@@ -81,25 +81,25 @@ module _ (B : Book) (ok : Valid B) where
   -- ---- a path's blocks
 
   abbrev Fits : Path → Type 0
-  Fits p = (p .blocks ≤ length (B .blocks)) × Filling B (startOf (B .blocks) (p .blocks)) (p .bits)
+  Fits p = (p .blocks ≤ length (B .blocks)) × Fills B (startOf (B .blocks) (p .blocks)) (p .bits)
 
   -- each setting of block b after bits that fill the blocks before it
-  setting-fits : (ys : List ℤ) (u : List ℕ) (b w : ℕ) → b < length (B .blocks) → Filling B (startOf (B .blocks) b) u → Filling B (startOf (B .blocks) (suc b)) (setting B ys u b w .bits)
+  setting-fits : (ys : List ℤ) (u : List ℕ) (b w : ℕ) → b < length (B .blocks) → Fills B (startOf (B .blocks) b) u → Fills B (startOf (B .blocks) (suc b)) (setting B ys u b w .bits)
   unfolding setting rank kindsOf
   setting-fits ys u b w l f =
       let n : ℕ = 2 ^ (blockAt B b .j) in
-      subst (λ (i : ℕ). Filling B i (setting B ys u b w .bits)) (sym (start-next B b l))
+      subst (λ (i : ℕ). Fills B i (setting B ys u b w .bits)) (sym (start-next B b l))
       (filling-more (startOf (B .blocks) b) n u (toBits (freeCount (kindsOf B b)) w) (ok .blocks b l .within) (toBits-bits _ w) f)
 
   -- so the words found
   abbrev Word : ℕ → Ranked → Type 0
-  Word b x = Filling B (startOf (B .blocks) (suc b)) (x .bits)
+  Word b x = Fills B (startOf (B .blocks) (suc b)) (x .bits)
 
-  nearest-fits : (test : Ranked → Bool) (ys : List ℤ) (u : List ℕ) (b : ℕ) → b < length (B .blocks) → Filling B (startOf (B .blocks) b) u → May (Word b) (nearestWith test B ys u b)
+  nearest-fits : (test : Ranked → Bool) (ys : List ℤ) (u : List ℕ) (b : ℕ) → b < length (B .blocks) → Fills B (startOf (B .blocks) b) u → May (Word b) (nearestWith test B ys u b)
   unfolding nearestWith
   nearest-fits test ys u b l f = first-may (Word b) nearer test (setting B ys u b) _ (λ w _. setting-fits ys u b w l f)
 
-  next-fits : (ys : List ℤ) (u : List ℕ) (b : ℕ) → b < length (B .blocks) → Filling B (startOf (B .blocks) (suc b)) u → May (Word b) (nextAfter B ys u b)
+  next-fits : (ys : List ℤ) (u : List ℕ) (b : ℕ) → b < length (B .blocks) → Fills B (startOf (B .blocks) (suc b)) u → May (Word b) (nextAfter B ys u b)
   unfolding nextAfter
   next-fits ys u b l f =
       let s : ℕ = startOf (B .blocks) b in
@@ -111,7 +111,7 @@ module _ (B : Book) (ok : Valid B) where
   copyWith-fits ys n b none l h = tt
   copyWith-fits ys n b (some x) l h = (l, h)
 
-  copy-fits : (ys : List ℤ) (n b : ℕ) (u : List ℕ) → b ≤ length (B .blocks) → Filling B (startOf (B .blocks) b) u → May Fits (copyOf B ys n b u)
+  copy-fits : (ys : List ℤ) (n b : ℕ) (u : List ℕ) → b ≤ length (B .blocks) → Fills B (startOf (B .blocks) b) u → May Fits (copyOf B ys n b u)
   unfolding copyOf May
   copy-fits ys n zero u l f = tt
   copy-fits ys n (suc b) u l f = copyWith-fits ys n b (nextAfter B ys u b) l (next-fits ys u b l f)
@@ -142,14 +142,14 @@ module _ (B : Book) (ok : Valid B) where
   first-fits = ((omega arith, record { size = refl; bits = tt; obey = tt }), tt)
 
   -- the path taken last fills all indices
-  final-filling : (L D : ℕ) (ys : List ℤ) → May (λ (p : Path). Filling B (2 ^ (B .m)) (p .bits)) (runOf B L D ys .final)
+  final-filling : (L D : ℕ) (ys : List ℤ) → May (λ (p : Path). Fills B (2 ^ (B .m)) (p .bits)) (runOf B L D ys .final)
   unfolding All
   final-filling L D ys =
-      run-final B L D ys AllFit _ (extract-fits L D ys) (λ p qs n visits e h. subst (λ (s : ℕ). Filling B s (p .bits)) (ap (startOf (B .blocks)) e ∙ ok .covered) (h .0 .1)) first-fits
+      run-final B L D ys AllFit _ (extract-fits L D ys) (λ p qs n visits e h. subst (λ (s : ℕ). Fills B s (p .bits)) (ap (startOf (B .blocks)) e ∙ ok .covered) (h .0 .1)) first-fits
 
   -- ---- the word
 
-  filling-exact : (ys : List ℤ) (p : Path) → length ys ≡ 2 ^ (B .m) → Filling B (2 ^ (B .m)) (p .bits) → Exact B ys (finalOf B ys (some p))
+  filling-exact : (ys : List ℤ) (p : Path) → length ys ≡ 2 ^ (B .m) → Fills B (2 ^ (B .m)) (p .bits) → Exact B ys (finalOf B ys (some p))
   unfolding finalOf inCode readData
   filling-exact ys p e f =
       let u : List ℕ = p .bits in
@@ -167,5 +167,5 @@ module _ (B : Book) (ok : Valid B) where
   unfolding Ended May
   run-exact L D ys h e =
       let (p, q, _) = run-ends B L D ys h in
-      let f = subst (May (λ (p : Path). Filling B (2 ^ (B .m)) (p .bits))) q (final-filling L D ys) in
+      let f = subst (May (λ (p : Path). Fills B (2 ^ (B .m)) (p .bits))) q (final-filling L D ys) in
       subst (λ (o : Option Path). Exact B ys (finalOf B ys o)) (sym q) (filling-exact ys p e f)

@@ -29,7 +29,7 @@ use Rattle.screen.proofs.Copied.{copied-recorded}
 use Rattle.screen.proofs.Extracted.{left-extracted, left-fits}
 
 -- ---- what the covered call leaves: nothing is done where the records are too few, else what the attempt does
-pub record Within (hook : Bool) (c : Input) (l : Lent) (room : ℕ) (counts : Counts) (after : Lent) : Type 0 where
+pub record LeftWithin (hook : Bool) (c : Input) (l : Lent) (room : ℕ) (counts : Counts) (after : Lent) : Type 0 where
   pub none-made : few c room ≡ true → counts ≡ noCounts
   pub left : few c room ≡ false → Left hook c l counts after
 
@@ -45,11 +45,11 @@ hook-left c l =
     let e = hook-handed c l in
     record { counted = ap (λ y. y .answer .counts) e; paths = ap (λ y. y .lent .walkPath) e; blocks = ap (λ y. y .lent .walkBlocks) e; scores = ap (λ y. y .lent .walkScore) e }
 
-plain-within : (c : Input) (l : Lent) (room : ℕ) → Within false c l room (plainWithin c l room .answer .counts) (plainWithin c l room .lent)
+plain-within : (c : Input) (l : Lent) (room : ℕ) → LeftWithin false c l room (plainWithin c l room .answer .counts) (plainWithin c l room .lent)
 unfolding plainWithin plainRefused
 plain-within c l room = record { none-made = λ f. rw f refl; left = λ f. rw f (plain-left c l) }
 
-hook-within : (c : Input) (l : Lent) (room : ℕ) → Within true c l room (hookWithin c l room .answer .counts) (hookWithin c l room .lent)
+hook-within : (c : Input) (l : Lent) (room : ℕ) → LeftWithin true c l room (hookWithin c l room .answer .counts) (hookWithin c l room .lent)
 unfolding hookWithin hookRefused
 hook-within c l room = record { none-made = λ f. rw f refl; left = λ f. rw f (hook-left c l) }
 
@@ -87,7 +87,7 @@ module _ (hook : Bool) (c : Input) (l : Lent) where
   unfolding stepsOf stepsWith stepsUnbarred machineRun
   ran-steps B e b = rw (e, b) refl
 
-  module _ (old : List StepRecord) (counts : Counts) (after : Lent) (x : Within hook c l (length old) counts after) (fit : Fitting counts (length old) after) where
+  module _ (old : List StepRecord) (counts : Counts) (after : Lent) (x : LeftWithin hook c l (length old) counts after) (fit : Fitting counts (length old) after) where
     abbrev shown : List StepRecord
     shown = copied old (after .walkPath) (after .walkBlocks) (after .walkScore) (counts .extractions)
 
@@ -118,10 +118,10 @@ module _ (hook : Bool) (c : Input) (l : Lent) where
   abbrev pub Says : {R : Type 0} → (R → Counts) → Called R → List StepRecord → R → Lent → List StepRecord → Type 0
   Says counts w old r after steps = (r ≡ w .answer) × (after ≡ w .lent) × (steps ≡ recordsAfter hook c l old) × WholeScreen hook c l old (counts r) after steps
 
-  says : {R : Type 0} (counts : R → Counts) (w : Called R) (old : List StepRecord) → Within hook c l (length old) (counts (w .answer)) (w .lent) → (r : R) (after : Lent)
+  says : {R : Type 0} (counts : R → Counts) (w : Called R) (old : List StepRecord) → LeftWithin hook c l (length old) (counts (w .answer)) (w .lent) → (r : R) (after : Lent)
       → Leaves counts w (length old) r after → Says counts w old r after (copied old (after .walkPath) (after .walkBlocks) (after .walkScore) (counts r .extractions))
   says counts w old x r after h =
-      let y : Within hook c l (length old) (counts r) after = rw (h .0, h .1) x in
+      let y : LeftWithin hook c l (length old) (counts r) after = rw (h .0, h .1) x in
       (h .0, h .1, shown-records old (counts r) after y (h .2), shown-whole old (counts r) after y (h .2))
 
 module _ (c : Input) (l : Lent) (old : List StepRecord) where

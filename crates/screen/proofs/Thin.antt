@@ -126,8 +126,8 @@ module _ (row : RattleType) (N : Answered row) (Left : Input → Lent → ℕ �
 
   module _ {M : Type 1} (𝓤 : URA M) (H : Heap 𝓤) (A : Atoms 𝓤) (mem : Memory → SProp 𝓤) (run : Routine → Fun 𝓤) where
     -- the contracts of the covered call and of copy_steps, and what is said of this one
-    abbrev pub Within : Contract 𝓤
-    Within = tripleOf 𝓤 H A (within-ended row .signature) (closing 𝓤 H A (within-ended row) (within-clauses row 𝓤 Left))
+    abbrev pub CoveredCall : Contract 𝓤
+    CoveredCall = tripleOf 𝓤 H A (within-ended row .signature) (closing 𝓤 H A (within-ended row) (within-clauses row 𝓤 Left))
 
     abbrev pub Copies : Contract 𝓤
     Copies = tripleOf 𝓤 H A copies.signature (copies.spec 𝓤 H A mem run)
@@ -188,7 +188,7 @@ module _ (row : RattleType) (N : Answered row) (Left : Input → Lent → ℕ �
       abbrev vals₁ : Vals13
       vals₁ = (slice-vals x₀, (vint w32 v ∷ [], (vint w32 p ∷ [], (vint w32 t ∷ [], (slice-vals x₁, (slice-vals x₂, (slice-vals x₃, (slice-vals x₄, (slice-vals x₅, (slice-vals x₆, (slice-vals x₇, (slice-vals x₈, (vint w64 m ∷ [], tt)))))))))))))
 
-      abbrev to-within : Within 𝓤 H A mem run .Ghost
+      abbrev to-within : CoveredCall 𝓤 H A mem run .Ghost
       to-within = (((κ₀, (κ₁, (κ₂, (κ₃, (κ₄, (κ₅, (ν₆ ∷ [], (ν₇ ∷ [], (ν₈ ∷ [], tt))))))))), (q₀, (q₁, (q₂, (q₃, (q₄, (q₅, (fullShare, (fullShare, (fullShare, tt))))))))), tt, a₁, vals₁), tt)
 
       abbrev tokens₁ : Item 𝓤
@@ -197,7 +197,7 @@ module _ (row : RattleType) (N : Answered row) (Left : Input → Lent → ℕ �
       abbrev owned₁ : Item 𝓤
       owned₁ = ‵ (owns (ShrSlice (named 0) κ₀ u8 ∷ u32 ∷ u32 ∷ u32 ∷ ShrSlice (named 1) κ₁ i16 ∷ MutSlice (named 2) κ₂ u8 ∷ MutSlice (named 3) κ₃ u8 ∷ MutSlice (named 4) κ₄ i32 ∷ MutSlice (named 5) κ₅ u8 ∷ MutSlice (named 6) (ν₆ ∷ []) i32 ∷ MutSlice (named 7) (ν₇ ∷ []) i32 ∷ MutSlice (named 8) (ν₈ ∷ []) i32 ∷ usize ∷ []) a₁ vals₁)
 
-      goes-within : ent 𝓤 (sep 𝓤 (mean 𝓤 H A tokens₁) (mean 𝓤 H A owned₁)) (Within 𝓤 H A mem run .pre to-within)
+      goes-within : ent 𝓤 (sep 𝓤 (mean 𝓤 H A tokens₁) (mean 𝓤 H A owned₁)) (CoveredCall 𝓤 H A mem run .pre to-within)
       goes-within = qed W (tokens₁ ∷ owned₁ ∷ []) ∵ join ! $ frame ! $ done !
 
     -- what it leaves
@@ -253,7 +253,7 @@ module _ (row : RattleType) (N : Answered row) (Left : Input → Lent → ℕ �
           owned ! u32 (Is u32) (uint-makes 𝓤 H A W w32) t (vint w32 t ∷ []) (refl, t-fits) $ fjoin ! $ owned ! u32 (Is u32) (uint-makes 𝓤 H A W w32) p (vint w32 p ∷ []) (refl, p-fits) $ fjoin ! $ owned ! u32 (Is u32) (uint-makes 𝓤 H A W w32) v (vint w32 v ∷ []) (refl, v-fits) $ fjoin ! $ move ! (1 ∷ 0 ∷ []) $ fjoin ! $
           owned ! row (Is row) (N .makes 𝓤 H A) r _ is $ move ! (1 ∷ 0 ∷ []) $ done !
 
-    module _ (C : Calls 𝓤 H) (Λ : Loops 𝓤 H) (fm : FmC 𝓤 H (W .laws) C) (callee : Name) (known-within : Triple 𝓤 (C callee) (Within 𝓤 H A mem run)) (known-copies : Triple 𝓤 (C #copy-steps) (Copies 𝓤 H A mem run)) where
+    module _ (C : Calls 𝓤 H) (Λ : Loops 𝓤 H) (fm : FmC 𝓤 H (W .laws) C) (callee : Name) (known-within : Triple 𝓤 (C callee) (CoveredCall 𝓤 H A mem run)) (known-copies : Triple 𝓤 (C #copy-steps) (Copies 𝓤 H A mem run)) where
       walk : ent 𝓤 (onEntry 𝓤 H A (thin-ended row .signature) (κ₀, (κ₁, (κ₂, (κ₃, (κ₄, (κ₅, (κ₆, (κ₇, (κ₈, (κ₉, tt)))))))))) (q₀, (q₁, (q₂, (q₃, (q₄, (q₅, (q₆, (q₇, (q₈, (q₉, tt)))))))))) a vals) (WpFn 𝓤 H C Λ (thin τ callee) (sl x₀ ∷ vint w32 v ∷ vint w32 p ∷ vint w32 t ∷ sl x₁ ∷ sl x₂ ∷ sl x₃ ∷ sl x₄ ∷ sl x₅ ∷ sl x₆ ∷ sl x₇ ∷ sl x₈ ∷ sl x₉ ∷ []) Post)
       walk =
           qed W ((‵ (flft κ₀ q₀) ⊛ (‵ (flft κ₁ q₁) ⊛ (‵ (flft κ₂ q₂) ⊛ (‵ (flft κ₃ q₃) ⊛ (‵ (flft κ₄ q₄) ⊛ (‵ (flft κ₅ q₅) ⊛ (‵ (flft κ₆ q₆) ⊛ (‵ (flft κ₇ q₇) ⊛ (‵ (flft κ₈ q₈) ⊛ (‵ (flft κ₉ q₉) ⊛ (‵ ftrue))))))))))) ∷ ‵ (owns (ShrSlice (named 0) κ₀ u8 ∷ u32 ∷ u32 ∷ u32 ∷ ShrSlice (named 1) κ₁ i16 ∷ MutSlice (named 2) κ₂ u8 ∷ MutSlice (named 3) κ₃ u8 ∷ MutSlice (named 4) κ₄ i32 ∷ MutSlice (named 5) κ₅ u8 ∷ MutSlice (named 6) κ₆ i32 ∷ MutSlice (named 7) κ₇ i32 ∷ MutSlice (named 8) κ₈ i32 ∷ MutSlice (named 9) κ₉ T.the-row ∷ []) a vals) ∷ []) ∵
@@ -291,9 +291,9 @@ module _ (row : RattleType) (N : Answered row) (Left : Input → Lent → ℕ �
           nothing ! $ owned ! usize (Is usize) (uint-makes 𝓤 H A W w64) m (vint w64 m ∷ []) (refl, room₉ .0) $ fjoin ! $ move ! (5 ∷ 0 ∷ []) $ fjoin ! $ move ! (7 ∷ 0 ∷ []) $ fjoin ! $ move ! (9 ∷ 0 ∷ []) $ fjoin ! $ move ! (19 ∷ 0 ∷ []) $ fjoin ! $ move ! (19 ∷ 0 ∷ []) $ fjoin ! $ move ! (19 ∷ 0 ∷ []) $ fjoin ! $ move ! (19 ∷ 0 ∷ []) $ fjoin ! $ move ! (1 ∷ 0 ∷ []) $ fjoin ! $
           owned ! u32 (Is u32) (uint-makes 𝓤 H A W w32) t (vint w32 t ∷ []) (refl, t-fits) $ fjoin ! $ owned ! u32 (Is u32) (uint-makes 𝓤 H A W w32) p (vint w32 p ∷ []) (refl, p-fits) $ fjoin ! $ owned ! u32 (Is u32) (uint-makes 𝓤 H A W w32) v (vint w32 v ∷ []) (refl, v-fits) $ fjoin ! $ move ! (2 ∷ 0 ∷ []) $ fjoin ! $
           nothing ! $ move ! (5 ∷ 0 ∷ []) $ join ! $ move ! (6 ∷ 0 ∷ []) $ join ! $ move ! (7 ∷ 0 ∷ []) $ join ! $ move ! (8 ∷ 0 ∷ []) $ join ! $ move ! (8 ∷ 0 ∷ []) $ join ! $ move ! (8 ∷ 0 ∷ []) $ join ! $ move ! (8 ∷ 0 ∷ []) $ join ! $ move ! (8 ∷ 0 ∷ []) $ join ! $ move ! (8 ∷ 0 ∷ []) $ join ! $
-          use2 W (raw (Within 𝓤 H A mem run .pre (to-within ν₆ ν₇ ν₈ δ₆ δ₇ δ₈))) (goes-within ν₆ ν₇ ν₈ δ₆ δ₇ δ₈) $
+          use2 W (raw (CoveredCall 𝓤 H A mem run .pre (to-within ν₆ ν₇ ν₈ δ₆ δ₇ δ₈))) (goes-within ν₆ ν₇ ν₈ δ₆ δ₇ δ₈) $
           -- [what decode_within asks; values; book; what is kept of scores; what is kept of blocks; what is kept of paths; t₉; records; …]
-          calls-at ! fm (Within 𝓤 H A mem run) known-within (to-within ν₆ ν₇ ν₈ δ₆ δ₇ δ₈)
+          calls-at ! fm (CoveredCall 𝓤 H A mem run) known-within (to-within ν₆ ν₇ ν₈ δ₆ δ₇ δ₈)
           (and-then ! (load ! (from ! (stop !)) (look ! 84 refl)) (and-then ! (load ! (from ! (stop !)) (look ! 82 refl)) (and-then ! (load ! (from ! (stop !)) (look ! 80 refl)) (and-then ! (load ! (from ! (stop !)) (look ! 78 refl)) (and-then ! (load ! (from ! (stop !)) (look ! 76 refl)) (and-then ! (load ! (from ! (stop !)) (look ! 50 refl)) (and-then ! (load ! (from ! (stop !)) (look ! 46 refl)) (and-then ! (load ! (from ! (stop !)) (look ! 42 refl)) (and-then ! (load ! (from ! (stop !)) (look ! 38 refl)) (and-then ! (load ! (from ! (stop !)) (look ! 34 refl)) (and-then ! (load ! (from ! (stop !)) (look ! 30 refl)) (and-then ! (load ! (from ! (stop !)) (look ! 26 refl)) (and-then ! (load ! (from ! (stop !)) (look ! 58 refl)) (no-more !)))))))))))))) (λ w.
           use1 W (later (some (λ (r : row .Denot). (tokens₁ ν₆ ν₇ ν₈ δ₆ δ₇ δ₈ ⊛ ‵ (row .own r (w ∷ []))) ⊛ raw (ensured 𝓤 H A (within-ended row) (within-clauses row 𝓤 Left) (κ₀, (κ₁, (κ₂, (κ₃, (κ₄, (κ₅, (ν₆ ∷ [], (ν₇ ∷ [], (ν₈ ∷ [], tt))))))))) (a₁ ν₆ ν₇ ν₈ δ₆ δ₇ δ₈) tt r)))) (id⊢ 𝓤 _) $ await ! tt $ pick ! (λ r.
           split ! $ move ! (1 ∷ []) $ use1 W (some (λ (zs : Lasts). ‵ (lasts (within-ended row) (κ₀, (κ₁, (κ₂, (κ₃, (κ₄, (κ₅, (ν₆ ∷ [], (ν₇ ∷ [], (ν₈ ∷ [], tt))))))))) (a₁ ν₆ ν₇ ν₈ δ₆ δ₇ δ₈) zs) ⊛ raw (fact 𝓤 (Left c l m r (after zs))))) (id⊢ 𝓤 _) $ pick ! (λ zs.
@@ -333,7 +333,7 @@ module _ (row : RattleType) (N : Answered row) (Left : Input → Lent → ℕ �
           keep ! (0 ∷ 1 ∷ 2 ∷ 3 ∷ 4 ∷ 10 ∷ 9 ∷ 8 ∷ 7 ∷ 6 ∷ 5 ∷ 14 ∷ 13 ∷ 12 ∷ 11 ∷ 16 ∷ 15 ∷ []) $ by ! (exits r (after zs) e (ts .0) e₂ fields n₂ n₃ n₄ n₅ n₆ n₇ n₈ n₉)))))))))))))))))))))))))))))))))))))))))))))))))))))))))))))))))
 
   module _ {M : Type 1} (𝓤 : URA M) (H : Heap 𝓤) (A : Atoms 𝓤) (W : Given 𝓤 H A) (mem : Memory → SProp 𝓤) (run : Routine → Fun 𝓤) where
-    thin-walks : (C : Calls 𝓤 H) (Λ : Loops 𝓤 H) → FmC 𝓤 H (W .laws) C → (callee : Name) → Triple 𝓤 (C callee) (Within 𝓤 H A mem run) → Triple 𝓤 (C #copy-steps) (Copies 𝓤 H A mem run) → Walks 𝓤 H A (thin-ended row) (stayed row) (WpFn 𝓤 H C Λ (thin τ callee)) (said 𝓤 H A mem run)
+    thin-walks : (C : Calls 𝓤 H) (Λ : Loops 𝓤 H) → FmC 𝓤 H (W .laws) C → (callee : Name) → Triple 𝓤 (C callee) (CoveredCall 𝓤 H A mem run) → Triple 𝓤 (C #copy-steps) (Copies 𝓤 H A mem run) → Walks 𝓤 H A (thin-ended row) (stayed row) (WpFn 𝓤 H C Λ (thin τ callee)) (said 𝓤 H A mem run)
     thin-walks C Λ fm callee known-within known-copies = walked 𝓤 H A (thin-ended row) (stayed row) (said 𝓤 H A mem run) (WpFn 𝓤 H C Λ (thin τ callee))
         (λ κs. (slice-vals, (uint-vals w32, (uint-vals w32, (uint-vals w32, (slice-vals, (slice-vals, (slice-vals, (slice-vals, (slice-vals, (slice-vals, (slice-vals, (slice-vals, (slice-vals, tt))))))))))))))
         (λ κs. (shr-slice-tells (named 0) (κs .0) u8, (uint-tells w32, (uint-tells w32, (uint-tells w32, (shr-slice-tells (named 1) (κs .1 .0) i16, (mut-slice-tells (named 2) (κs .1 .1 .0) u8, (mut-slice-tells (named 3) (κs .1 .1 .1 .0) u8, (mut-slice-tells (named 4) (κs .1 .1 .1 .1 .0) i32, (mut-slice-tells (named 5) (κs .1 .1 .1 .1 .1 .0) u8, (mut-slice-tells (named 6) (κs .1 .1 .1 .1 .1 .1 .0) i32, (mut-slice-tells (named 7) (κs .1 .1 .1 .1 .1 .1 .1 .0) i32, (mut-slice-tells (named 8) (κs .1 .1 .1 .1 .1 .1 .1 .1 .0) i32, (mut-slice-tells (named 9) (κs .1 .1 .1 .1 .1 .1 .1 .1 .1 .0) T.the-row, tt))))))))))))))
@@ -344,7 +344,7 @@ module _ (row : RattleType) (N : Answered row) (Left : Input → Lent → ℕ �
     goes : AllGo 𝓤 H A W 10 (thin-ended row .signature .params) (thin-ended row .kept) (stayed row)
     goes = (goes-none-slice 𝓤 H A W 10 (0 ∷ []) tt (plain (λ _. u8)) yes, (goes-none 𝓤 H A W 10 (λ _. u32) yes (λ κs x f. refl), (goes-none 𝓤 H A W 10 (λ _. u32) yes (λ κs x f. refl), (goes-none 𝓤 H A W 10 (λ _. u32) yes (λ κs x f. refl), (goes-none-slice 𝓤 H A W 10 (1 ∷ []) tt (plain (λ _. i16)) yes, (goes-gave-slice 𝓤 H A W 10 2 tt (plain (λ _. u8)), (goes-gave-slice 𝓤 H A W 10 3 tt (plain (λ _. u8)), (goes-gave-slice 𝓤 H A W 10 4 tt (plain (λ _. i32)), (goes-gave-slice 𝓤 H A W 10 5 tt (plain (λ _. u8)), (goes-gave-slice 𝓤 H A W 10 6 tt (plain (λ _. i32)), (goes-gave-slice 𝓤 H A W 10 7 tt (plain (λ _. i32)), (goes-gave-slice 𝓤 H A W 10 8 tt (plain (λ _. i32)), (goes-gave-slice 𝓤 H A W 10 9 tt (plain (λ _. T.the-row)), tt)))))))))))))
 
-    pub thin-meets : (𝓣 : Tables 𝓤 H) (callee : Name) → Triple 𝓤 (𝓣 .C callee) (Within 𝓤 H A mem run) → Triple 𝓤 (𝓣 .C #copy-steps) (Copies 𝓤 H A mem run)
+    pub thin-meets : (𝓣 : Tables 𝓤 H) (callee : Name) → Triple 𝓤 (𝓣 .C callee) (CoveredCall 𝓤 H A mem run) → Triple 𝓤 (𝓣 .C #copy-steps) (Copies 𝓤 H A mem run)
         → Meets 𝓤 H A (thin-ended row .signature) (WpFn 𝓤 H (𝓣 .C) (𝓣 .Λ) (thin τ callee)) (closing 𝓤 H A (thin-ended row) (said 𝓤 H A mem run))
     thin-meets 𝓣 callee known-within known-copies =
         walk-meets 𝓤 H A (thin-ended row) (stayed row) W goes (said 𝓤 H A mem run) (WpFn 𝓤 H (𝓣 .C) (𝓣 .Λ) (thin τ callee)) (WpFn-mono 𝓤 H (W .laws) 𝓣 (thin τ callee))

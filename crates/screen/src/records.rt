@@ -1,4 +1,4 @@
-// Number buffers copied into a slice of step records, and read out of one.
+// Number buffers copied into a slice of step records, and read out of one. Relies on no other file; specs/Records.antt says what is copied.
 use crate::StepRecord;
 ghost use mathlib.Core.Path.{_≡_};
 ghost use Prim.Native.Nat.{_≤_};

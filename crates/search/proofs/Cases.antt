@@ -1,6 +1,6 @@
 -- The search's cases, one answer: where all 8 indices are free, or all but the first, the directions of the walk are those of bytes; and what is found
 -- among the words of so many settings is what is found in the block. By the number of settings. Assumes nothing.
-use mathlib.Core.Path.{_≡_, refl, sym, ap, ap₂, _∙_, subst}
+use mathlib.Core.Path.{_≡_, sym, ap, ap₂, _∙_, subst}
 use mathlib.Core.List.{List}
 use Prim.Native.Nat.{ℕ, _+_, _*_, _^_, _<_}
 use native.Mathlib.Nat.{add-zero}
@@ -9,7 +9,7 @@ use lib.ListN.{getD}
 use Rattle.polar.specs.Layers.{part}
 use Rattle.outer.specs.declared.Candidate.{Candidate}
 use Rattle.outer.specs.declared.Pair.{Pair}
-use Rattle.outer.specs.Search.{settings, entry, Spans, keyOf, keyAt, leastFrom, answer, found, foundPair}
+use Rattle.outer.specs.Search.{settings, entry, Spans, keyOf, settingKey, leastFrom, answer, found, foundPair}
 use Rattle.passes.specs.Pass.{afterFirst}
 use Rattle.passes.proofs.Found.{after-answer}
 use Rattle.short.specs.Short.{Octets}
@@ -35,14 +35,14 @@ module _ (kinds terms : List ℕ) (start p at j n count : ℕ) (numbers : List �
   among bound =
       let x = entry kinds terms start p n in
       let vs = part at n numbers in
-      answer x vs (leastFrom (keyAt x vs) bound count)
+      answer x vs (leastFrom (settingKey x vs) bound count)
 
   pub found-among : (bound : ℕ) → among bound ≡ found kinds terms start p (2 ^ j) (part at (2 ^ j) numbers) bound
   unfolding found
   found-among bound =
       let x = entry kinds terms start p n in
       let vs = part at n numbers in
-      ap (λ (i : ℕ). answer x vs (leastFrom (keyAt x vs) bound i)) m ∙ ap (λ (i : ℕ). found kinds terms start p i (part at i numbers) bound) e
+      ap (λ (i : ℕ). answer x vs (leastFrom (settingKey x vs) bound i)) m ∙ ap (λ (i : ℕ). found kinds terms start p i (part at i numbers) bound) e
 
   abbrev both : Candidate → Candidate → Pair
   both a b = record { first = a; second = b }
@@ -54,7 +54,7 @@ module _ (kinds terms : List ℕ) (start p at j n count : ℕ) (numbers : List �
       ap₂ both first (g ∙ found-among (keyOf (r .first .cost) (r .first .number) + 1) ∙ ap (λ (c : Candidate). found kinds terms start p (2 ^ j) (part at (2 ^ j) numbers) (keyOf (c .cost) (c .number) + 1)) first)
 
   pub pair-passed : (r : Pair) → r .first ≡ among 0
-      → (let x = entry kinds terms start p n in let vs = part at n numbers in r .second ≡ answer x vs (afterFirst (keyAt x vs) 0 count))
+      → (let x = entry kinds terms start p n in let vs = part at n numbers in r .second ≡ answer x vs (afterFirst (settingKey x vs) 0 count))
       → r ≡ foundPair kinds terms start p (2 ^ j) (part at (2 ^ j) numbers)
   pair-passed r f g =
       let x = entry kinds terms start p n in

@@ -1,6 +1,6 @@
 -- What the search of 8 positions answers: a byte of least key from a bound on is the word that the scan by settings finds, and the bytes that the two
 -- least weights give have the least keys of all bytes, or of those of one parity. By the order of the keys, which no two bytes share. Assumes nothing.
-use mathlib.Core.Path.{_≡_, refl, sym, ap, ap₂, _∙_, subst}
+use mathlib.Core.Path.{_≡_, refl, sym, ap, ap₂, _∙_}
 use mathlib.Core.Bool.{true, false}
 use mathlib.Core.List.{List}
 use mathlib.Core.Logic.{_⊎_, inl, inr}
@@ -15,13 +15,13 @@ use Rattle.laws.specs.Lists.{All}
 use Rattle.laws.proofs.Tests.{lt-or}
 use Rattle.polar.specs.Layers.{Within}
 use Rattle.outer.specs.declared.Candidate.{Candidate}
-use Rattle.outer.specs.Search.{Entry, spread, costOf, keyOf, keyAt, leastFrom, answer}
+use Rattle.outer.specs.Search.{Entry, spread, costOf, keyOf, settingKey, leastFrom, answer}
 use Rattle.outer.proofs.Rows.{every-at}
 use Rattle.outer.proofs.Sums.{cost-bound}
 use Rattle.outer.proofs.Least.{Chosen, least-chosen}
 use Rattle.short.specs.declared.Lead.{Lead}
 use Rattle.short.specs.Short.{leastKey, byteKey, Halves, byteRows, backRows, Octets, wordWith}
-use Rattle.short.specs.Flips.{oddOf, led}
+use Rattle.short.specs.Flips.{oddOf}
 use Rattle.short.proofs.Octets.{byte-key, turns}
 use Rattle.short.proofs.LeastKey.{keyOr, key-found}
 use Rattle.short.proofs.Weights.{keyFrom, At, Led, odd-low}
@@ -83,17 +83,17 @@ module _ {from count free : ℕ} {sets : List ℕ} {e : ℕ → Entry} (vs : Lis
 
   -- a word of least key from a bound on is the one that the scan by settings finds
   pub word-answer : (bound x : ℕ) → Word x → bound ≤ keyOf (costOf x vs) x → ((y : ℕ) → Word y → bound ≤ keyOf (costOf y vs) y → keyFrom 1 x vs ≤ keyFrom 1 y vs)
-      → wordWith sets free (back x - from) (keyFrom 1 x vs) ≡ answer e vs (leastFrom (keyAt e vs) bound count)
-  unfolding keyAt wordWith answer
-  word-answer bound x h b f = go (leastFrom (keyAt e vs) bound count) (least-chosen (keyAt e vs) bound count)
+      → wordWith sets free (back x - from) (keyFrom 1 x vs) ≡ answer e vs (leastFrom (settingKey e vs) bound count)
+  unfolding settingKey wordWith answer
+  word-answer bound x h b f = go (leastFrom (settingKey e vs) bound count) (least-chosen (settingKey e vs) bound count)
     where
       low : back x - from < count
       low = omega (arith, h .1, h .2)
 
-      own : keyAt e vs (back x - from) ≡ keyOf (costOf x vs) x
+      own : settingKey e vs (back x - from) ≡ keyOf (costOf x vs) x
       own = ap (λ (y : ℕ). keyOf (costOf y vs) y) (entry-of x h)
 
-      go : (o : Option ℕ) → Chosen (keyAt e vs) bound count o → wordWith sets free (back x - from) (keyFrom 1 x vs) ≡ answer e vs o
+      go : (o : Option ℕ) → Chosen (settingKey e vs) bound count o → wordWith sets free (back x - from) (keyFrom 1 x vs) ≡ answer e vs o
       go none c = absurd (omega (arith, c (back x - from) low, own))
       go (some y) c =
           let z = e y .word in
@@ -197,7 +197,7 @@ module _ {vs : List ℤ} (size : length vs ≡ 8) {x : Lead} (d : Led 1 vs x) wh
     made key = wordWith sets free (back (key % 256) - from) key
 
     at-answer : (bound : ℕ) {o key : ℕ} (t : At 1 vs o key) → from ≤ back (t .word) → back (t .word) < from + count → bound ≤ keyOf (costOf (t .word) vs) (t .word)
-        → ((y : ℕ) → (y < 256) × (from ≤ back y) × (back y < from + count) → bound ≤ keyOf (costOf y vs) y → key ≤ keyFrom 1 y vs) → made key ≡ answer e vs (leastFrom (keyAt e vs) bound count)
+        → ((y : ℕ) → (y < 256) × (from ≤ back y) × (back y < from + count) → bound ≤ keyOf (costOf y vs) y → key ≤ keyFrom 1 y vs) → made key ≡ answer e vs (leastFrom (settingKey e vs) bound count)
     at-answer bound {o} {key} t p q b f =
         let n : key % 256 ≡ t .word = ap (λ (i : ℕ). i % 256) (sym (t .key-is)) ∙ key-parts (t .word) vs (byte-low t) .1 in
         ap₂ (λ (i j : ℕ). wordWith sets free (back i - from) j) n (sym (t .key-is))
@@ -207,7 +207,7 @@ module _ {vs : List ℤ} (size : length vs ≡ 8) {x : Lead} (d : Led 1 vs x) wh
     pair-answers : {o key o′ key′ : ℕ} (t : At 1 vs o key) (u : At 1 vs o′ key′) → from ≤ back (t .word) → back (t .word) < from + count → from ≤ back (u .word) → back (u .word) < from + count
         → key < key′ → ((y : ℕ) → y < 256 → from ≤ back y → back y < from + count → key ≤ keyFrom 1 y vs)
         → ((y : ℕ) → y < 256 → from ≤ back y → back y < from + count → key < keyFrom 1 y vs → key′ ≤ keyFrom 1 y vs) → (a b : Candidate) → a ≡ made key → b ≡ made key′
-        → (a ≡ answer e vs (leastFrom (keyAt e vs) 0 count)) × (b ≡ answer e vs (leastFrom (keyAt e vs) (keyOf (a .cost) (a .number) + 1) count))
+        → (a ≡ answer e vs (leastFrom (settingKey e vs) 0 count)) × (b ≡ answer e vs (leastFrom (settingKey e vs) (keyOf (a .cost) (a .number) + 1) count))
     unfolding wordWith
     pair-answers {o} {key} {o′} {key′} t u p q p′ q′ l f g a b i j =
         let r = key-parts (t .word) vs (byte-low t) in
@@ -217,13 +217,13 @@ module _ {vs : List ℤ} (size : length vs ≡ 8) {x : Lead} (d : Led 1 vs x) wh
           j
               ∙ at-answer (keyOf (costOf (t .word) vs) (t .word) + 1) u p′ q′ (wide-above (t .word) (u .word) vs (byte-low t) (byte-low u) (omega (arith, t .key-is, u .key-is)))
               (λ y h m. g y (h .0) (h .1) (h .2) (omega (arith, t .key-is, above-wide (t .word) y vs (byte-low t) (h .0) m)))
-              ∙ ap₂ (λ (y z : ℕ). answer e vs (leastFrom (keyAt e vs) (keyOf y z + 1) count)) (sym c) (sym n),
+              ∙ ap₂ (λ (y z : ℕ). answer e vs (leastFrom (settingKey e vs) (keyOf y z + 1) count)) (sym c) (sym n),
         )
 
   -- all 8 indices are free
   pub free-answers : {sets : List ℕ} {e : ℕ → Entry} → Octets 0 256 8 sets e → (a b : Candidate) → a ≡ wordWith sets 8 (back (x .base % 256)) (x .base)
       → b ≡ wordWith sets 8 (back ((x .base + x .least) % 256)) (x .base + x .least)
-      → (a ≡ answer e vs (leastFrom (keyAt e vs) 0 256)) × (b ≡ answer e vs (leastFrom (keyAt e vs) (keyOf (a .cost) (a .number) + 1) 256))
+      → (a ≡ answer e vs (leastFrom (settingKey e vs) 0 256)) × (b ≡ answer e vs (leastFrom (settingKey e vs) (keyOf (a .cost) (a .number) + 1) 256))
   free-answers {sets} {e} k a b p q =
       pair-answers k (omega arith) (d .near) first (omega arith) (every (d .near .word) (byte-low (d .near))) (omega arith) (every (first .word) (byte-low first)) (omega (arith, least-pos))
       (λ y l _ _. at-least y l (either y))
@@ -271,7 +271,7 @@ module _ {vs : List ℤ} (size : length vs ≡ 8) {x : Lead} (d : Led 1 vs x) wh
 
     pub even-answers : x .odd ≡ p → (a b : Candidate) → a ≡ wordWith sets 7 (back (x .base % 256) % 128) (x .base)
         → b ≡ wordWith sets 7 (back ((x .base + x .least + x .next) % 256) % 128) (x .base + x .least + x .next)
-        → (a ≡ answer e vs (leastFrom (keyAt e vs) 0 128)) × (b ≡ answer e vs (leastFrom (keyAt e vs) (keyOf (a .cost) (a .number) + 1) 128))
+        → (a ≡ answer e vs (leastFrom (settingKey e vs) 0 128)) × (b ≡ answer e vs (leastFrom (settingKey e vs) (keyOf (a .cost) (a .number) + 1) 128))
     even-answers o a b i j =
         let t = inside (d .near .word) (byte-low (d .near)) (byte-odd (d .near) ∙ o) in
         let u = inside (third .word) (byte-low third) (byte-odd third ∙ o) in
@@ -285,7 +285,7 @@ module _ {vs : List ℤ} (size : length vs ≡ 8) {x : Lead} (d : Led 1 vs x) wh
 
     pub odd-answers : (x .odd ≡ p → ⊥) → (a b : Candidate) → a ≡ wordWith sets 7 (back ((x .base + x .least) % 256) % 128) (x .base + x .least)
         → b ≡ wordWith sets 7 (back ((x .base + x .next) % 256) % 128) (x .base + x .next)
-        → (a ≡ answer e vs (leastFrom (keyAt e vs) 0 128)) × (b ≡ answer e vs (leastFrom (keyAt e vs) (keyOf (a .cost) (a .number) + 1) 128))
+        → (a ≡ answer e vs (leastFrom (settingKey e vs) 0 128)) × (b ≡ answer e vs (leastFrom (settingKey e vs) (keyOf (a .cost) (a .number) + 1) 128))
     odd-answers z a b i j =
         let o : 1 - x .odd ≡ p = flipped z (d .odd-low) in
         let t = inside (first .word) (byte-low first) (byte-odd first ∙ o) in
@@ -329,13 +329,13 @@ module _ {halves sets : List ℕ} {e : ℕ → Entry} {vs : List ℤ} (small : A
   to-wide x l m = leb-true bound (keyOf (costOf x vs) x) (both x l ∙ le-leb b (byteKey halves x) m)
 
   pub bytes-answer : (key : ℕ) → key ≡ leastKey (byteKey halves) b 256
-      → ((key ≡ 4294967295 → record { some = false; setting = 0; parities = 0; cost = 0; number = 0 } ≡ answer e vs (leastFrom (keyAt e vs) bound 256))
-      × ((key ≡ 4294967295 → ⊥) → wordWith sets 8 (back (key % 256)) key ≡ answer e vs (leastFrom (keyAt e vs) bound 256)))
-  unfolding keyAt answer
+      → ((key ≡ 4294967295 → record { some = false; setting = 0; parities = 0; cost = 0; number = 0 } ≡ answer e vs (leastFrom (settingKey e vs) bound 256))
+      × ((key ≡ 4294967295 → ⊥) → wordWith sets 8 (back (key % 256)) key ≡ answer e vs (leastFrom (settingKey e vs) bound 256)))
+  unfolding settingKey answer
   bytes-answer key q = go (leastFrom (byteKey halves) b 256) (least-chosen (byteKey halves) b 256) (q ∙ key-found (byteKey halves) b 256 key-small)
     where
       -- no byte passes the bound
-      none-left : ((x : ℕ) → x < 256 → byteKey halves x < b) → (o : Option ℕ) → Chosen (keyAt e vs) bound 256 o
+      none-left : ((x : ℕ) → x < 256 → byteKey halves x < b) → (o : Option ℕ) → Chosen (settingKey e vs) bound 256 o
           → record { some = false; setting = 0; parities = 0; cost = 0; number = 0 } ≡ answer e vs o
       none-left f none c = refl
       none-left f (some w) c =
@@ -343,9 +343,9 @@ module _ {halves sets : List ℕ} {e : ℕ → Entry} {vs : List ℤ} (small : A
           absurd (omega (arith, f (e w .word) (t .0), from-wide (e w .word) (t .0) (c .1)))
 
       go : (o : Option ℕ) → Chosen (byteKey halves) b 256 o → key ≡ keyOr (byteKey halves) o
-          → ((key ≡ 4294967295 → record { some = false; setting = 0; parities = 0; cost = 0; number = 0 } ≡ answer e vs (leastFrom (keyAt e vs) bound 256))
-          × ((key ≡ 4294967295 → ⊥) → wordWith sets 8 (back (key % 256)) key ≡ answer e vs (leastFrom (keyAt e vs) bound 256)))
-      go none c i = (λ _. none-left c (leastFrom (keyAt e vs) bound 256) (least-chosen (keyAt e vs) bound 256), λ z. absurd (z i))
+          → ((key ≡ 4294967295 → record { some = false; setting = 0; parities = 0; cost = 0; number = 0 } ≡ answer e vs (leastFrom (settingKey e vs) bound 256))
+          × ((key ≡ 4294967295 → ⊥) → wordWith sets 8 (back (key % 256)) key ≡ answer e vs (leastFrom (settingKey e vs) bound 256)))
+      go none c i = (λ _. none-left c (leastFrom (settingKey e vs) bound 256) (least-chosen (settingKey e vs) bound 256), λ z. absurd (z i))
       go (some x) c i =
           let l = c .0 in
           let kx : key ≡ keyFrom 1 x vs = i ∙ key-is x l in

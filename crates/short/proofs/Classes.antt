@@ -13,7 +13,7 @@ use lib.Pow.{pow-pos}
 use Rattle.laws.proofs.Tests.{lt-or}
 use Rattle.polar.specs.Bits.{addBits, number}
 use Rattle.polar.specs.Transform.{transform}
-use Rattle.outer.specs.Search.{unit, rowOf, Entry, put, later, grown, settings, entry, spread, Spans}
+use Rattle.outer.specs.Search.{unit, rowOf, put, later, grown, settings, entry, spread, Spans}
 use Rattle.outer.proofs.Rows.{every-at}
 use Rattle.tables.proofs.Advance.{grown-free, grown-other}
 use Rattle.short.specs.Short.{byteRows, Octets}

@@ -1,6 +1,6 @@
 -- Bytes: their keys are sums of the keys of two half bytes, and every byte is the word of one setting of 8 free indices, which the rows of the
 -- matrix A give back: computed over all bytes. Assumes nothing.
-use mathlib.Core.Path.{_≡_, ap, ap₂, _∙_}
+use mathlib.Core.Path.{_≡_, ap, ap₂}
 use mathlib.Core.Bool.{Bool, _&&_}
 use mathlib.Core.List.{List, [], _∷_}
 use mathlib.Core.Logic.{_⊎_, inl, inr}

@@ -7,7 +7,7 @@ ghost use lib.Dec.{leb};
 ghost use lib.ListN.{length, getD};
 ghost use Rattle.laws.specs.Lists.{All};
 ghost use Rattle.polar.specs.Layers.{part, Within};
-ghost use Rattle.outer.specs.Search.{Entry, spread, costOf, keyOf, keyAt, leastFrom, answer};
+ghost use Rattle.outer.specs.Search.{Entry, spread, costOf, keyOf, settingKey, leastFrom, answer};
 ghost use Rattle.short.specs.Short.{kept, leastKey, byteKey, Halves, backRows, Octets, wordWith};
 use outer::Candidate;
 use tables::costs::pairs;
@@ -170,7 +170,7 @@ pub fn search_bytes(
     requires { ⌜ (free ≡ 8) × (length (now halves) ≡ 256) × (at + 8 ≤ length (now numbers)) × All (Within 1048064) (part at 8 (now numbers)) ⌝ }
     ensures { λ _. ⌜ length (now (halves .exit)) ≡ 256 ⌝ }
     ensures { λ r. ⌜ ((e : ℕ → Entry) → Octets 0 256 8 (now (ties .entry)) e
-        → (let vs = part at 8 (now (numbers .entry)) in r ≡ answer e vs (leastFrom (keyAt e vs) bound 256))) ⌝ }
+        → (let vs = part at 8 (now (numbers .entry)) in r ≡ answer e vs (leastFrom (settingKey e vs) bound 256))) ⌝ }
 {
     fill_halves(numbers, at, 8, halves);
     let key = least_byte(halves, free + free, narrow(bound));

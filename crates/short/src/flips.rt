@@ -4,10 +4,9 @@
 ghost use mathlib.Core.Path.{_≡_};
 ghost use Prim.Native.Nat.{ℕ, _+_, _*_, _%_, _≤_, _<_};
 ghost use lib.ListN.{length};
-ghost use lib.IntN.{natAbs};
 ghost use Rattle.laws.specs.Lists.{All};
 ghost use Rattle.polar.specs.Layers.{part, Within};
-ghost use Rattle.outer.specs.Search.{Entry, spread, keyOf, keyAt, leastFrom, answer};
+ghost use Rattle.outer.specs.Search.{Entry, spread, keyOf, settingKey, leastFrom, answer};
 ghost use Rattle.short.specs.Short.{backRows, Octets, wordWith};
 ghost use Rattle.short.specs.Flips.{weighed, ledMore, led};
 use crate::Lead;
@@ -85,8 +84,8 @@ pub fn pair_free(numbers: &[i32], at: usize, ties: &[u32; 9]) -> Pair
     requires { ⌜ (at + 8 ≤ length (now numbers)) × All (Within 1048064) (part at 8 (now numbers)) ⌝ }
     ensures { λ r. ⌜ ((e : ℕ → Entry) → Octets 0 256 8 (now (ties .entry)) e
         → (let vs = part at 8 (now (numbers .entry)) in
-        (r .first ≡ answer e vs (leastFrom (keyAt e vs) 0 256))
-        × (r .second ≡ answer e vs (leastFrom (keyAt e vs) (keyOf (r .first .cost) (r .first .number) + 1) 256)))) ⌝ }
+        (r .first ≡ answer e vs (leastFrom (settingKey e vs) 0 256))
+        × (r .second ≡ answer e vs (leastFrom (settingKey e vs) (keyOf (r .first .cost) (r .first .number) + 1) 256)))) ⌝ }
 {
     let x = lead(numbers, at);
     Pair {
@@ -108,8 +107,8 @@ pub fn pair_checked(numbers: &[i32], at: usize, ties: &[u32; 9], parity: u32) ->
     requires { ⌜ (at + 8 ≤ length (now numbers)) × All (Within 1048064) (part at 8 (now numbers)) × (parity < 2) ⌝ }
     ensures { λ r. ⌜ ((e : ℕ → Entry) → Octets (128 * parity) 128 7 (now (ties .entry)) e
         → (let vs = part at 8 (now (numbers .entry)) in
-        (r .first ≡ answer e vs (leastFrom (keyAt e vs) 0 128))
-        × (r .second ≡ answer e vs (leastFrom (keyAt e vs) (keyOf (r .first .cost) (r .first .number) + 1) 128)))) ⌝ }
+        (r .first ≡ answer e vs (leastFrom (settingKey e vs) 0 128))
+        × (r .second ≡ answer e vs (leastFrom (settingKey e vs) (keyOf (r .first .cost) (r .first .number) + 1) 128)))) ⌝ }
 {
     let x = lead(numbers, at);
     if x.odd == parity {

@@ -1,5 +1,4 @@
--- The entries' words have as many bits as there are positions: bytes for at most 8 of them, 32 bits for the rest. Index by index: each row of the
--- matrix A is below that power of two. Assumes nothing.
+-- The entries' words are below 2^32. Index by index: each row of the matrix A is below that power of two. Assumes nothing.
 use mathlib.Core.List.{List, zipWith}
 use Prim.Native.Nat.{ℕ, zero, suc, _+_, _*_, _/_, _%_, _^_, _≤_, _<_}
 use native.Mathlib.Nat.{mul-zero, mul-one}
@@ -12,10 +11,6 @@ use Rattle.polar.specs.Bits.{addBits, number}
 use Rattle.polar.specs.Transform.{transform}
 use Rattle.outer.specs.Search.{unit, rowOf, Entry, put, later, entry}
 use Rattle.outer.proofs.Rows.{every-at}
-
-row-byte : (i : ℕ) → i < 8 → rowOf i < 256
-unfolding rowOf unit transform number addBits zipWith
-row-byte i h = ltb→lt (rowOf i) 256 (every-at (λ (k : ℕ). ltb (rowOf k) 256) 8 tt i h)
 
 row-word : (i : ℕ) → i < 32 → rowOf i < 4294967296
 unfolding rowOf unit transform number addBits zipWith
@@ -39,9 +34,6 @@ module _ (kinds terms : List ℕ) (start : ℕ) where
   entry-lt b n p zero r h w = pow-pos b
   entry-lt b n p (suc i) r h w =
       later-lt b (getD kinds (start + i) 0) (rowOf i) (getD terms (start + i) 0) (entry kinds terms start p i) (r i (omega arith)) (entry-lt b n p i r (omega arith)) w
-
-  pub entry-byte : (p i : ℕ) → i ≤ 8 → (w : ℕ) → entry kinds terms start p i w .word < 256
-  entry-byte p i h w = entry-lt 8 8 p i row-byte h w
 
   pub entry-word : (p i : ℕ) → i ≤ 32 → (w : ℕ) → entry kinds terms start p i w .word < 4294967296
   entry-word p i h w = entry-lt 32 32 p i row-word h w

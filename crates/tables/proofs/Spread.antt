@@ -94,10 +94,10 @@ spread-low ds from (suc n) w =
     ap₂ (λ x b. bitXor x (getD ds (from + suc n) 0 * b)) (ap (spread ds from n) e ∙ spread-low ds from n (w / 2)) f
 
 -- the first n settings of a table are these
-abbrev pub Filled : List ℕ → List ℕ → ℕ → ℕ → Type 0
-Filled table ds from n = (k : ℕ) → k < 2 ^ n → getD table k 0 ≡ spread ds from n k
+abbrev pub SettingsFilled : List ℕ → List ℕ → ℕ → ℕ → Type 0
+SettingsFilled table ds from n = (k : ℕ) → k < 2 ^ n → getD table k 0 ≡ spread ds from n k
 
-pub filled-none : (table ds : List ℕ) (from n : ℕ) → n ≡ 0 → 0 < length table → Filled (set table 0 (getD ds 0 0)) ds from n
+pub filled-none : (table ds : List ℕ) (from n : ℕ) → n ≡ 0 → 0 < length table → SettingsFilled (set table 0 (getD ds 0 0)) ds from n
 unfolding spread
 filled-none table ds from zero e h k l =
     let z : k ≡ 0 = omega arith in
@@ -105,8 +105,8 @@ filled-none table ds from zero e h k l =
 filled-none table ds from (suc n) e h k l = absurd (omega arith)
 
 -- one direction more: the table, and after it the table with the direction added
-filled-suc : (table new ds : List ℕ) (from n : ℕ) → Filled table ds (suc from) n → ((k : ℕ) → k < 2 ^ n → getD new k 0 ≡ getD table k 0)
-    → ((k : ℕ) → k < 2 ^ n → getD new (2 ^ n + k) 0 ≡ bitXor (getD table k 0) (getD ds (suc from) 0)) → Filled new ds from (suc n)
+filled-suc : (table new ds : List ℕ) (from n : ℕ) → SettingsFilled table ds (suc from) n → ((k : ℕ) → k < 2 ^ n → getD new k 0 ≡ getD table k 0)
+    → ((k : ℕ) → k < 2 ^ n → getD new (2 ^ n + k) 0 ≡ bitXor (getD table k 0) (getD ds (suc from) 0)) → SettingsFilled new ds from (suc n)
 filled-suc table new ds from n h low up k l = go (lt-or k (2 ^ n))
   where
     d : ℕ
@@ -129,16 +129,16 @@ filled-suc table new ds from n h low up k l = go (lt-or k (2 ^ n))
         ∙ ap (spread ds from (suc n)) e
 
 -- the same, where the directions after `left` are spread
-pub filled-more : (table new ds : List ℕ) (free left count : ℕ) → 0 < left → left ≤ free → count ≡ 2 ^ (free - left) → Filled table ds left (free - left)
+pub filled-more : (table new ds : List ℕ) (free left count : ℕ) → 0 < left → left ≤ free → count ≡ 2 ^ (free - left) → SettingsFilled table ds left (free - left)
     → ((k : ℕ) → k < count → getD new k 0 ≡ getD table k 0) → ((k : ℕ) → k < count → getD new (count + k) 0 ≡ bitXor (getD table k 0) (getD ds left 0))
-    → (count + count ≡ 2 ^ (free - (left - 1))) × Filled new ds (left - 1) (free - (left - 1))
+    → (count + count ≡ 2 ^ (free - (left - 1))) × SettingsFilled new ds (left - 1) (free - (left - 1))
 filled-more table new ds free left count z l e h low up =
     let from : ℕ = left - 1 in
     let n : ℕ = free - left in
     let q : left ≡ suc from = omega arith in
     let f : suc n ≡ free - from = omega arith in (
       omega (arith, two-pow-succ n, ap (λ k. 2 ^ k) f),
-      subst (Filled new ds from) f
-          (filled-suc table new ds from n (subst (λ (i : ℕ). Filled table ds i n) q h) (λ k g. low k (omega arith))
+      subst (SettingsFilled new ds from) f
+          (filled-suc table new ds from n (subst (λ (i : ℕ). SettingsFilled table ds i n) q h) (λ k g. low k (omega arith))
           (λ k g. ap (λ i. getD new (i + k) 0) (sym e) ∙ up k (omega arith) ∙ ap (λ i. bitXor (getD table k 0) (getD ds i 0)) q)),
     )

@@ -1,4 +1,4 @@
-// Numbers in an input: two or four bytes, the highest first.
+// Numbers in an input: two or four bytes, the highest first. Relies on no other file.
 ghost use mathlib.Core.Path.{_≡_};
 ghost use Prim.Native.Nat.{_+_, _*_, _≤_, _<_};
 ghost use lib.ListN.{length, getD};

@@ -2,7 +2,7 @@
 use mathlib.Core.Path.{_∙_, sym, ap}
 use mathlib.Core.List.{[], _∷_}
 use Rattle.codebook.specs.Refusals.{outcomeNumber}
-use Rattle.capi.specs.Answers.{mismatchNumber}
+use Rattle.capi.specs.Answers.{lengthMismatch}
 use Rattle.capi.proofs.Slices.{load-written, load-left, three}
 use borrow.Author.Needs.{needs}
 use Rattle.capi.proofs.saddlemint_load.Statement.{statement}
@@ -19,7 +19,7 @@ returns c =
     let loads = c .before .before in
     let a = loads .before .before .before .args in
     let w = sym (load-left (a .book .now) (a .shape .now) (c .before .if1 .taken)) in
-    (c .mismatch-number .ensures ∙ ap (λ s. mismatchNumber (s .outcome)) (loads .load .ensures) ∙ ap (λ x. x .number) w, ap (λ x. x .slice) w)
+    (c .mismatch-number .ensures ∙ ap (λ s. lengthMismatch (s .outcome)) (loads .load .ensures) ∙ ap (λ x. x .number) w, ap (λ x. x .slice) w)
 
 slice-write-shape : tie.Need-slice-write-shape
 slice-write-shape c = search needs

@@ -2,7 +2,7 @@
 use mathlib.Core.Path.{_∙_, sym, ap}
 use Rattle.codebook.specs.Refusals.{outcomeNumber}
 use Rattle.slices.specs.Slices.{recordSlice}
-use Rattle.capi.specs.Answers.{mismatchNumber}
+use Rattle.capi.specs.Answers.{lengthMismatch}
 use Rattle.capi.proofs.Slices.{record-written, record-left}
 use borrow.Author.Needs.{needs}
 use Rattle.capi.proofs.saddlemint_read_record.Statement.{statement}
@@ -18,7 +18,7 @@ returns : tie.Need-returns
 returns c =
     let a = c .before .before .before .before .before .before .args in
     let w = sym (record-left (a .book .now) (a .bits .now) (a .hook .now) (c .before .before .if1 .taken)) in
-    (c .mismatch-number .ensures ∙ ap (λ s. mismatchNumber (s .outcome)) (c .before .load .ensures) ∙ ap (λ x. x .number) w, ap (λ x. x .slice) w)
+    (c .mismatch-number .ensures ∙ ap (λ s. lengthMismatch (s .outcome)) (c .before .load .ensures) ∙ ap (λ x. x .number) w, ap (λ x. x .slice) w)
 
 read-record-requires : tie.Need-read-record-requires
 read-record-requires c κs = search needs

@@ -9,13 +9,13 @@ use lib.ListN.{length, getD, take, length-set}
 use lib.Seq.{take-all, take-suc-set}
 use Rattle.codebook.specs.Book.{Kind, freeCount}
 use Rattle.codec.specs.Tabled.{Tabled, absorbed}
-use Rattle.codec.proofs.Turns.{Filling, fill-start, fill-end, fill-free-room, fill-free, fill-forced, code-lt}
+use Rattle.codec.proofs.Turns.{PartFilled, fill-start, fill-end, fill-free-room, fill-free, fill-forced, code-lt}
 use Rattle.codec.proofs.filling.fill.Statement.{statement}
 use Rattle.codec.proofs.filling.fill.Tie as tie
 
 abbrev Inv-loop : tie.InvT-loop
 Inv-loop kinds terms bits word₀ parities₀ next₀ i₀ word parities next i =
-    (i ≤ length word₀) × (length word ≡ length word₀) × ((ks : List Kind) → Tabled ks kinds terms → length ks ≡ length word₀ → freeCount ks ≡ length bits → Filling ks bits (take i word) i next parities)
+    (i ≤ length word₀) × (length word ≡ length word₀) × ((ks : List Kind) → Tabled ks kinds terms → length ks ≡ length word₀ → freeCount ks ≡ length bits → PartFilled ks bits (take i word) i next parities)
 
 abbrev μ-loop : tie.MeasureT-loop
 μ-loop kinds terms bits word₀ parities₀ next₀ i₀ word parities next i = length word₀ - i
@@ -81,7 +81,7 @@ loop-again c =
           let h : x .i < length ks = omega (arith, x .inv .1) in
           rw (add-one (x .i), take-suc-set (x .word) (x .i) (j .if1 .b) (omega arith), c .absorbed .ensures)
           (rw (add-one (x .i)) at
-          (⊎-elim {C = Filling ks (s .args .bits .now) (take (x .i) (x .word) ++ j .if1 .b ∷ []) (x .i + 1) (j .if1 .next) (absorbed (x .parities) (j .if1 .b) (getD (s .args .terms .now) (x .i) 0))}
+          (⊎-elim {C = PartFilled ks (s .args .bits .now) (take (x .i) (x .word) ++ j .if1 .b ∷ []) (x .i + 1) (j .if1 .next) (absorbed (x .parities) (j .if1 .b) (getD (s .args .terms .now) (x .i) 0))}
           (λ v. rw (v .3, v .2) (fill-free T F h (v .0 .taken) (s .pre .1)))
           (λ v. rw (v .3, v .1 .ensures, v .2) (fill-forced T F h (v .0 .left)))
           (j .if1 .came))),

@@ -45,8 +45,8 @@ returns-3 c terms n old s h =
     let unfit = rw (toZ-ofZ w32 bias (record { sfits = d .before .known-told .given .1 .0 .1 })) at (sym (c .before .fits2 .ensures) ∙ not-true (c .before .fits2 .result) (c .if2 .taken)) in
     rw (g .1) (refuse _ _ _ OutOfRange (stands ∙ whole ∙ block-unfit (a .p) s (h .counts) j bias unfit))
 
-place-requires : tie.Need-place-requires
-place-requires c κs =
+place-block-requires : tie.Need-place-block-requires
+place-block-requires c κs =
     let b = c .before .before .before .before in
     let d = b .before .before in
     let start = d .before .before .before .before in
@@ -58,9 +58,9 @@ returns-4 c terms n old s h =
     let g = d .before .before .c .given in
     let a = d .before .before .before .before .args in
     let back = toZ-ofZ w32 (g .0 .1 .0) (record { sfits = d .before .known-told .given .1 .0 .1 }) in
-    rw (g .1, not-false (a .whole) (d .if1 .left)) (rw back at (c .place .ensures terms old s h))
+    rw (g .1, not-false (a .whole) (d .if1 .left)) (rw back at (c .place-block .ensures terms old s h))
 
 pub block-spec : {M : Type 1} → statement M
 block-spec =
     tie.close
-    (tie.spec enum-known-c returns returns-2 fits-requires returns-3 place-requires returns-4)
+    (tie.spec enum-known-c returns returns-2 fits-requires returns-3 place-block-requires returns-4)

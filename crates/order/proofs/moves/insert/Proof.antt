@@ -14,11 +14,11 @@ Inv-loop order₀ queued e at k₀ order k = (at ≤ k) × (k ≤ queued) × Mov
 abbrev μ-loop : tie.MeasureT-loop
 μ-loop order₀ queued e at k₀ order k = k
 
-place-requires : tie.Need-place-requires Inv-loop μ-loop
-place-requires c κs = ((c .before .pre .0 .0, omega (arith, c .before .pre .0 .1)), c .before .pre .1)
+position-requires : tie.Need-position-requires Inv-loop μ-loop
+position-requires c κs = ((c .before .pre .0 .0, omega (arith, c .before .pre .0 .1)), c .before .pre .1)
 
 loop-holds : tie.Need-loop-holds Inv-loop μ-loop
-loop-holds c = (omega (arith, c .place .ensures .0), omega arith, moved-none _ _)
+loop-holds c = (omega (arith, c .position .ensures .0), omega arith, moved-none _ _)
 
 sub-order : tie.Need-sub-order Inv-loop μ-loop
 sub-order c = omega arith
@@ -58,7 +58,7 @@ returns : tie.Need-returns Inv-loop μ-loop
 returns c =
     let t = c .before .before .before .before in
     let a = t .args in
-    let at = c .before .before .place in
+    let at = c .before .before .position in
     let x = c .before .loop in
     let e : x .k ≡ at .result = omega (arith, x .inv .0) in
     let s : Moved (a .order .now) (x .order) (at .result) (a .queued) = subst (λ (n : ℕ). Moved (a .order .now) (x .order) n (a .queued)) e (x .inv .2) in
@@ -77,7 +77,7 @@ insert-spec =
     (tie.spec
     Inv-loop
     μ-loop
-    place-requires
+    position-requires
     loop-holds
     sub-order
     mul-order

@@ -6,7 +6,7 @@ use lib.Pow.{pow-mono}
 use borrow.Author.Needs.{needs}
 use Rattle.polar.specs.Layers.{part}
 use Rattle.polar.proofs.Writes.{part-length}
-use Rattle.outer.specs.Search.{leastFrom, answer, keyAt}
+use Rattle.outer.specs.Search.{leastFrom, answer, settingKey}
 use Rattle.passes.specs.Pass.{afterFirst}
 use Rattle.passes.proofs.Found.{answers}
 use Rattle.passes.proofs.LeastTwo.{two-within}
@@ -72,8 +72,8 @@ returns c =
           let q =
           answers _ _ _ _ (a .free) (d .result) (p .result) e vs h (λ w i. d .ensures .2 w (omega (arith, d .ensures .1))) (p .ensures .1) l (s .pre .5)
           (omega (arith, part-length (a .at) (a .n) (a .numbers .now) (s .pre .4))) (a .bound) (t .result) (t .ensures) in (
-            c .before .candidate .ensures ∙ q .0 ∙ ap (λ i. answer e vs (leastFrom (keyAt e vs) (a .bound) i)) (d .ensures .1),
-            c .candidate2 .ensures ∙ q .1 ∙ ap (λ i. answer e vs (afterFirst (keyAt e vs) (a .bound) i)) (d .ensures .1),
+            c .before .candidate .ensures ∙ q .0 ∙ ap (λ i. answer e vs (leastFrom (settingKey e vs) (a .bound) i)) (d .ensures .1),
+            c .candidate2 .ensures ∙ q .1 ∙ ap (λ i. answer e vs (afterFirst (settingKey e vs) (a .bound) i)) (d .ensures .1),
           ),
     )
 

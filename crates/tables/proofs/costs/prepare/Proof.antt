@@ -6,12 +6,12 @@ use lib.ListN.{length}
 use Rattle.polar.specs.Layers.{part}
 use Rattle.polar.proofs.Writes.{part-length}
 use Rattle.outer.specs.Search.{Costs}
-use Rattle.outer.proofs.Sums.{Filled, runs-more, costs-small, read-back}
+use Rattle.outer.proofs.Sums.{RunsFilled, runs-more, costs-small, read-back}
 use Rattle.tables.proofs.costs.prepare.Statement.{statement}
 use Rattle.tables.proofs.costs.prepare.Tie as tie
 
 abbrev Inv-loop : tie.InvT-loop
-Inv-loop numbers at n sums₀ runs p₀ sums p = (p ≤ runs) × (length sums ≡ 128) × Filled sums p (part at n numbers)
+Inv-loop numbers at n sums₀ runs p₀ sums p = (p ≤ runs) × (length sums ≡ 128) × RunsFilled sums p (part at n numbers)
 
 abbrev μ-loop : tie.MeasureT-loop
 μ-loop numbers at n sums₀ runs p₀ sums p = runs - p

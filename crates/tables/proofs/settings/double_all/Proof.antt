@@ -4,12 +4,12 @@ use Prim.Native.Nat.{ℕ, _-_, _^_, _≤_, _<_}
 use native.Mathlib.Omega.{arith}
 use lib.ListN.{length, getD, length-set}
 use lib.Pow.{pow-mono}
-use Rattle.tables.proofs.Spread.{Filled, filled-none, filled-more}
+use Rattle.tables.proofs.Spread.{SettingsFilled, filled-none, filled-more}
 use Rattle.tables.proofs.settings.double_all.Statement.{statement}
 use Rattle.tables.proofs.settings.double_all.Tie as tie
 
 abbrev Inv-loop : tie.InvT-loop
-Inv-loop table₀ steps free count₀ left₀ table count left = (left ≤ free) × (length table ≡ 256) × (count ≡ 2 ^ (free - left)) × Filled table steps left (free - left)
+Inv-loop table₀ steps free count₀ left₀ table count left = (left ≤ free) × (length table ≡ 256) × (count ≡ 2 ^ (free - left)) × SettingsFilled table steps left (free - left)
 
 abbrev μ-loop : tie.MeasureT-loop
 μ-loop table₀ steps free count₀ left₀ table count left = left
@@ -72,7 +72,7 @@ returns c =
     let a = c .before .before .before .args in
     let z : x .left ≡ 0 = omega arith in
     let e : a .free - x .left ≡ a .free = omega arith in
-    (x .inv .1, x .inv .2 ∙ ap (λ n. 2 ^ n) e, subst (λ l. Filled (x .table) (a .steps .now) l (a .free)) z (subst (Filled (x .table) (a .steps .now) (x .left)) e (x .inv .3)))
+    (x .inv .1, x .inv .2 ∙ ap (λ n. 2 ^ n) e, subst (λ l. SettingsFilled (x .table) (a .steps .now) l (a .free)) z (subst (SettingsFilled (x .table) (a .steps .now) (x .left)) e (x .inv .3)))
 
 pub double-all-spec : {M : Type 1} → statement M
 double-all-spec =

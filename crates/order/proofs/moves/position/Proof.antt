@@ -1,11 +1,11 @@
--- `order::moves::place` meets its contract: nine halvings of at most 256 places leave one. Assumes nothing.
+-- `order::moves::position` meets its contract: nine halvings of at most 256 places leave one. Assumes nothing.
 use Prim.Native.Nat.{_-_}
 use native.Mathlib.Omega.{arith}
 use borrow.Author.Needs.{needs}
 use Rattle.order.specs.Entries.{Between}
-use Rattle.order.proofs.Queues.{place-low}
-use Rattle.order.proofs.moves.place.Statement.{statement}
-use Rattle.order.proofs.moves.place.Tie as tie
+use Rattle.order.proofs.Queues.{position-low}
+use Rattle.order.proofs.moves.position.Statement.{statement}
+use Rattle.order.proofs.moves.position.Tie as tie
 
 mul-floor : tie.Need-mul-floor
 mul-floor c = search needs
@@ -23,7 +23,7 @@ returns : tie.Need-returns
 returns c =
     let s = c .before .before .before in
     let a = s .args in
-    let low = place-low (a .order .now) (a .queued) (a .queued - 1) (a .e) (s .pre .1) (omega arith) (c .if2 .taken) in
+    let low = position-low (a .order .now) (a .queued) (a .queued - 1) (a .e) (s .pre .1) (omega arith) (c .if2 .taken) in
     (omega arith, λ k h. low k (omega arith), λ k h j. absurd (omega arith))
 
 halve-requires : tie.Need-halve-requires
@@ -69,8 +69,8 @@ returns-2 c =
     let x9 = c .halve9 .ensures .1 1 0 (omega arith) (omega arith) x8 in
     (x9 .within, x9 .under, λ k h j. x9 .over k (omega arith) j)
 
-pub place-spec : {M : Type 1} → statement M
-place-spec =
+pub position-spec : {M : Type 1} → statement M
+position-spec =
     tie.close
     (tie.spec
     mul-floor

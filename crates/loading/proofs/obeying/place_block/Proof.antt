@@ -1,4 +1,4 @@
--- `loading::obeying::place` meets its contract: the free codes counted are the block's free indices, and each table has its entry. Assumes
+-- `loading::obeying::place_block` meets its contract: the free codes counted are the block's free indices, and each table has its entry. Assumes
 -- nothing.
 use mathlib.Core.Path.{_∙_}
 use mathlib.Core.Bool.{true}
@@ -15,8 +15,8 @@ use Rattle.codebook.specs.Book.{freeCount}
 use Rattle.codebook.specs.Progress.{byteOf, isEnd, tables}
 use Rattle.loading.proofs.Verdicts.{refuse, proceed, block-stands, block-fit, fits-facts}
 use Rattle.codebook.proofs.Placing.{block-free, block-holds}
-use Rattle.loading.proofs.obeying.place.Statement.{statement}
-use Rattle.loading.proofs.obeying.place.Tie as tie
+use Rattle.loading.proofs.obeying.place_block.Statement.{statement}
+use Rattle.loading.proofs.obeying.place_block.Tie as tie
 
 power-requires : tie.Need-power-requires
 power-requires c κs =
@@ -108,8 +108,8 @@ returns-2 c terms old s h =
     proceed _ _ _ (stands ∙ fit ∙ rw (le-leb (freeCount (take (2 ^ (a .j)) (drop (s .covered) (s .kinds)))) 8 (rw count at (d .if1 .left))))
     (rw (power, toZ-ofZ w32 (a .bias) (start .fits .bias)) (block-holds (a .p) table old s h (a .j) (a .bias) _ (omega (arith, h .counts .filled, h .counts .n, start .pre .1 .0 .0)) room (start .pre .1 .0 .1) count))
 
-pub place-spec : {M : Type 1} → statement M
-place-spec =
+pub place-block-spec : {M : Type 1} → statement M
+place-block-spec =
     tie.close
     (tie.spec
     power-requires
