@@ -6,11 +6,10 @@ use mathlib.Core.Logic.{_⊎_, inl, inr}
 use Prim.Native.Nat.{ℕ, suc, _+_, _≤_, _<_}
 use native.Mathlib.Omega.{arith}
 use lib.ListN.{length, getD}
-use lib.Seq.{getD-set-same}
 use borrow.Author.Tests.{lt-ltb, le-ltb, le-leb, lt-leb, eq-eqb, ne-eqb}
 use Rattle.laws.specs.Lists.{keep}
 use Rattle.laws.proofs.Tests.{lt-or}
-use Rattle.machine.specs.Queue.{Key, ahead, behind, staying, outrunBy, visit}
+use Rattle.machine.specs.Queue.{Key, ahead, behind, staying, outrunBy}
 
 module _ {A : Type 0} (key : A → Key) (b : ℕ) where
   -- ---- one path more
@@ -48,10 +47,6 @@ module _ {A : Type 0} (key : A → Key) (b : ℕ) where
       go (inr h) ih = rw (ahead-out x xs h, behind-in x xs h) (omega arith)
 
 -- ---- a visit
-
-pub visit-seen : (visits : List ℕ) (b : ℕ) → b < length visits → getD (visit visits b) b 0 ≡ suc (getD visits b 0)
-unfolding visit
-visit-seen visits b h = getD-set-same visits b (suc (getD visits b 0)) 0 h
 
 module _ {A : Type 0} (key : A → Key) (L b : ℕ) (visits : List ℕ) (ps : List A) where
   pub stay-all : (getD visits b 0 ≡ L → ⊥) → (staying key L b visits ps ≡ ps) × (outrunBy key L b visits ps ≡ [])

@@ -13,7 +13,7 @@ use lib.Dec.{eqb, ltb}
 use lib.Seq.{getD-set-other}
 use borrow.Author.Tests.{eq-eqb, ne-eqb, lt-ltb}
 use Rattle.laws.specs.Lists.{All, Distinct}
-use Rattle.laws.proofs.Lists.{all-map}
+use Rattle.laws.proofs.Lists.{all-map, getD-zeros}
 use Rattle.laws.specs.Pairs.{Paired}
 use Rattle.laws.proofs.Sets.{set-none}
 use Rattle.polar.specs.Layers.{part}
@@ -31,7 +31,7 @@ use Rattle.standing.specs.Seen.{memory}
 use Rattle.standing.specs.Standing.{cell, Row, Stands}
 use Rattle.start.specs.Start.{firstHeld}
 use Rattle.reading.specs.Running.{arraysOf}
-use Rattle.start.proofs.Begun.{Zeros, zeros, id-root, id-below}
+use Rattle.start.proofs.Begun.{Zeros, id-root, id-below}
 
 -- ---- the vacant slots
 
@@ -126,7 +126,7 @@ module _ (B : Book) (m N : ℕ) (ok : Valid B) (deep : B .m ≡ m) (some : 1 ≤
   unfolding memory Paired All Distinct Counted Parts arraysOf
   first-stands is held free e p numbers bytes =
       let count : Counting vacant (N - 1) = λ k l. free k (omega arith) in
-      let row = row-stored (replicate 4096 0) (zeros 4096) (length-replicate {A = ℕ} 4096 0) is in
+      let row = row-stored (replicate 4096 0) (getD-zeros 4096) (length-replicate {A = ℕ} 4096 0) is in
       let range = counting-range (N - 1) vacant count in
       record {
         queue = (record { key = p .key; small = p .low; row = subst (λ (s : ℕ). Row B rows s (firstPath B)) (sym (p .slot)) row }, tt);

@@ -12,7 +12,7 @@ use lib.IntN.{ℤ}
 use lib.ListN.{length, getD, replicate}
 use borrow.Author.Tests.{eq-eqb, ne-eqb}
 use Rattle.laws.specs.Lists.{sum}
-use Rattle.laws.proofs.Lists.{length-snoc}
+use Rattle.laws.proofs.Lists.{length-snoc, getD-zeros}
 use Rattle.laws.specs.Pairs.{Paired}
 use Rattle.codebook.specs.Book.{Book}
 use Rattle.codebook.specs.Limits.{Valid}
@@ -29,7 +29,6 @@ use Rattle.standing.specs.Standing.{Stands}
 use Rattle.standing.proofs.Sizes.{stands-room}
 use Rattle.words.specs.Kept.{Kepts}
 use Rattle.steps.specs.declared.Tally.{Tally}
-use Rattle.start.proofs.Begun.{zeros}
 use Rattle.reading.proofs.Visits.{run-wide}
 use Rattle.reading.proofs.Walks.{Walks, Long, Noted, walks-none, walks-next, sum-next}
 use Rattle.extraction.proofs.Counts.{blocks-few}
@@ -124,7 +123,7 @@ going-first B values L N A x order vacant kept e path₀ blocks₀ score₀ ok s
       next-few = omega arith;
       crowded-few = omega arith;
       outrun-few = omega arith;
-      visits-few = λ b. omega (arith, zeros 512 b);
+      visits-few = λ b. omega (arith, getD-zeros 512 b);
       walks = walks-none path₀ blocks₀ score₀;
     }
 

@@ -13,7 +13,7 @@ use lib.Seq.{getD-set-same, getD-set-other}
 use lib.Dec.{eqb}
 use borrow.Author.Tests.{eqb-false}
 use Rattle.laws.specs.Lists.{All}
-use Rattle.laws.proofs.Lists.{all-take}
+use Rattle.laws.proofs.Lists.{all-take, getD-zeros}
 use Rattle.codebook.specs.Book.{Book}
 use Rattle.machine.specs.Queue.{insert, ahead, behind, staying, outrunBy, numbers, roomFor, visit, Step}
 use Rattle.runs.proofs.Order.{all-insert, all-staying}
@@ -21,7 +21,6 @@ use Rattle.outer.specs.Words.{Word}
 use Rattle.reader.specs.Arrays.{Arrays, View}
 use Rattle.reader.specs.Paths.{Path, scoreOf, keyOf, firstPath}
 use Rattle.reader.specs.Reader as R
-use Rattle.start.proofs.Begun.{zeros}
 
 -- ---- visits that agree below n
 
@@ -56,7 +55,7 @@ alike-zeros n k l =
     record {
       long = omega (arith, length-replicate {A = ℕ} n 0);
       long′ = omega (arith, length-replicate {A = ℕ} k 0);
-      same = λ i h. zeros n i ∙ sym (zeros k i);
+      same = λ i h. getD-zeros n i ∙ sym (getD-zeros k i);
     }
 
 -- ---- paths with at most n blocks

@@ -1,13 +1,13 @@
 -- The tables at a run's start: one path, in slot 0, holds array 1 at the root and none below. Its ids are those of the row that has 1 at height m
 -- and else zeros, and each height up to m counts one path more than a table of zeros. Assumes nothing.
-use mathlib.Core.Path.{_≡_, refl, ap, _∙_, subst}
+use mathlib.Core.Path.{_≡_, ap, _∙_, subst}
 use mathlib.Core.Bool.{cond}
 use mathlib.Core.List.{List}
 use mathlib.Core.Logic.{_⊎_, inl, inr, _≢_}
-use Prim.Native.Nat.{ℕ, zero, suc, _+_, _*_, _≤_, _<_}
+use Prim.Native.Nat.{ℕ, _+_, _*_, _≤_, _<_}
 use native.Mathlib.Decide.{ℕ-discrete}
 use native.Mathlib.Omega.{arith}
-use lib.ListN.{length, getD, set, replicate}
+use lib.ListN.{length, getD, set}
 use lib.Dec.{eqb, ltb}
 use lib.Seq.{getD-set-same, getD-set-other}
 use borrow.Author.Tests.{eq-eqb, ne-eqb, lt-ltb, le-ltb}
@@ -15,12 +15,6 @@ use Rattle.laws.proofs.Tests.{lt-or}
 use Rattle.sharing.specs.Sharing.{idAt, heldAt, lowAt, Held, one, MoreBy}
 use Rattle.sharing.proofs.Tables.{held-count, more-add}
 use Rattle.start.specs.Start.{firstHeld}
-
--- a list of zeros
-pub zeros : (n k : ℕ) → _≡_ {A = ℕ} (getD (replicate n 0) k 0) 0
-zeros zero k = refl
-zeros (suc n) zero = refl
-zeros (suc n) (suc k) = zeros n k
 
 -- each number of a list is 0
 abbrev pub Zeros : List ℕ → Type 0

@@ -4,9 +4,10 @@ use mathlib.Core.Path.{_≡_, ap, _∙_}
 use Prim.Native.Nat.{ℕ, _+_, _-_, _*_, _≤_, _<_}
 use native.Mathlib.Omega.{arith}
 use lib.ListN.{length, getD, set, length-replicate}
+use Rattle.laws.proofs.Lists.{getD-zeros}
 use Rattle.sharing.specs.Sharing.{Held, MoreBy}
 use Rattle.sharing.proofs.Tables.{more-none}
-use Rattle.start.proofs.Begun.{Zeros, zeros, none-below, held-begun, begun-more, begun-last, begun-held}
+use Rattle.start.proofs.Begun.{Zeros, none-below, held-begun, begun-more, begun-last, begun-held}
 use Rattle.start.proofs.begin.Statement.{statement}
 use Rattle.start.proofs.begin.Tie as tie
 
@@ -18,13 +19,13 @@ abbrev μ-loop : tie.MeasureT-loop
 
 -- the tables are given as zeros
 rows-none : (s : tie.Start Inv-loop μ-loop) → Zeros (s .args .rows .now)
-rows-none s k = ap (λ l. getD l k 0) (s .pre .0) ∙ zeros 4096 k
+rows-none s k = ap (λ l. getD l k 0) (s .pre .0) ∙ getD-zeros 4096 k
 
 rows-size : (s : tie.Start Inv-loop μ-loop) → length (s .args .rows .now) ≡ 4096
 rows-size s = ap length (s .pre .0) ∙ length-replicate {A = ℕ} 4096 0
 
 holders-none : (s : tie.Start Inv-loop μ-loop) → Zeros (s .args .holders .now)
-holders-none s k = ap (λ l. getD l k 0) (s .pre .1) ∙ zeros 2580 k
+holders-none s k = ap (λ l. getD l k 0) (s .pre .1) ∙ getD-zeros 2580 k
 
 loop-holds : tie.Need-loop-holds Inv-loop μ-loop
 loop-holds c = (omega arith, none-below (c .args .holders .now) (holders-none c) (ap length (c .pre .1) ∙ length-replicate {A = ℕ} 2580 0), more-none _ _ _)

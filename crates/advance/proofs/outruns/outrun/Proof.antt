@@ -7,11 +7,12 @@ use native.Mathlib.Omega.{arith}
 use borrow.Author.Needs.{needs}
 use lib.ListN.{length, getD, set}
 use Rattle.machine.specs.Queue.{ahead, visit}
+use Rattle.runs.proofs.Ends.{visit-same}
 use Rattle.reader.specs.Paths.{keyOf}
 use Rattle.order.specs.Entries.{keyAt, queueOf}
 use Rattle.order.proofs.Queues.{queue-length}
 use Rattle.standing.proofs.Sizes.{stands-length}
-use Rattle.advance.proofs.Sides.{sides-length, visit-seen, stay-all, stay-ahead}
+use Rattle.advance.proofs.Sides.{sides-length, stay-all, stay-ahead}
 use Rattle.advance.proofs.outruns.outrun.Statement.{statement}
 use Rattle.advance.proofs.outruns.outrun.Tie as tie
 
@@ -40,7 +41,7 @@ returns c =
     let t = c .before .before .before in
     let a = t .args in
     let s = t .pre .0 in
-    let seen = visit-seen (a .visits .now) (a .b) (omega arith) in
+    let seen = visit-same (a .visits .now) (a .b) (omega arith) in
     let entries = queueOf (a .order .now) (a .t .queued) in (
       (
         s .0 .held,
@@ -86,7 +87,7 @@ returns-2 c =
     let a = t .args in
     let gone = c .before .before .before .dismiss in
     let left = c .before .sift in
-    let seen = visit-seen (a .visits .now) (a .b) (omega arith) in
+    let seen = visit-same (a .visits .now) (a .b) (omega arith) in
     let lth : getD (visit (a .visits .now) (a .b)) (a .b) 0 ≡ a .s .visits = omega (arith, seen, c .before .before .before .before .before .before .before .if1 .left) in
     let entries = queueOf (a .order .now) (a .t .queued) in (
       (
