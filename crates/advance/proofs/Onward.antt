@@ -15,7 +15,7 @@ use Rattle.reader.specs.Fit.{Fit, FitFirst, FitFor}
 use Rattle.reader.proofs.Descent.{turn-place, place-most}
 use Rattle.reader.proofs.Next.{turn-ready, down-ready, down-first, down-later, claim-ready}
 use Rattle.order.specs.Entries.{slotAt}
-use Rattle.standing.specs.Seen.{Memory, Lent, Seen, Viewed, Turned, IdsOnly}
+use Rattle.standing.specs.Seen.{Memory, Lent, Seen, Viewed, StepSeen, IdsOnly}
 use Rattle.standing.specs.Standing.{Stands, InHand, withIds}
 use Rattle.standing.proofs.Views.{stands-view}
 use Rattle.views.specs.Steps.{Upper, Turning, Claimable}
@@ -72,9 +72,9 @@ module _ {m N : ℕ} {x : Memory} {e : ℕ} {es vs : List ℕ} {last at : Block}
     pub first-viewed : Viewed m N s x (Upper m)
     first-viewed = record { others = away (c .hand); view = ownView (c .hand); seen = own-seen (c .hand) is; met = first-upper }
 
-    pub first-seen : (y : Memory) → Turned m N s x y (Upper m) (λ others v. descend others (m - at .height) m 0 v) →
+    pub first-seen : (y : Memory) → StepSeen m N s x y (Upper m) (λ others v. descend others (m - at .height) m 0 v) →
         Seen m N s y (away (c .hand)) (reached (c .hand))
-    unfolding Turned
+    unfolding StepSeen
     first-seen y t =
         let h : InHand m N x e es vs = c .hand in
         let B : Book = h .book in
@@ -140,9 +140,9 @@ module _ {m N : ℕ} {x : Memory} {e : ℕ} {es vs : List ℕ} {last at : Block}
 
     -- and down by Q
     pub down-seen : (y z : Memory) → Seen m N s y (away (c .hand)) (byP (away (c .hand)) (last .place) (committed (c .hand))) →
-        Turned m N s y z (Upper (last .place)) (λ others v. descend others (last .place - at .height) (last .place) 0 v) →
+        StepSeen m N s y z (Upper (last .place)) (λ others v. descend others (last .place - at .height) (last .place) 0 v) →
         Seen m N s z (away (c .hand)) (reached (c .hand))
-    unfolding Turned
+    unfolding StepSeen
     down-seen y z seen t =
         let h : InHand m N x e es vs = c .hand in
         let B : Book = h .book in
@@ -167,10 +167,10 @@ module _ {m N : ℕ} {x : Memory} {e : ℕ} {es vs : List ℕ} {last at : Block}
 
   -- the memory stands for the state with that view
   pub claimed-stands : (y z : Memory) → m ≤ 9 → Seen m N s y (away (c .hand)) (reached (c .hand)) →
-      Turned m N s y z (Claimable (at .height) (at .place)) (λ others v. claim others (at .height) (at .place) v) → IdsOnly m s (x .rows) (z .rows) →
+      StepSeen m N s y z (Claimable (at .height) (at .place)) (λ others v. claim others (at .height) (at .place) v) → IdsOnly m s (x .rows) (z .rows) →
       let v = nextView (c .hand .book) (away (c .hand)) (c .hand .arrays) (c .hand .taken) (c .hand .taken .blocks) in
       Stands (c .hand .book) N z (e ∷ es) vs (v .arrays) (withIds (c .hand .taken) (v .ids) ∷ c .hand .rest)
-  unfolding Turned
+  unfolding StepSeen
   claimed-stands y z d seen t only =
       let h : InHand m N x e es vs = c .hand in
       let o : List (ℕ → ℕ) = away h in

@@ -3,7 +3,7 @@
 use checks::buffers::clear_bytes;
 use checks::buffers::clear_numbers;
 use checks::buffers::hand_out;
-use heights::arrays::place;
+use heights::arrays::spot_of;
 use machine::Counts;
 use reading::run::run;
 use steps::Setting;
@@ -63,7 +63,7 @@ pub fn run_cleared(
         walk_blocks,
         walk_score,
     );
-    hand_out(found, bytes, place(m, r.id, m));
+    hand_out(found, bytes, spot_of(m, r.id, m));
     let size = numbers.len();
     clear_numbers(numbers, size);
     let room = bytes.len();

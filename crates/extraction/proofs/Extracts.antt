@@ -5,7 +5,6 @@ use mathlib.Core.List.{List, _∷_}
 use Prim.Native.Nat.{ℕ, suc, _+_, _<_}
 use native.Mathlib.Omega.{arith}
 use lib.ListN.{length, getD, length-map, length-set}
-use lib.IntN.{ℤ}
 use Rattle.codebook.specs.Book.{Book}
 use Rattle.machine.specs.Queue.{insert, staying, outrunBy, numbers, visit}
 use Rattle.reader.specs.Arrays.{Arrays}

@@ -3,22 +3,21 @@
 -- they saw. Assumes nothing.
 use mathlib.Core.Path.{_≡_, refl, sym, ap, ap₂, _∙_, subst}
 use mathlib.Core.Bool.{_&&_, _||_}
-use mathlib.Core.List.{List, _∷_, map}
+use mathlib.Core.List.{List, map}
 use mathlib.Core.Logic.{_≢_}
 use mathlib.Core.Option.{Option, none, some}
-use Prim.Native.Nat.{ℕ, suc, _+_, _^_, _≤_, _<_}
+use Prim.Native.Nat.{ℕ, _^_, _≤_, _<_}
 use native.Mathlib.Omega.{arith}
 use lib.Pow.{pow-mono}
 use lib.Dec.{ltb, eqb}
 use lib.IntN.{ℤ}
 use Rattle.laws.specs.Lists.{All, Distinct}
 use Rattle.laws.proofs.Lists.{all-front}
-use Rattle.polar.specs.Layers.{part}
 use Rattle.codebook.specs.Book.{Book, freeCount, blockAt, kindsOf}
 use Rattle.codec.specs.Ties.{Parities}
 use Rattle.machine.specs.Queue.{insert}
 use Rattle.outer.specs.declared.Candidate.{Candidate}
-use Rattle.outer.specs.Words.{Word, nearer, nearestWith, nearest, nextAfter}
+use Rattle.outer.specs.Words.{Word, nearer, nearestWith, nextAfter}
 use Rattle.outer.specs.Blocks.{candidateOf}
 use Rattle.reader.specs.Arrays.{valsOf}
 use Rattle.reader.specs.Paths.{Path, keyOf, lastWord, ownWord, idsOf}

@@ -23,7 +23,7 @@ pub fn power(h: usize) -> usize
 }
 
 // Where height h of array `id` begins.
-pub fn place(m: usize, id: usize, h: usize) -> usize
+pub fn spot_of(m: usize, id: usize, h: usize) -> usize
     requires { ⌜ (m ≤ 9) × (h ≤ m) × Id 256 id ⌝ }
     ensures { λ r. ⌜ r ≡ spot m id h ⌝ }
 {
@@ -39,7 +39,7 @@ pub fn first_half(numbers: &mut [i32], m: usize, most: usize, h: usize, from: us
         Parts m most (now (numbers .exit)) (store vals h to (Qs (take (2 ^ h) ys) (drop (2 ^ h) ys))))) ⌝ }
 {
     let n = power(h);
-    lower_q(numbers, place(m, from, h + 1), place(m, to, h), n);
+    lower_q(numbers, spot_of(m, from, h + 1), spot_of(m, to, h), n);
 }
 
 // The same by P, for the second half: the word of the first half is in the sums of height h of array `word`.
@@ -65,9 +65,9 @@ pub fn second_half(
     lower_p(
         numbers,
         bytes,
-        place(m, from, h + 1),
-        place(m, to, h),
-        place(m, word, h),
+        spot_of(m, from, h + 1),
+        spot_of(m, to, h),
+        spot_of(m, word, h),
         n,
     );
 }
@@ -80,7 +80,7 @@ pub fn copy_half(numbers: &mut [i32], m: usize, most: usize, h: usize, from: usi
         → Parts m most (now (numbers .exit)) (store vals h to (vals h from))) ⌝ }
 {
     let n = power(h);
-    copy_values(numbers, place(m, from, h), place(m, to, h), n);
+    copy_values(numbers, spot_of(m, from, h), spot_of(m, to, h), n);
 }
 
 // The n bytes at `at` become the lowest n bits of a word.

@@ -185,7 +185,7 @@ start-turn (suc d) j (suc m) t e a p l = go (eqb (rest m t) 0) refl (start-turn 
         omega (arith, turn-past m t n, ih (omega arith) (rest-less m t l))
 
 -- block b has a next one: its start is inside, and the place of block b is its turn, not below either block and below the root
-pub record Turned (B : Book) (b : ℕ) : Type 0 where
+pub record TurnAt (B : Book) (b : ℕ) : Type 0 where
   pub after : 0 < startOf (B .blocks) (suc b)
   pub inside : startOf (B .blocks) (suc b) < 2 ^ (B .m)
   pub at : turn (B .m) (startOf (B .blocks) (suc b)) ≡ place B b
@@ -221,7 +221,7 @@ module _ (B : Book) (ok : Valid B) (b : ℕ) where
       let f : startOf (B .blocks) b + 2 ^ (blockAt B b .j) ≡ 2 ^ m = sym (o .next) ∙ ap (startOf (B .blocks)) e ∙ ok .covered in
       ap (turn (suc m)) f ∙ turn-high m (2 ^ m) (omega arith) (rest-high m (2 ^ m) (omega arith) ∙ omega arith)
 
-  pub turn-place : suc b < length (B .blocks) → Turned B b
+  pub turn-place : suc b < length (B .blocks) → TurnAt B b
   unfolding place
   turn-place l =
       let o : Placed B b = placed B ok b (omega arith) in

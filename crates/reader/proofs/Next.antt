@@ -25,7 +25,7 @@ use Rattle.reader.specs.Fit.{Fit, FitFor}
 use Rattle.reader.specs.Reached.{Rooted}
 use Rattle.reader.proofs.Upd.{upd-other}
 use Rattle.reader.proofs.Arrays.{vals-lost, claim-own}
-use Rattle.reader.proofs.Descent.{put-vals, put-has, turn-within, descend-within, descend-turn, Turned, turn-place, place-most}
+use Rattle.reader.proofs.Descent.{put-vals, put-has, turn-within, descend-within, descend-turn, TurnAt, turn-place, place-most}
 use Rattle.reader.proofs.Rooted.{claim-has, commit-has, down-has}
 
 -- ---- the bits of a block
@@ -96,7 +96,7 @@ module _ (B : Book) (ok : Valid B) (A : Arrays) (p : Path) where
       turn-ready =
           let a : ℕ = place B b in
           let j : ℕ = blockAt B b .j in
-          let t : Turned B b = turn-place B ok b l in
+          let t : TurnAt B b = turn-place B ok b l in
           let v : View = viewOf A p in
           let w : List ℕ = joined (sumsOf v) j (a - j) (lastWord B p b) in
           let lost : List ℤ = v .arrays .vals a (writes others a v) in
@@ -136,7 +136,7 @@ module _ (B : Book) (others : List (ℕ → ℕ)) (A : Arrays) (p : Path) where
       downTo B others A p (suc b)
       ≡ descend others (place B b - blockAt B (suc b) .j) (place B b) 0 (byP others (place B b) (commit B others p (suc b) (viewOf A p)))
   down-later ok b l =
-      let t : Turned B b = turn-place B ok b l in
+      let t : TurnAt B b = turn-place B ok b l in
       let m : ℕ = B .m in
       let j : ℕ = blockAt B (suc b) .j in
       let s : ℕ = startOf (B .blocks) (suc b) in
@@ -159,7 +159,7 @@ module _ (B : Book) (ok : Valid B) (A : Arrays) (p : Path) (others : List (ℕ �
       (subst (λ (h : ℕ). All (Within 1048064) (valsOf (descend others (m - j) m 0 v) h)) e
       (descend-within others (m - j) m 1048064 v (omega arith) (f .root)))
   down-within (suc b) l f =
-      let t : Turned B b = turn-place B ok b l in
+      let t : TurnAt B b = turn-place B ok b l in
       let a : ℕ = place B b in
       let j : ℕ = blockAt B (suc b) .j in
       let v : View = byP others a (commit B others p (suc b) (viewOf A p)) in

@@ -25,7 +25,7 @@ use Rattle.reader.specs.Reached.{Rooted}
 use Rattle.reader.proofs.Upd.{upd-same}
 use Rattle.reader.proofs.Arrays.{writes-some, claim-ids}
 use Rattle.reader.proofs.Solo.{descend-top}
-use Rattle.reader.proofs.Descent.{put-has, put-other, descend-has, descend-turn, Turned, turn-place}
+use Rattle.reader.proofs.Descent.{put-has, put-other, descend-has, descend-turn, TurnAt, turn-place}
 
 pub first-rooted : (B : Book) → Rooted B (firstPath B)
 unfolding firstPath
@@ -119,7 +119,7 @@ module _ (B : Book) where
           subst (λ (n : ℕ). 1 ≤ n) (sym (descend-top others d (B .m) 0 v h z))
           (commit-has B others p 0 (viewOf A p) h (subst (λ (n : ℕ). 1 ≤ p .ids n) i (r .root)))
   down-has ok others A p (suc b) e l r h x y =
-      let t : Turned B b = turn-place B ok b l in
+      let t : TurnAt B b = turn-place B ok b l in
       turn-has others (B .m) (startOf (B .blocks) (suc b)) (blockAt B (suc b) .j) (commit B others p (suc b) (viewOf A p)) (t .after) (t .inside)
       (omega arith)
       (λ k c d. commit-has B others p (suc b) (viewOf A p) k (r .has b e k (omega arith) d)) h x y

@@ -35,11 +35,11 @@ use Rattle.extraction.proofs.Counts.{blocks-few}
 use Rattle.reading.proofs.Bounded.{next-most, crowded-most, outrun-most, visits-most}
 
 -- the numbers of paths that an extraction crowded out, and that it outran
-abbrev pub crowdedBy : Step → ℕ
-crowdedBy s = length (s .crowded)
+abbrev pub crowdedCount : Step → ℕ
+crowdedCount s = length (s .crowded)
 
-abbrev pub outrunBy : Step → ℕ
-outrunBy s = length (s .outrun)
+abbrev pub outrunCount : Step → ℕ
+outrunCount s = length (s .outrun)
 
 -- the rest of a run of B
 pub record Going (B : Book) (values : List ℤ) (L N : ℕ) (whole : R.Run) (x : Memory) (order vacant visits kept : List ℕ) (t : Tally) (e : ℕ)
@@ -56,8 +56,8 @@ pub record Going (B : Book) (values : List ℤ) (L N : ℕ) (whole : R.Run) (x :
   pub steps : whole .steps ≡ done ++ R.run (suc fuel) B L N arrays (taken ∷ rest) (t .next) visits .steps
   pub ends : whole .final ≡ R.run (suc fuel) B L N arrays (taken ∷ rest) (t .next) visits .final
   pub extractions : t .extractions ≡ length done
-  pub crowded : t .crowded ≡ sum (map crowdedBy done)
-  pub outrun : t .outrun ≡ sum (map outrunBy done)
+  pub crowded : t .crowded ≡ sum (map crowdedCount done)
+  pub outrun : t .outrun ≡ sum (map outrunCount done)
   pub next-few : t .next ≤ suc (length done)
   pub crowded-few : t .crowded ≤ length done
   pub outrun-few : t .outrun ≤ 256 * length done
@@ -241,8 +241,8 @@ module _ {B : Book} {values : List ℤ} {L N : ℕ} {whole : R.Run} {x : Memory}
               steps = g .steps ∙ ap (λ (z : R.Run). g .done ++ z .steps) run ∙ sym (append-assoc (g .done) (s ∷ []) _);
               ends = g .ends ∙ ap (λ (z : R.Run). z .final) run;
               extractions = omega (arith, g .extractions);
-              crowded = crowded-is ∙ ap (λ n. n + crowdedBy s) (g .crowded) ∙ sym (sum-next crowdedBy (g .done) s);
-              outrun = outrun-is ∙ ap (λ n. n + outrunBy s) (g .outrun) ∙ sym (sum-next outrunBy (g .done) s);
+              crowded = crowded-is ∙ ap (λ n. n + crowdedCount s) (g .crowded) ∙ sym (sum-next crowdedCount (g .done) s);
+              outrun = outrun-is ∙ ap (λ n. n + outrunCount s) (g .outrun) ∙ sym (sum-next outrunCount (g .done) s);
               next-few =
                   omega (arith, next-is, next-most B L N two (g .arrays) (g .taken) (g .rest) (t .next) visits few, g .next-few);
               crowded-few =
@@ -281,11 +281,11 @@ module _ {B : Book} {values : List ℤ} {L N : ℕ} {whole : R.Run} {x : Memory}
     pub last-count : t .extractions + 1 ≡ length (whole .steps)
     last-count = omega (arith, g .extractions, ap length last-steps, length-snoc (g .done) lastStep)
 
-    pub last-crowded : t .crowded ≡ sum (map crowdedBy (whole .steps))
-    last-crowded = omega (arith, g .crowded, ap (λ l. sum (map crowdedBy l)) last-steps, sum-next crowdedBy (g .done) lastStep)
+    pub last-crowded : t .crowded ≡ sum (map crowdedCount (whole .steps))
+    last-crowded = omega (arith, g .crowded, ap (λ l. sum (map crowdedCount l)) last-steps, sum-next crowdedCount (g .done) lastStep)
 
-    pub last-outrun : t .outrun ≡ sum (map outrunBy (whole .steps))
-    last-outrun = omega (arith, g .outrun, ap (λ l. sum (map outrunBy l)) last-steps, sum-next outrunBy (g .done) lastStep)
+    pub last-outrun : t .outrun ≡ sum (map outrunCount (whole .steps))
+    last-outrun = omega (arith, g .outrun, ap (λ l. sum (map outrunCount l)) last-steps, sum-next outrunCount (g .done) lastStep)
 
     pub last-walks : {path′ blocks′ score′ : List ℤ} → Long (L * length (B .blocks) + 1) path₀ blocks₀ score₀ →
         Noted (t .extractions) (keyAt e) path blocks score path′ blocks′ score′ → Walks (whole .steps) path₀ blocks₀ score₀ path′ blocks′ score′

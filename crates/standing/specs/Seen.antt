@@ -45,8 +45,8 @@ pub record Viewed (m N s : ℕ) (x : Memory) (needs : View → Type 0) : Type 0 
   pub met : needs view
 
 -- whatever it saw that a step can work on, it sees what the step makes of it
-unfoldable pub Turned : ℕ → ℕ → ℕ → Memory → Memory → (View → Type 0) → (List (ℕ → ℕ) → View → View) → Type 0
-Turned m N s x y needs step = (others : List (ℕ → ℕ)) (v : View) → Seen m N s x others v → needs v → Seen m N s y others (step others v)
+unfoldable pub StepSeen : ℕ → ℕ → ℕ → Memory → Memory → (View → Type 0) → (List (ℕ → ℕ) → View → View) → Type 0
+StepSeen m N s x y needs step = (others : List (ℕ → ℕ)) (v : View) → Seen m N s x others v → needs v → Seen m N s y others (step others v)
 
 -- of the rows, the ids of slot s at the heights up to m alone may have changed
 pub record IdsOnly (m s : ℕ) (old new : List ℕ) : Type 0 where

@@ -14,7 +14,7 @@ use Rattle.reader.proofs.Next.{last-bits, join-ready, commit-word}
 use Rattle.order.specs.Entries.{slotAt}
 use Rattle.heights.specs.Workspace.{bitsOf}
 use Rattle.heights.proofs.Words.{bits-back}
-use Rattle.standing.specs.Seen.{Memory, Seen, Viewed, Turned}
+use Rattle.standing.specs.Seen.{Memory, Seen, Viewed, StepSeen}
 use Rattle.standing.specs.Standing.{cell, InHand}
 use Rattle.standing.proofs.Views.{stands-seen}
 use Rattle.views.specs.Steps.{Joinable}
@@ -46,10 +46,10 @@ module _ {m N : ℕ} {x : Memory} {e : ℕ} {es vs : List ℕ} (h : InHand m N x
 
     -- the word is in the sums
     pub commit-seen : (y : Memory) (w : ℕ) → w ≡ cell (x .rows) s 12 →
-        Turned m N s x y (Joinable (last .height) (last .place))
+        StepSeen m N s x y (Joinable (last .height) (last .place))
         (λ others v. putSums others (last .place) (joined (sumsOf v) (last .height) (last .place - last .height) (bitsOf (2 ^ last .height) w)) v) →
         Seen m N s y (idsOf (h .rest)) (committed h)
-    unfolding Turned
+    unfolding StepSeen
     commit-seen y w i t =
         let B : Book = h .book in
         let o : List (ℕ → ℕ) = idsOf (h .rest) in

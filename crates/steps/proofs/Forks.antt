@@ -29,7 +29,7 @@ use Rattle.reader.proofs.Arrays.{Kept, claim-kept}
 use Rattle.reader.proofs.Descent.{place-most}
 use Rattle.order.specs.Entries.{keyAt, slotAt, Packed}
 use Rattle.sharing.specs.Sharing.{idAt, heldAt, Copied, MoreBy}
-use Rattle.standing.specs.Seen.{Memory, memory, Lent, Seen, Viewed, Turned, IdsOnly}
+use Rattle.standing.specs.Seen.{Memory, memory, Lent, Seen, Viewed, StepSeen, IdsOnly}
 use Rattle.standing.specs.Standing.{cell, Row, Stands, withIds, PutRow, Made}
 use Rattle.standing.proofs.Slots.{distinct-forward}
 use Rattle.standing.proofs.Sizes.{slots-apart}
@@ -170,9 +170,9 @@ module _ {m N : ℕ} {x : Memory} {e t : ℕ} {es vs : List ℕ} {last : Block} 
         Stands book N z (e ∷ insert keyAt d es) vs (v .arrays) (path ∷ insert (keyOf book) (withIds (made n) (v .ids)) qs)
 
     taken : {y z : Memory} → Written n d y → IdsOnly m t (y .rows) (z .rows) →
-        Turned m N t y z (Claimable (last .height) (last .place)) (λ others v. claim others (last .height) (last .place) v) →
+        StepSeen m N t y z (Claimable (last .height) (last .place)) (λ others v. claim others (last .height) (last .place) v) →
         Taken z (c .hand .rest) (last .height) (last .place)
-    unfolding Turned
+    unfolding StepSeen
     taken {y} {z} st only turned =
         let v : View = claimed (c .hand .rest) (last .height) (last .place) in
         let others : List (ℕ → ℕ) = path .ids ∷ idsOf (c .hand .rest) in
@@ -183,7 +183,7 @@ module _ {m N : ℕ} {x : Memory} {e t : ℕ} {es vs : List ℕ} {last : Block} 
         (subst (λ (k : ℕ). IdsOnly k (slotAt d) (y .rows) (z .rows)) (sym (c .hand .deep)) there))
 
     pub fork-queued : {y z : Memory} → Written n d y → IdsOnly m t (y .rows) (z .rows) →
-        Turned m N t y z (Claimable (last .height) (last .place)) (λ others v. claim others (last .height) (last .place) v) →
+        StepSeen m N t y z (Claimable (last .height) (last .place)) (λ others v. claim others (last .height) (last .place) v) →
         let k = copyWith book N (c .hand .arrays) path b (c .hand .rest) n (some (c .word)) in
         Stands book N z (e ∷ insert keyAt d es) vs (k .arrays) (path ∷ k .queue)
     unfolding copyWith withIds roomFor

@@ -8,14 +8,14 @@ ghost use Rattle.polar.specs.Layers.{part};
 ghost use Rattle.reader.specs.Arrays.{sumsOf, putSums, claim, descend, byQ, byP, joined};
 ghost use Rattle.sharing.specs.Sharing.{idAt};
 ghost use Rattle.heights.specs.Workspace.{spot, Room, Id, bitsOf};
-ghost use Rattle.standing.specs.Seen.{memory, Lent, Viewed, Turned, IdsOnly};
+ghost use Rattle.standing.specs.Seen.{memory, Lent, Viewed, StepSeen, IdsOnly};
 ghost use Rattle.views.specs.Steps.{Upper, Turning, Joinable, Claimable, Joined};
 use heights::arrays::copy_half;
 use heights::arrays::first_half;
-use heights::arrays::place;
 use heights::arrays::power;
 use heights::arrays::put_word;
 use heights::arrays::second_half;
+use heights::arrays::spot_of;
 use polar::layers::add_sums;
 use sharing::holders::take;
 
@@ -49,7 +49,7 @@ fn lower(
     requires { ⌜ Viewed m most slot (memory (now rows) (now holders) (now numbers) (now bytes)) (Upper (suc h)) ⌝ }
     ensures { λ _. ⌜ Lent m most (memory (now (rows .exit)) (now (holders .exit)) (now (numbers .exit)) (now (bytes .entry)))
         × IdsOnly m slot (now (rows .entry)) (now (rows .exit)) ⌝ }
-    ensures { λ _. ⌜ Turned m most slot (memory (now (rows .entry)) (now (holders .entry)) (now (numbers .entry)) (now (bytes .entry)))
+    ensures { λ _. ⌜ StepSeen m most slot (memory (now (rows .entry)) (now (holders .entry)) (now (numbers .entry)) (now (bytes .entry)))
         (memory (now (rows .exit)) (now (holders .exit)) (now (numbers .exit)) (now (bytes .entry))) (Upper (suc h)) (λ others v. byQ others h v) ⌝ }
 {
     let from = id_of(rows, slot, h + 1);
@@ -73,7 +73,7 @@ pub fn go_down(
     requires { ⌜ Viewed m most slot (memory (now rows) (now holders) (now numbers) (now bytes)) (Upper top) ⌝ }
     ensures { λ _. ⌜ Lent m most (memory (now (rows .exit)) (now (holders .exit)) (now (numbers .exit)) (now (bytes .entry)))
         × IdsOnly m slot (now (rows .entry)) (now (rows .exit)) ⌝ }
-    ensures { λ _. ⌜ Turned m most slot (memory (now (rows .entry)) (now (holders .entry)) (now (numbers .entry)) (now (bytes .entry)))
+    ensures { λ _. ⌜ StepSeen m most slot (memory (now (rows .entry)) (now (holders .entry)) (now (numbers .entry)) (now (bytes .entry)))
         (memory (now (rows .exit)) (now (holders .exit)) (now (numbers .exit)) (now (bytes .entry))) (Upper top)
         (λ others v. descend others (top - low) top 0 v) ⌝ }
 {
@@ -99,7 +99,7 @@ pub fn turn_over(
     requires { ⌜ Viewed m most slot (memory (now rows) (now holders) (now numbers) (now bytes)) (Turning h) ⌝ }
     ensures { λ _. ⌜ Lent m most (memory (now (rows .exit)) (now (holders .exit)) (now (numbers .exit)) (now (bytes .entry)))
         × IdsOnly m slot (now (rows .entry)) (now (rows .exit)) ⌝ }
-    ensures { λ _. ⌜ Turned m most slot (memory (now (rows .entry)) (now (holders .entry)) (now (numbers .entry)) (now (bytes .entry)))
+    ensures { λ _. ⌜ StepSeen m most slot (memory (now (rows .entry)) (now (holders .entry)) (now (numbers .entry)) (now (bytes .entry)))
         (memory (now (rows .exit)) (now (holders .exit)) (now (numbers .exit)) (now (bytes .entry))) (Turning h) (λ others v. byP others h v) ⌝ }
 {
     let from = id_of(rows, slot, h + 1);
@@ -126,11 +126,11 @@ fn join(
     ensures { λ _. ⌜ part (spot m id h) (2 ^ h) (now (bytes .exit))
         ≡ joined (λ k. part (spot m (idAt (now (rows .entry)) slot k) k) (2 ^ k) (now (bytes .entry))) j (h - j) (part (spot m id h + (2 ^ h - 2 ^ j)) (2 ^ j) (now (bytes .entry))) ⌝ }
 {
-    let end = place(m, id, h) + power(h);
+    let end = spot_of(m, id, h) + power(h);
     let mut k = j;
     while k < h {
         let n = power(k);
-        let low = place(m, id_of(rows, slot, k), k);
+        let low = spot_of(m, id_of(rows, slot, k), k);
         add_sums(bytes, low, end - n, end - (n + n), n);
         k += 1;
     }
@@ -153,13 +153,13 @@ pub fn commit(
     requires { ⌜ Viewed m most slot (memory (now rows) (now holders) (now numbers) (now bytes)) (Joinable j h) ⌝ }
     ensures { λ _. ⌜ Lent m most (memory (now (rows .exit)) (now (holders .exit)) (now (numbers .entry)) (now (bytes .exit)))
         × IdsOnly m slot (now (rows .entry)) (now (rows .exit)) ⌝ }
-    ensures { λ _. ⌜ Turned m most slot (memory (now (rows .entry)) (now (holders .entry)) (now (numbers .entry)) (now (bytes .entry)))
+    ensures { λ _. ⌜ StepSeen m most slot (memory (now (rows .entry)) (now (holders .entry)) (now (numbers .entry)) (now (bytes .entry)))
         (memory (now (rows .exit)) (now (holders .exit)) (now (numbers .entry)) (now (bytes .exit))) (Joinable j h)
         (λ others v. putSums others h (joined (sumsOf v) j (h - j) (bitsOf (2 ^ j) word)) v) ⌝ }
 {
     let to = take(rows, holders, slot, h, most);
     let n = power(j);
-    put_word(bytes, place(m, to, h) + power(h) - n, n, word);
+    put_word(bytes, spot_of(m, to, h) + power(h) - n, n, word);
     join(rows, bytes, m, most, slot, j, h, to);
 }
 
@@ -179,7 +179,7 @@ pub fn claim(
     requires { ⌜ Viewed m most slot (memory (now rows) (now holders) (now numbers) (now bytes)) (Claimable j h) ⌝ }
     ensures { λ _. ⌜ Lent m most (memory (now (rows .exit)) (now (holders .exit)) (now (numbers .exit)) (now (bytes .entry)))
         × IdsOnly m slot (now (rows .entry)) (now (rows .exit)) ⌝ }
-    ensures { λ _. ⌜ Turned m most slot (memory (now (rows .entry)) (now (holders .entry)) (now (numbers .entry)) (now (bytes .entry)))
+    ensures { λ _. ⌜ StepSeen m most slot (memory (now (rows .entry)) (now (holders .entry)) (now (numbers .entry)) (now (bytes .entry)))
         (memory (now (rows .exit)) (now (holders .exit)) (now (numbers .exit)) (now (bytes .entry))) (Claimable j h)
         (λ others v. claim others j h v) ⌝ }
 {

@@ -18,7 +18,7 @@ ghost use Rattle.sharing.specs.Sharing.{idAt};
 ghost use Rattle.heights.specs.Workspace.{spot, Id};
 ghost use Rattle.standing.specs.Standing.{cell, Row, PutRow};
 ghost use Rattle.words.specs.Kept.{keptCell, keptAt, OneKept, Keeps};
-use heights::arrays::place;
+use heights::arrays::spot_of;
 use order::entries::slot_of;
 use outer::Candidate;
 use outer::Pair;
@@ -88,7 +88,7 @@ pub fn nearest_words(
     let j = at.height;
     let start = at.start;
     let id = rows[slot * 16 + j] as usize;
-    let from = place(m, id, j);
+    let from = spot_of(m, id, j);
     let parities = rows[slot * 16 + 14];
     nearest_pair(
         numbers,
@@ -128,7 +128,7 @@ pub fn next_word(
     let j = last.height;
     let start = last.start;
     let id = rows[slot * 16 + j] as usize;
-    let from = place(m, id, j);
+    let from = spot_of(m, id, j);
     let earlier = rows[slot * 16 + 13];
     let cost = rows[slot * 16 + 11];
     let number = rows[slot * 16 + 12];

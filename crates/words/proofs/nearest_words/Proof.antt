@@ -1,4 +1,4 @@
--- `words::nearest_words` meets its contract: the id and the parities are those of the row, and the values lie where `place` says. Assumes
+-- `words::nearest_words` meets its contract: the id and the parities are those of the row, and the values lie where `spot_of` says. Assumes
 -- nothing.
 use mathlib.Core.Path.{_≡_, subst}
 use mathlib.Core.Option.{some}
@@ -35,8 +35,8 @@ has-id c = c .pre .0 .4
 cast-id : tie.Need-cast-id
 cast-id c = record { fits = omega (arith, has-id (c .before) .most) }
 
-place-requires : tie.Need-place-requires
-place-requires c κs = let s = c .before in (s .pre .0 .2, s .pre .0 .3, has-id s)
+spot-of-requires : tie.Need-spot-of-requires
+spot-of-requires c κs = let s = c .before in (s .pre .0 .2, s .pre .0 .3, has-id s)
 
 mul-parities : tie.Need-mul-parities
 mul-parities c = search needs
@@ -57,7 +57,7 @@ nearest-pair-requires : tie.Need-nearest-pair-requires
 unfolding idAt
 nearest-pair-requires c κs =
     let s = c .before .before .before .before .before .before in
-    (rw (c .before .before .before .before .place .ensures) (s .pre .1 .0), s .pre .1 .1)
+    (rw (c .before .before .before .before .spot-of .ensures) (s .pre .1 .0), s .pre .1 .1)
 
 returns : tie.Need-returns
 unfolding idAt cell
@@ -69,7 +69,7 @@ returns c =
           subst (λ n. let vs = part n (2 ^ j) (a .numbers .now) in
           (c .nearest-pair .result .first ≡ candidateOf B (nearest B vs x b))
           × ((w : Word) → nearest B vs x b ≡ some w → c .nearest-pair .result .second ≡ candidateOf B (nextAfter w B vs x b)))
-          (c .before .before .before .before .before .place .ensures) (c .nearest-pair .ensures .1 B b x o h e),
+          (c .before .before .before .before .before .spot-of .ensures) (c .nearest-pair .ensures .1 B b x o h e),
     )
 
 pub nearest-words-spec : {M : Type 1} → statement M
@@ -81,7 +81,7 @@ nearest-words-spec =
     mul-id-2
     element-copy-out-id
     cast-id
-    place-requires
+    spot-of-requires
     mul-parities
     add-parities
     mul-parities-2

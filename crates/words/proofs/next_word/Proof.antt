@@ -1,5 +1,5 @@
 -- `words::next_word` meets its contract: the id, the parities before the last block, and that block's cost and word are those of the row, and
--- the values lie where `place` says. Assumes nothing.
+-- the values lie where `spot_of` says. Assumes nothing.
 use mathlib.Core.Path.{sym, ap, _∙_}
 use Prim.Native.Nat.{_+_, _*_, _^_}
 use native.Mathlib.Omega.{arith}
@@ -35,8 +35,8 @@ has-id c = c .pre .0 .4
 cast-id : tie.Need-cast-id
 cast-id c = record { fits = omega (arith, has-id (c .before) .most) }
 
-place-requires : tie.Need-place-requires
-place-requires c κs = let s = c .before in (s .pre .0 .2, s .pre .0 .3, has-id s)
+spot-of-requires : tie.Need-spot-of-requires
+spot-of-requires c κs = let s = c .before in (s .pre .0 .2, s .pre .0 .3, has-id s)
 
 mul-earlier : tie.Need-mul-earlier
 mul-earlier c = search needs
@@ -81,7 +81,7 @@ next-after-requires : tie.Need-next-after-requires
 unfolding idAt cell
 next-after-requires c κs =
     let s = c .before .before .before .before .before .before .before .before in
-    (rw (c .before .before .before .before .before .before .place .ensures) (s .pre .1 .0), s .pre .1 .1)
+    (rw (c .before .before .before .before .before .before .spot-of .ensures) (s .pre .1 .0), s .pre .1 .1)
 
 returns : tie.Need-returns
 unfolding idAt cell ownWord
@@ -91,7 +91,7 @@ returns c =
       c .next-after .ensures .0,
       λ B b p o h r e.
           c .next-after .ensures .1 B b (p .earlier) (ownWord B p b) o h (r .earlier) (sym (r .cost)) (sym (r .word b e))
-          ∙ ap (λ n. candidateOf B (nextAfter (ownWord B p b) B (part n (2 ^ j) (a .numbers .now)) (p .earlier) b)) (c .before .before .before .before .before .before .before .place .ensures),
+          ∙ ap (λ n. candidateOf B (nextAfter (ownWord B p b) B (part n (2 ^ j) (a .numbers .now)) (p .earlier) b)) (c .before .before .before .before .before .before .before .spot-of .ensures),
     )
 
 pub next-word-spec : {M : Type 1} → statement M
@@ -103,7 +103,7 @@ next-word-spec =
     mul-id-2
     element-copy-out-id
     cast-id
-    place-requires
+    spot-of-requires
     mul-earlier
     add-earlier
     mul-earlier-2

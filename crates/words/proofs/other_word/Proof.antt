@@ -1,9 +1,8 @@
 -- `words::other_word` meets its contract: a word kept in the path's slot is its next one, where that is said of it; else the search answers. Assumes
 -- nothing.
-use mathlib.Core.Path.{_≡_, sym, ap, _∙_, subst}
+use mathlib.Core.Path.{ap, _∙_, subst}
 use Prim.Native.Nat.{ℕ, _<_}
 use native.Mathlib.Omega.{arith}
-use Rattle.order.specs.Entries.{slotAt}
 use Rattle.words.specs.Kept.{keptCell, keptAt, Keeps}
 use Rattle.words.proofs.Kepts.{first-cell}
 use borrow.Author.Needs.{needs}

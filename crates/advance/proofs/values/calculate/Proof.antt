@@ -8,7 +8,7 @@ use Prim.Native.Nat.{ℕ}
 use native.Mathlib.Omega.{arith}
 use lib.ListN.{length}
 use Rattle.reader.specs.Arrays.{byP}
-use Rattle.standing.specs.Seen.{Memory, memory, Seen, Turned, IdsOnly}
+use Rattle.standing.specs.Seen.{Memory, memory, Seen, StepSeen, IdsOnly}
 use Rattle.standing.specs.Standing.{cell}
 use Rattle.views.proofs.Seeing.{ids-on}
 use Rattle.steps.specs.Steps.{committed, Moving}
@@ -96,7 +96,7 @@ turned t = memory (t .turn-over .last .0) (t .turn-over .last .1 .0) (t .turn-ov
 turn-seen : (t : tie.After-turn-over) {es vs : List ℕ} (c : Hand (start (sums t)) es vs) →
     let a = start (sums t) .args in
     Seen (a .m) (a .paths) (chosen (sums t) .slot-of .result) (turned t) (away (c .hand)) (byP (away (c .hand)) (a .last .place) (committed (c .hand)))
-unfolding Turned
+unfolding StepSeen
 turn-seen t c =
     let u = sums t in
     t .turn-over .ensures .1 (away (c .hand)) (committed (c .hand)) (sum-seen u c) (committed-turning c (chosen u .slot-of .ensures .0) (left u .if1 .left))

@@ -19,7 +19,7 @@ use Rattle.attempts.proofs.ran.run_cleared.Tie as tie
 abbrev start : tie.After-run → tie.Start
 start r = r .before .before .before .before .before .before .before .before
 
-abbrev made : tie.After-place → tie.After-run
+abbrev made : tie.After-spot-of → tie.After-run
 made p = p .before .before .before .before .before .before .before .before .before
 
 -- the run that there is
@@ -33,8 +33,8 @@ run-requires c κs =
     let p = c .before .before .before .before .before .before .before .pre in
     (p .0, ((p .1 .0 .0, p .1 .0 .1, p .1 .0 .2), (p .1 .1 .0, (p .1 .1 .1 .0, p .1 .1 .1 .1))))
 
-place-requires : tie.Need-place-requires
-place-requires c κs =
+spot-of-requires : tie.Need-spot-of-requires
+spot-of-requires c κs =
     let r = c .before .before .before .before .before .before .before .before in
     let p = start r .pre in
     let d = ran r .id in
@@ -45,7 +45,7 @@ hand-out-requires c κs =
     let r = made c in
     let p = start r .pre in
     let b = c .before .before .before .before .before .before .before in
-    omega (arith, c .place .ensures, spot-room {m = start r .args .s .m} {h = start r .args .s .m} (omega arith) (ran r .id) (start r .args .bytes .now) (p .1 .1 .0 .1), p .1 .0 .3, b .bytes .given)
+    omega (arith, c .spot-of .ensures, spot-room {m = start r .args .s .m} {h = start r .args .s .m} (omega arith) (ran r .id) (start r .args .bytes .now) (p .1 .1 .0 .1), p .1 .0 .3, b .bytes .given)
 
 clear-numbers-requires : tie.Need-clear-numbers-requires
 clear-numbers-requires c κs = search needs
@@ -90,7 +90,7 @@ returns c =
           let g = runs-agree x (a .numbers .now) (a .bytes .now) (p .1 .1 .0 .0) (p .0 .0) (p .0 .2) in (
             machine-counts x (a .numbers .now) (a .bytes .now) (p .1 .1 .0 .0) (p .0 .0) (p .0 .2) (r .run .result) (l .1 .0) (o .0),
             h .hand-out .ensures
-                ∙ ap₂ (λ i n. part i n (l .1 .0)) (h .before .place .ensures) (p .1 .0 .3)
+                ∙ ap₂ (λ i n. part i n (l .1 .0)) (h .before .spot-of .ensures) (p .1 .0 .3)
                 ∙ machine-word x (a .numbers .now) (a .bytes .now) (p .1 .1 .0 .0) (p .0 .0) (p .0 .2) (r .run .result) (l .1 .0) (o .0),
             o .1 ∙ ap (λ st. walked (λ (y : Step). pos (y .path)) st (a .walk-path .now)) (g .0),
             o .2 ∙ ap (λ st. walked (λ (y : Step). pos (y .blocks)) st (a .walk-blocks .now)) (g .0),
@@ -103,7 +103,7 @@ run-cleared-spec =
     tie.close
     (tie.spec
     run-requires
-    place-requires
+    spot-of-requires
     hand-out-requires
     clear-numbers-requires
     clear-bytes-requires

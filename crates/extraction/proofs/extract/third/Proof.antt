@@ -2,7 +2,7 @@
 -- and the next after it; the path's row and entry, written anew, hold the path with the nearest, the insertion queues it, and the next is kept for
 -- it. Moves.antt and Keeping.antt have each step, for any state that memory stands for; the contract's own state shows what the calls need.
 -- Assumes nothing.
-use mathlib.Core.Path.{_≡_, refl, ap, ap₂, _∙_, subst}
+use mathlib.Core.Path.{_≡_, ap, ap₂, _∙_, subst}
 use mathlib.Core.List.{List, _∷_}
 use mathlib.Core.Option.{some}
 use Prim.Native.Nat.{ℕ, _+_, _*_, _^_}

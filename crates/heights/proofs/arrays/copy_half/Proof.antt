@@ -9,16 +9,16 @@ use Rattle.heights.proofs.arrays.copy_half.Tie as tie
 power-requires : tie.Need-power-requires
 power-requires c κs = search needs
 
-place-requires : tie.Need-place-requires
-place-requires c κs = search needs
+spot-of-requires : tie.Need-spot-of-requires
+spot-of-requires c κs = search needs
 
-place-requires-2 : tie.Need-place-requires-2
-place-requires-2 c κs = search needs
+spot-of-requires-2 : tie.Need-spot-of-requires-2
+spot-of-requires-2 c κs = search needs
 
 copy-values-requires : tie.Need-copy-values-requires
 copy-values-requires c κs =
     let s = c .before .before .before .before in
-    rw (c .before .place .ensures, c .place2 .ensures, c .before .before .before .power .ensures)
+    rw (c .before .spot-of .ensures, c .spot-of2 .ensures, c .before .before .before .power .ensures)
     (spots-clear (s .args .numbers .now) (s .pre .3) (s .pre .1) (search) (s .pre .1) (search))
 
 same-length : tie.Need-same-length
@@ -32,8 +32,8 @@ returns c =
     let e = c .before .copy-values .ensures in
     let n = t .before .before .before .power .ensures in (
       search needs,
-      λ vals p. parts-written l vals p (s .pre .3) (s .pre .1) (s .pre .5) e (t .place2 .ensures)
-          (parts-read l vals p (s .pre .1) (s .pre .4) (t .before .place .ensures) n)
+      λ vals p. parts-written l vals p (s .pre .3) (s .pre .1) (s .pre .5) e (t .spot-of2 .ensures)
+          (parts-read l vals p (s .pre .1) (s .pre .4) (t .before .spot-of .ensures) n)
           (parts-length l vals p (s .pre .3) (s .pre .1) (s .pre .4)),
     )
 
@@ -42,8 +42,8 @@ copy-half-spec =
     tie.close
     (tie.spec
     power-requires
-    place-requires
-    place-requires-2
+    spot-of-requires
+    spot-of-requires-2
     copy-values-requires
     same-length
     returns)

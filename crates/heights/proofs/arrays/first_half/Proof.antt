@@ -18,19 +18,19 @@ use Rattle.heights.proofs.arrays.first_half.Tie as tie
 power-requires : tie.Need-power-requires
 power-requires c κs = search needs
 
-add-place : tie.Need-add-place
-add-place c = search needs
+add-spot-of : tie.Need-add-spot-of
+add-spot-of c = search needs
 
-place-requires : tie.Need-place-requires
-place-requires c κs = search needs
+spot-of-requires : tie.Need-spot-of-requires
+spot-of-requires c κs = search needs
 
-place-requires-2 : tie.Need-place-requires-2
-place-requires-2 c κs = search needs
+spot-of-requires-2 : tie.Need-spot-of-requires-2
+spot-of-requires-2 c κs = search needs
 
 lower-q-requires : tie.Need-lower-q-requires
 lower-q-requires c κs =
     let s = c .before .before .before .before in
-    rw (c .before .place .ensures, c .place2 .ensures, c .before .before .before .power .ensures, add-one, ← two-pow-succ (s .args .h))
+    rw (c .before .spot-of .ensures, c .spot-of2 .ensures, c .before .before .before .power .ensures, add-one, ← two-pow-succ (s .args .h))
     (spots-clear (s .args .numbers .now) (s .pre .0 .3) (s .pre .0 .1) (search) (omega arith) (search), s .pre .1)
 
 same-length : tie.Need-same-length
@@ -46,9 +46,9 @@ returns c =
       search needs,
       λ vals p.
           let ys = vals (suc h) (s .args .from) in
-          let y = parts-above l vals p (s .pre .0 .1) (s .pre .0 .4) (t .before .place .ensures) n in
+          let y = parts-above l vals p (s .pre .0 .1) (s .pre .0 .4) (t .before .spot-of .ensures) n in
           let b = parts-length l vals p (s .pre .0 .3) (s .pre .0 .1) (s .pre .0 .4) in
-          parts-written l vals p (s .pre .0 .3) (omega arith) (s .pre .0 .5) (c .before .lower-q .ensures) (t .place2 .ensures)
+          parts-written l vals p (s .pre .0 .3) (omega arith) (s .pre .0 .5) (c .before .lower-q .ensures) (t .spot-of2 .ensures)
           (λ k. Qs (take (n k) (y k)) (drop (n k) (y k)))
           (Qs-length (take (2 ^ h) ys) (drop (2 ^ h) ys) (first-half h ys b ∙ sym (last-half h ys b)) ∙ first-half h ys b),
     )
@@ -58,9 +58,9 @@ first-half-spec =
     tie.close
     (tie.spec
     power-requires
-    add-place
-    place-requires
-    place-requires-2
+    add-spot-of
+    spot-of-requires
+    spot-of-requires-2
     lower-q-requires
     same-length
     returns)

@@ -19,23 +19,23 @@ use Rattle.heights.proofs.arrays.second_half.Tie as tie
 power-requires : tie.Need-power-requires
 power-requires c κs = search needs
 
-add-place : tie.Need-add-place
-add-place c = search needs
+add-spot-of : tie.Need-add-spot-of
+add-spot-of c = search needs
 
-place-requires : tie.Need-place-requires
-place-requires c κs = search needs
+spot-of-requires : tie.Need-spot-of-requires
+spot-of-requires c κs = search needs
 
-place-requires-2 : tie.Need-place-requires-2
-place-requires-2 c κs = search needs
+spot-of-requires-2 : tie.Need-spot-of-requires-2
+spot-of-requires-2 c κs = search needs
 
-place-requires-3 : tie.Need-place-requires-3
-place-requires-3 c κs = search needs
+spot-of-requires-3 : tie.Need-spot-of-requires-3
+spot-of-requires-3 c κs = search needs
 
 lower-p-requires : tie.Need-lower-p-requires
 lower-p-requires c κs =
     let t = c .before .before .before .before in
     let s = t .before .before in
-    rw (c .before .before .place .ensures, c .before .place2 .ensures, c .place3 .ensures, t .power .ensures, add-one, ← two-pow-succ (s .args .h)) (
+    rw (c .before .before .spot-of .ensures, c .before .spot-of2 .ensures, c .spot-of3 .ensures, t .power .ensures, add-one, ← two-pow-succ (s .args .h)) (
       spots-clear (s .args .numbers .now) (s .pre .0 .3) (s .pre .0 .1) (search) (omega arith) (search),
       (spot-room (omega arith) (search) (s .args .bytes .now) (s .pre .0 .4), all-map (λ y b. omega arith) _ (s .pre .1 .1)),
     )
@@ -56,11 +56,11 @@ returns c =
       λ vals sums p q.
           let ws = sums (a .h) (a .word) in
           let ys = vals (suc (a .h)) (a .from) in
-          let w = parts-read (a .bytes .now) sums q g (s .pre .1 .0 .1) (t .place3 .ensures) n in
+          let w = parts-read (a .bytes .now) sums q g (s .pre .1 .0 .1) (t .spot-of3 .ensures) n in
           let v = parts-length (a .bytes .now) sums q (s .pre .0 .4) g (s .pre .1 .0 .1) in
-          let y = parts-above l vals p (s .pre .0 .1) (s .pre .1 .0 .0) (t .before .before .place .ensures) n in
+          let y = parts-above l vals p (s .pre .0 .1) (s .pre .1 .0 .0) (t .before .before .spot-of .ensures) n in
           let b = parts-length l vals p (s .pre .0 .3) (s .pre .0 .1) (s .pre .1 .0 .0) in
-          parts-written l vals p (s .pre .0 .3) g (s .pre .1 .0 .2) (c .before .lower-p .ensures) (t .before .place2 .ensures)
+          parts-written l vals p (s .pre .0 .3) g (s .pre .1 .0 .2) (c .before .lower-p .ensures) (t .before .spot-of2 .ensures)
           (λ k. Ps (w k) (take (n k) (y k)) (drop (n k) (y k)))
           (Ps-length ws (take (2 ^ a .h) ys) (drop (2 ^ a .h) ys) (v ∙ sym (first-half (a .h) ys b)) (first-half (a .h) ys b ∙ sym (last-half (a .h) ys b)) ∙ v),
     )
@@ -70,10 +70,10 @@ second-half-spec =
     tie.close
     (tie.spec
     power-requires
-    add-place
-    place-requires
-    place-requires-2
-    place-requires-3
+    add-spot-of
+    spot-of-requires
+    spot-of-requires-2
+    spot-of-requires-3
     lower-p-requires
     same-length
     returns)

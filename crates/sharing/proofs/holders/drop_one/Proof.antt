@@ -1,6 +1,5 @@
 -- `sharing::holders::drop_one` meets its contract: where the search begins is lowered to the id, so that nothing is said of the id any more, and then it
 -- is counted once less. Assumes nothing.
-use Prim.Native.Nat.{_+_}
 use native.Mathlib.Omega.{arith}
 use Rattle.sharing.specs.Sharing.{heldAt, lowAt}
 use Rattle.sharing.proofs.Tables.{held-past, held-drop}

@@ -3,7 +3,7 @@ use mathlib.Core.Path.{_≡_, sym, _∙_}
 use mathlib.Core.Logic.{_⊎_, inl, inr}
 use Prim.Native.Nat.{ℕ, _+_, _-_, _*_, _≤_, _<_}
 use native.Mathlib.Omega.{arith}
-use lib.ListN.{length, getD, length-set}
+use lib.ListN.{getD}
 use Rattle.laws.proofs.Stores.{Stored, stored-none, stored-more}
 use Rattle.laws.proofs.Tests.{lt-or}
 use Rattle.sharing.specs.Sharing.{idAt, heldAt, Held, Copied, MoreBy}

@@ -7,7 +7,7 @@ use borrow.Author.Needs.{needs}
 use borrow.Author.Tests.{eq-eqb, ne-eqb}
 use Rattle.reader.specs.Arrays.{store, claim}
 use Rattle.heights.specs.Workspace.{Id, Parts}
-use Rattle.standing.specs.Seen.{memory, Turned}
+use Rattle.standing.specs.Seen.{memory, StepSeen}
 use Rattle.views.specs.Steps.{Claimable}
 use Rattle.views.proofs.Seeing.{Took, took, lent-on, ids-only, store-self, seen-id, seen-some, seen-shared, seen-take, seen-put}
 use Rattle.views.proofs.view.claim.Statement.{statement}
@@ -50,7 +50,7 @@ same-length : tie.Need-same-length
 same-length c = search needs
 
 returns : tie.Need-returns
-unfolding memory Turned claim
+unfolding memory StepSeen claim
 returns c =
     let f = c .before .copy-half in
     let t = c .before .before .before .before .before in
@@ -67,7 +67,7 @@ returns c =
     )
 
 returns-2 : tie.Need-returns-2
-unfolding memory Turned claim
+unfolding memory StepSeen claim
 returns-2 c =
     let t = c .before .before in
     let s = start t in
@@ -85,7 +85,7 @@ returns-2 c =
     )
 
 returns-3 : tie.Need-returns-3
-unfolding memory Turned claim
+unfolding memory StepSeen claim
 returns-3 c =
     let t = c .before in
     let s = start t in

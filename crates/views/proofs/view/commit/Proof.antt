@@ -12,7 +12,7 @@ use Rattle.polar.specs.Layers.{part}
 use Rattle.heights.specs.Workspace.{spot, bitsOf}
 use Rattle.heights.proofs.Spots.{spot-room}
 use Rattle.heights.proofs.Words.{bits-bits}
-use Rattle.standing.specs.Seen.{memory, Turned}
+use Rattle.standing.specs.Seen.{memory, StepSeen}
 use Rattle.views.specs.Steps.{Joined}
 use Rattle.views.proofs.Seeing.{Took, took, lent-on, ids-only, seen-shared}
 use Rattle.views.proofs.Inside.{joined-room}
@@ -30,8 +30,8 @@ take-requires c κs =
 power-requires : tie.Need-power-requires
 power-requires c κs = search needs
 
-place-requires : tie.Need-place-requires
-place-requires c κs = search needs
+spot-of-requires : tie.Need-spot-of-requires
+spot-of-requires c κs = search needs
 
 power-requires-2 : tie.Need-power-requires-2
 power-requires-2 c κs = search needs
@@ -66,7 +66,7 @@ before u = u .before .before .before .before .before
 
 -- the word stands at the end of the cells, and nothing changed elsewhere
 end-is : (u : tie.After-put-word) →
-    u .before .before .place .result + u .before .power2 .result - u .before .before .before .before .power .result
+    u .before .before .spot-of .result + u .before .power2 .result - u .before .before .before .before .power .result
     ≡ spot (start (before u) .args .m) (before u .take .result) (start (before u) .args .h) + 2 ^ start (before u) .args .h - 2 ^ start (before u) .args .j
 end-is u = omega arith
 
@@ -108,7 +108,7 @@ same-length : tie.Need-same-length
 same-length c = search needs
 
 returns : tie.Need-returns
-unfolding memory Turned
+unfolding memory StepSeen
 returns c =
     let f = c .before .before .join in
     let u = c .before .before .before .before .before .before .before in
@@ -131,7 +131,7 @@ commit-spec =
     (tie.spec
     take-requires
     power-requires
-    place-requires
+    spot-of-requires
     power-requires-2
     add-put-word
     sub-put-word

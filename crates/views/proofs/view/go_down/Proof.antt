@@ -4,7 +4,7 @@ use mathlib.Core.Path.{_≡_, refl, sym, subst}
 use Prim.Native.Nat.{ℕ, suc, _-_, _≤_}
 use native.Mathlib.Omega.{arith}
 use lib.ListN.{length}
-use Rattle.standing.specs.Seen.{memory, Lent, Viewed, Turned, IdsOnly}
+use Rattle.standing.specs.Seen.{memory, Lent, Viewed, StepSeen, IdsOnly}
 use Rattle.views.specs.Steps.{Upper}
 use Rattle.views.proofs.Seeing.{ids-on}
 use Rattle.views.proofs.Down.{down, down-upper, viewed-on, turned-none, turned-more}
@@ -14,7 +14,7 @@ use Rattle.views.proofs.view.go_down.Tie as tie
 abbrev Inv-loop : tie.InvT-loop
 Inv-loop rows₀ holders₀ numbers₀ bytes m most slot top low h₀ rows holders numbers h =
     (low ≤ h) × (h ≤ top) × (length numbers ≡ length numbers₀) × Lent m most (memory rows holders numbers bytes) × IdsOnly m slot rows₀ rows
-    × Turned m most slot (memory rows₀ holders₀ numbers₀ bytes) (memory rows holders numbers bytes) (Upper top) (down top h)
+    × StepSeen m most slot (memory rows₀ holders₀ numbers₀ bytes) (memory rows holders numbers bytes) (Upper top) (down top h)
 
 abbrev μ-loop : tie.MeasureT-loop
 μ-loop rows₀ holders₀ numbers₀ bytes m most slot top low h₀ rows holders numbers h = h
@@ -54,7 +54,7 @@ loop-again c =
       f .0 .0,
       ids-on (a .rows .now) (t .loop .rows) (i .4) (f .0 .1),
       turned-more (a .m) (a .most) (a .slot) x y _ (omega arith)
-          (subst (λ (n : ℕ). Turned (a .m) (a .most) (a .slot) x y (Upper (a .top)) (down (a .top) n)) (sym e) (i .5)) (f .1),
+          (subst (λ (n : ℕ). StepSeen (a .m) (a .most) (a .slot) x y (Upper (a .top)) (down (a .top) n)) (sym e) (i .5)) (f .1),
     )
 
 same-length : tie.Need-same-length Inv-loop μ-loop
@@ -66,7 +66,7 @@ returns c =
     let a = t .before .before .args in
     let i = t .loop .inv in
     let e : t .loop .h ≡ a .low = omega arith in
-    ((i .3, i .4), subst (λ (n : ℕ). Turned (a .m) (a .most) (a .slot) (memory (a .rows .now) (a .holders .now) (a .numbers .now) (a .bytes .now)) (memory (t .loop .rows) (t .loop .holders) (t .loop .numbers) (a .bytes .now)) (Upper (a .top)) (down (a .top) n)) e (i .5))
+    ((i .3, i .4), subst (λ (n : ℕ). StepSeen (a .m) (a .most) (a .slot) (memory (a .rows .now) (a .holders .now) (a .numbers .now) (a .bytes .now)) (memory (t .loop .rows) (t .loop .holders) (t .loop .numbers) (a .bytes .now)) (Upper (a .top)) (down (a .top) n)) e (i .5))
 
 pub go-down-spec : {M : Type 1} → statement M
 go-down-spec =

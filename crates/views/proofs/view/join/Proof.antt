@@ -21,8 +21,8 @@ Inv-loop rows bytes₀ m most slot j h id end k₀ bytes k = Progress m h id j (
 abbrev μ-loop : tie.MeasureT-loop
 μ-loop rows bytes₀ m most slot j h id end k₀ bytes k = h - k
 
-place-requires : tie.Need-place-requires Inv-loop μ-loop
-place-requires c κs = search needs
+spot-of-requires : tie.Need-spot-of-requires Inv-loop μ-loop
+spot-of-requires c κs = search needs
 
 power-requires : tie.Need-power-requires Inv-loop μ-loop
 power-requires c κs = omega arith
@@ -41,21 +41,21 @@ power-requires-2 c κs = omega arith
 id-of-requires : tie.Need-id-of-requires Inv-loop μ-loop
 id-of-requires c κs = search needs
 
-place-requires-2 : tie.Need-place-requires-2 Inv-loop μ-loop
-place-requires-2 c κs =
+spot-of-requires-2 : tie.Need-spot-of-requires-2 Inv-loop μ-loop
+spot-of-requires-2 c κs =
     let t = c .before .before .before in
     let p = t .before .before .before .before .pre in
     let d = p .1 .0 (t .loop .k) (t .loop .inv .low) (c .before .before .loop-test .taken) .0 in
     (p .0 .2, omega arith, rw (c .id-of .ensures) record { some = d .some; most = omega (arith, d .most) })
 
 -- where this turn began, and the call
-abbrev turn : tie.After-place2 Inv-loop μ-loop → tie.At-loop Inv-loop μ-loop
+abbrev turn : tie.After-spot-of2 Inv-loop μ-loop → tie.At-loop Inv-loop μ-loop
 turn c = c .before .before .before .before
 
-abbrev start : tie.After-place2 Inv-loop μ-loop → tie.Start Inv-loop μ-loop
+abbrev start : tie.After-spot-of2 Inv-loop μ-loop → tie.Start Inv-loop μ-loop
 start c = turn c .before .before .before .before
 
-below : (c : tie.After-place2 Inv-loop μ-loop) → turn c .loop .k < start c .args .h
+below : (c : tie.After-spot-of2 Inv-loop μ-loop) → turn c .loop .k < start c .args .h
 below c = c .before .before .before .loop-test .taken
 
 sub-add-sums : tie.Need-sub-add-sums Inv-loop μ-loop
@@ -68,16 +68,16 @@ sub-add-sums-2 : tie.Need-sub-add-sums-2 Inv-loop μ-loop
 sub-add-sums-2 c = omega (arith, twice-fits (below (c .before)))
 
 -- the slot's array of this height; its place, the end of the cells and the size of the word
-own : (c : tie.After-place2 Inv-loop μ-loop) → let s = start c .args in let i = idAt (s .rows .now) (s .slot) (turn c .loop .k) in
+own : (c : tie.After-spot-of2 Inv-loop μ-loop) → let s = start c .args in let i = idAt (s .rows .now) (s .slot) (turn c .loop .k) in
     Id (s .most) i × All Bit (part (spot (s .m) i (turn c .loop .k)) (2 ^ turn c .loop .k) (s .bytes .now))
 own c = start c .pre .1 .0 (turn c .loop .k) (turn c .loop .inv .low) (below c)
 
-low-is : (c : tie.After-place2 Inv-loop μ-loop) → c .place2 .result ≡ spot (start c .args .m) (idAt (start c .args .rows .now) (start c .args .slot) (turn c .loop .k)) (turn c .loop .k)
-low-is c = c .place2 .ensures ∙ ap (λ i. spot (start c .args .m) i (turn c .loop .k)) (c .before .id-of .ensures)
+low-is : (c : tie.After-spot-of2 Inv-loop μ-loop) → c .spot-of2 .result ≡ spot (start c .args .m) (idAt (start c .args .rows .now) (start c .args .slot) (turn c .loop .k)) (turn c .loop .k)
+low-is c = c .spot-of2 .ensures ∙ ap (λ i. spot (start c .args .m) i (turn c .loop .k)) (c .before .id-of .ensures)
 
-end-is : (c : tie.After-place2 Inv-loop μ-loop) →
-    turn c .before .before .place .result + turn c .before .power .result ≡ spot (start c .args .m) (start c .args .id) (start c .args .h) + 2 ^ start c .args .h
-end-is c = ap₂ _+_ (turn c .before .before .place .ensures) (turn c .before .power .ensures)
+end-is : (c : tie.After-spot-of2 Inv-loop μ-loop) →
+    turn c .before .before .spot-of .result + turn c .before .power .result ≡ spot (start c .args .m) (start c .args .id) (start c .args .h) + 2 ^ start c .args .h
+end-is c = ap₂ _+_ (turn c .before .before .spot-of .ensures) (turn c .before .power .ensures)
 
 add-sums-requires : tie.Need-add-sums-requires Inv-loop μ-loop
 add-sums-requires c κs =
@@ -110,13 +110,13 @@ join-spec =
     (tie.spec
     Inv-loop
     μ-loop
-    place-requires
+    spot-of-requires
     power-requires
     add-end
     loop-holds
     power-requires-2
     id-of-requires
-    place-requires-2
+    spot-of-requires-2
     sub-add-sums
     add-add-sums
     sub-add-sums-2

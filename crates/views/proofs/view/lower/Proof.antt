@@ -10,7 +10,7 @@ use Rattle.polar.specs.Soft.{Qs}
 use Rattle.reader.specs.Arrays.{store}
 use Rattle.sharing.specs.Sharing.{idAt}
 use Rattle.heights.specs.Workspace.{Parts}
-use Rattle.standing.specs.Seen.{memory, Turned}
+use Rattle.standing.specs.Seen.{memory, StepSeen}
 use Rattle.views.proofs.Seeing.{Took, took, lent-on, ids-only, seen-id, seen-some, seen-vals, seen-shared, seen-put}
 use Rattle.views.proofs.view.lower.Statement.{statement}
 use Rattle.views.proofs.view.lower.Tie as tie
@@ -60,7 +60,7 @@ same-length : tie.Need-same-length
 same-length c = search needs
 
 returns : tie.Need-returns
-unfolding memory Turned
+unfolding memory StepSeen
 returns c =
     let f = c .before .first-half in
     let t = c .before .before .before in

@@ -1,4 +1,4 @@
--- `heights::arrays::place` meets its contract: the place is below 2^18, so nothing wraps. Assumes nothing.
+-- `heights::arrays::spot_of` meets its contract: the place is below 2^18, so nothing wraps. Assumes nothing.
 use mathlib.Core.Path.{_≡_}
 use Prim.Native.Nat.{ℕ, _-_, _*_, _^_, _≤_}
 use native.Mathlib.Nat.{mul-le-mul}
@@ -6,8 +6,8 @@ use native.Mathlib.Omega.{arith}
 use lib.Pow.{pow-mono}
 use borrow.Author.Needs.{needs}
 use Rattle.heights.specs.Workspace.{spot, Id}
-use Rattle.heights.proofs.arrays.place.Statement.{statement}
-use Rattle.heights.proofs.arrays.place.Tie as tie
+use Rattle.heights.proofs.arrays.spot_of.Statement.{statement}
+use Rattle.heights.proofs.arrays.spot_of.Tie as tie
 
 -- the power, and where a row begins, are small
 row : {m id p : ℕ} → m ≤ 9 → Id 256 id → p ≡ 2 ^ m → (p ≤ 512) × ((id - 1) * (2 * p) ≤ 255 * 1024)
@@ -38,8 +38,8 @@ returns : tie.Need-returns
 unfolding spot
 returns c = let p = c .before .power .ensures in let q = c .power2 .ensures in rw (p, q)
 
-pub place-spec : {M : Type 1} → statement M
-place-spec =
+pub spot-of-spec : {M : Type 1} → statement M
+spot-of-spec =
     tie.close
     (tie.spec
     sub-result
