@@ -1,7 +1,7 @@
 -- One extraction in a state that the run reaches: the path in hand is fit for its copy, and after it for its next block, which has a nearest word;
 -- the totals are within range; and what the three steps leave is the reader's extraction. Assumes nothing.
 use mathlib.Core.Path.{_≡_, ap, _∙_, subst}
-use mathlib.Core.List.{List, _∷_}
+use mathlib.Core.List.{List}
 use Prim.Native.Nat.{ℕ, suc, _+_, _<_}
 use native.Mathlib.Omega.{arith}
 use lib.ListN.{length, getD, length-map, length-set}
@@ -16,13 +16,13 @@ use Rattle.reader.proofs.Found.{MoveFound, copy-total, move-found-copied}
 use Rattle.order.specs.Entries.{keyAt}
 use Rattle.standing.specs.Seen.{Memory}
 use Rattle.standing.specs.Standing.{Stands}
+use Rattle.standing.proofs.Taken.{taken-blocks}
 use Rattle.words.specs.declared.Block.{Block}
 use Rattle.words.specs.Kept.{Kepts}
 use Rattle.words.proofs.Kepts.{kepts-staying}
-use Rattle.steps.specs.Steps.{Queued}
+use Rattle.steps.specs.Steps.{Queued, CopiedTo}
 use Rattle.extraction.specs.Extraction.{Seconding, Thirding, Extracting}
 use Rattle.extraction.proofs.Counts.{blocks-few}
-use Rattle.extraction.proofs.Seconds.{hand-blocks}
 
 -- a visit counted leaves as many counts
 pub visit-length : (visits : List ℕ) (b : ℕ) → length (visit visits b) ≡ length visits
@@ -43,7 +43,7 @@ module _ {m N : ℕ} {x : Memory} {e : ℕ} {es vs kinds terms : List ℕ} {last
   rest = c .hand .rest
 
   pub extract-blocks : keyAt e .blocks < 512
-  extract-blocks = omega (arith, hand-blocks (c .hand), c .next .within, blocks-few book (c .booked .valid))
+  extract-blocks = omega (arith, taken-blocks (c .hand .stands), c .next .within, blocks-few book (c .booked .valid))
 
   -- ---- step 2
 
@@ -63,9 +63,7 @@ module _ {m N : ℕ} {x : Memory} {e : ℕ} {es vs kinds terms : List ℕ} {last
   module _ (n before : ℕ) (kept′ : List ℕ) {queued n′ crowded : ℕ} {y : Memory} {qs ws : List ℕ}
       (done : let o = extract-seconding in
       let k = copy (o .hand .book) N (o .hand .arrays) (o .hand .taken) (o .hand .rest) n (o .hand .taken .blocks) in
-      (queued ≡ length (k .queue)) × (n′ ≡ k .next) × (crowded ≡ before + length (k .crowded))
-      × Stands (o .hand .book) N y (e ∷ qs) ws (k .arrays) (o .hand .taken ∷ k .queue)
-      × Kepts (o .hand .book) (k .arrays) kept′ qs (k .queue)) where
+      CopiedTo (o .hand .book) N e (o .hand .taken) k before queued n′ crowded y qs ws kept′) where
     abbrev second : Cut
     second = copy book N arrays path rest n (path .blocks)
 
@@ -128,7 +126,7 @@ module _ {m N : ℕ} {x : Memory} {e : ℕ} {es vs kinds terms : List ℕ} {last
       unfolding extract extract-seconding extract-thirding extract-queued numbers
       extract-done L visits gone b {left} {outrun} {w} {es′} {vs′} q stayed h =
           let o = extract-queued in
-          let same : b ≡ path .blocks = q ∙ hand-blocks (c .hand) in
+          let same : b ≡ path .blocks = q ∙ taken-blocks (c .hand .stands) in
           let Left : ℕ → Type 0 = λ i.
           let stay = staying (keyOf book) L i (visit visits i) (o .paths) in
           (left ≡ length stay) × (outrun ≡ gone + length (outrunBy (keyOf book) L i (visit visits i) (o .paths)))

@@ -8,7 +8,6 @@ use native.Mathlib.Omega.{arith}
 use lib.ListN.{length}
 use lib.IntN.{ℤ, pos, negℤ, _-ℤ_}
 use Rattle.laws.specs.Lists.{All}
-use Rattle.laws.specs.Pairs.{Paired}
 use Rattle.polar.specs.Bits.{number}
 use Rattle.polar.specs.Layers.{part, Within}
 use Rattle.codebook.specs.Book.{Book, blockAt}
@@ -31,12 +30,12 @@ use Rattle.heights.specs.Workspace.{spot, Id, Parts}
 use Rattle.heights.proofs.Spots.{spot-room}
 use Rattle.standing.specs.Seen.{Memory, memory, Lent}
 use Rattle.standing.specs.Standing.{cell, Row, Stands, withIds, PutRow, Made}
+use Rattle.standing.proofs.Taken.{taken-row, taken-key, taken-blocks}
 use Rattle.standing.proofs.Places.{stands-insert}
 use Rattle.standing.proofs.Written.{stands-put}
 use Rattle.words.specs.declared.Block.{Block}
 use Rattle.extraction.specs.Extraction.{Thirding}
 use Rattle.extraction.proofs.Counts.{blocks-few}
-use Rattle.extraction.proofs.Seconds.{hand-key, hand-blocks}
 
 -- a path that is fit has parities that are bits
 fit-parities : (B : Book) (A : Arrays) (p : Path) (b : ℕ) → FitFor B A p b → Bits (p .parities)
@@ -87,7 +86,7 @@ module _ {m N : ℕ} {x : Memory} {e : ℕ} {es vs kinds terms : List ℕ} {last
   third-bias = rw (c .moving .next .bias) (c .booked .valid .blocks (path .blocks) (c .moving .next .within) .bias)
 
   pub third-blocks : keyAt e .blocks < 512
-  third-blocks = omega (arith, hand-blocks (c .moving .hand), c .moving .next .within, blocks-few book (c .booked .valid))
+  third-blocks = omega (arith, taken-blocks (c .moving .hand .stands), c .moving .next .within, blocks-few book (c .booked .valid))
 
   low : at .height ≤ book .m
   low =
@@ -106,8 +105,7 @@ module _ {m N : ℕ} {x : Memory} {e : ℕ} {es vs kinds terms : List ℕ} {last
 
   module _ {y : Memory} (st : Stands book N y (e ∷ es) vs (view .arrays) (withIds path (view .ids) ∷ rest)) where
     row : Row book (y .rows) (slotAt e) (withIds path (view .ids))
-    unfolding Paired
-    row = st .queue .0 .row
+    row = taken-row st
 
     -- the cells read
     pub third-spent : cell (y .rows) (slotAt e) 10 ≡ path .spent
@@ -195,8 +193,8 @@ module _ {m N : ℕ} {x : Memory} {e : ℕ} {es vs kinds terms : List ℕ} {last
           let total : cell (y .rows) (slotAt e) 10 + cell (y .rows) (slotAt e) 11 + found .cost ≡ path .spent + path .cost + c .word .cost =
           omega (arith, third-spent, third-cost, cost-is) in
           let score : s ≡ scoreOf book moved (suc (path .blocks)) = q ∙ ap₂ (λ (k : ℕ) (z : ℤ). negℤ (pos k) -ℤ z) total (c .moving .next .bias) in
-          let blocks : keyAt e .blocks + 1 ≡ suc (path .blocks) = omega (arith, hand-blocks (c .moving .hand)) in
-          let own : keyAt e .number ≡ path .number = ap (λ (k : Key). k .number) (hand-key (c .moving .hand)) in
+          let blocks : keyAt e .blocks + 1 ≡ suc (path .blocks) = omega (arith, taken-blocks (c .moving .hand .stands)) in
+          let own : keyAt e .number ≡ path .number = ap (λ (k : Key). k .number) (taken-key (c .moving .hand .stands)) in
           λ i. record { score = score i; blocks = blocks i; number = own i }
 
       -- what its entry and its row hold

@@ -11,6 +11,7 @@ ghost use Rattle.order.specs.Entries.{queueOf, Rising};
 ghost use Rattle.standing.specs.Seen.{memory, Lent};
 ghost use Rattle.standing.specs.Standing.{Stands};
 ghost use Rattle.words.specs.Kept.{Kepts};
+ghost use Rattle.steps.specs.Steps.{CopiedTo};
 ghost use Rattle.extraction.specs.Extraction.{Seconding, Thirding, Extracting};
 use advance::outruns::outrun;
 use advance::values::calculate;
@@ -58,10 +59,8 @@ fn second(
     ensures { λ r. ⌜ ((c : Seconding (s .m) (s .paths) (memory (now (rows .entry)) (now (holders .entry)) (now (numbers .entry)) (now (bytes .entry))) e (queueOf (now (order .entry)) (t .queued))
         (queueOf (now (vacant .entry)) (s .paths - (t .queued + 1))) (now (kinds .entry)) (now (terms .entry)) last (now (kept .entry)))
         → (let k = R.copy (c .hand .book) (s .paths) (c .hand .arrays) (c .hand .taken) (c .hand .rest) (t .next) (c .hand .taken .blocks) in
-        (r .queued ≡ length (k .queue)) × (r .next ≡ k .next) × (r .crowded ≡ t .crowded + length (k .crowded))
-        × Stands (c .hand .book) (s .paths) (memory (now (rows .exit)) (now (holders .exit)) (now (numbers .exit)) (now (bytes .entry))) (e ∷ queueOf (now (order .exit)) (r .queued))
-        (queueOf (now (vacant .exit)) (s .paths - (r .queued + 1))) (k .arrays) (c .hand .taken ∷ k .queue)
-        × Kepts (c .hand .book) (k .arrays) (now (kept .exit)) (queueOf (now (order .exit)) (r .queued)) (k .queue))) ⌝ }
+        CopiedTo (c .hand .book) (s .paths) e (c .hand .taken) k (t .crowded) (r .queued) (r .next) (r .crowded) (memory (now (rows .exit)) (now (holders .exit)) (now (numbers .exit)) (now (bytes .entry)))
+        (queueOf (now (order .exit)) (r .queued)) (queueOf (now (vacant .exit)) (s .paths - (r .queued + 1))) (now (kept .exit)))) ⌝ }
     ensures { λ r. ⌜ Rising (now (order .exit)) (r .queued) ⌝ }
 {
     let blocks = blocks_of(e);

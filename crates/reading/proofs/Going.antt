@@ -16,7 +16,7 @@ use Rattle.laws.proofs.Lists.{length-snoc, getD-zeros}
 use Rattle.laws.specs.Pairs.{Paired}
 use Rattle.codebook.specs.Book.{Book}
 use Rattle.codebook.specs.Limits.{Valid}
-use Rattle.machine.specs.Queue.{Key, Step, Final}
+use Rattle.machine.specs.Queue.{Step, Final}
 use Rattle.reader.specs.Arrays.{Arrays}
 use Rattle.reader.specs.Paths.{Path, scoreOf, keyOf, firstPath}
 use Rattle.reader.specs.Reader as R
@@ -27,6 +27,7 @@ use Rattle.order.proofs.Queues.{queue-first, queue-length}
 use Rattle.standing.specs.Seen.{Memory}
 use Rattle.standing.specs.Standing.{Stands}
 use Rattle.standing.proofs.Sizes.{stands-room}
+use Rattle.standing.proofs.Taken.{taken-key, taken-blocks}
 use Rattle.words.specs.Kept.{Kepts}
 use Rattle.steps.specs.declared.Tally.{Tally}
 use Rattle.reading.proofs.Visits.{run-wide}
@@ -132,17 +133,12 @@ going-first B values L N A x order vacant kept e path₀ blocks₀ score₀ ok s
 module _ {B : Book} {values : List ℤ} {L N : ℕ} {whole : R.Run} {x : Memory} {order vacant visits kept : List ℕ} {t : Tally} {e : ℕ}
     {path₀ blocks₀ score₀ path blocks score : List ℤ} (g : Going B values L N whole x order vacant visits kept t e path₀ blocks₀ score₀ path blocks score) where
   -- the entry in hand is the path's
-  pub going-key : keyAt e ≡ keyOf B (g .taken)
-  unfolding Paired
-  going-key = g .stands .queue .0 .key
-
   pub going-small : e < 36028797018963968
   unfolding Paired
   going-small = g .stands .queue .0 .small
 
   pub going-blocks : keyAt e .blocks ≡ g .taken .blocks
-  unfolding keyOf
-  going-blocks = ap (λ (k : Key). k .blocks) going-key
+  going-blocks = taken-blocks (g .stands)
 
   -- the queue has room
   pub going-room : t .queued + 1 ≤ N
@@ -199,7 +195,7 @@ module _ {B : Book} {values : List ℤ} {L N : ℕ} {whole : R.Run} {x : Memory}
     -- its entry of the walk
     step-key : keyAt e ≡ record { score = made .step .score; blocks = made .step .blocks; number = made .step .path }
     unfolding R.extract keyOf
-    step-key = going-key
+    step-key = taken-key (g .stands)
 
     module _ (r : Tally) (queued-is : r .queued ≡ length (made .state .queue)) where
       -- a path is queued
@@ -292,7 +288,7 @@ module _ {B : Book} {values : List ℤ} {L N : ℕ} {whole : R.Run} {x : Memory}
     unfolding keyOf
     last-walks {path′} {blocks′} {score′} long noted =
         subst (λ l. Walks l path₀ blocks₀ score₀ path′ blocks′ score′) (sym last-steps)
-        (walks-next lastStep going-key (g .extractions)
+        (walks-next lastStep (taken-key (g .stands)) (g .extractions)
         (record {
           path-long = omega (arith, long .path-long, going-fuel);
           blocks-long = omega (arith, long .blocks-long, going-fuel);

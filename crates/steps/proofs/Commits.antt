@@ -4,7 +4,6 @@ use mathlib.Core.Path.{_≡_, sym, ap, ap₂, _∙_, subst, subst₂}
 use mathlib.Core.List.{List}
 use Prim.Native.Nat.{ℕ, _-_, _^_}
 use native.Mathlib.Omega.{arith}
-use Rattle.laws.specs.Pairs.{Paired}
 use Rattle.codebook.specs.Book.{Book, blockAt}
 use Rattle.codebook.specs.Limits.{Valid}
 use Rattle.reader.specs.Arrays.{View, sumsOf, putSums, joined}
@@ -16,6 +15,7 @@ use Rattle.heights.specs.Workspace.{bitsOf}
 use Rattle.heights.proofs.Words.{bits-back}
 use Rattle.standing.specs.Seen.{Memory, Seen, Viewed, StepSeen}
 use Rattle.standing.specs.Standing.{cell, InHand}
+use Rattle.standing.proofs.Taken.{taken-row}
 use Rattle.standing.proofs.Views.{stands-seen}
 use Rattle.views.specs.Steps.{Joinable}
 use Rattle.words.specs.declared.Block.{Block}
@@ -38,10 +38,9 @@ module _ {m N : ℕ} {x : Memory} {e : ℕ} {es vs : List ℕ} (h : InHand m N x
 
     -- the word that the row holds, as bits
     word-bits : (w : ℕ) → w ≡ cell (x .rows) s 12 → bitsOf (2 ^ (blockAt (h .book) b .j)) w ≡ lastWord (h .book) (h .taken) b
-    unfolding Paired
     word-bits w i =
         let l = last-bits (h .book) valid (h .arrays) (h .taken) b (own .fit) in
-        ap₂ bitsOf (sym (l .0)) (i ∙ ap (λ t. cell (x .rows) t 12) is ∙ h .stands .queue .0 .row .word b (own .blocks))
+        ap₂ bitsOf (sym (l .0)) (i ∙ ap (λ t. cell (x .rows) t 12) is ∙ taken-row (h .stands) .word b (own .blocks))
         ∙ bits-back (lastWord (h .book) (h .taken) b) (l .1)
 
     -- the word is in the sums

@@ -17,7 +17,6 @@ use Rattle.codebook.specs.Book.{Book, startOf, blockAt}
 use Rattle.codebook.specs.Book as K
 use Rattle.laws.specs.Lists.{All, Distinct}
 use Rattle.laws.proofs.Lists.{all-front}
-use Rattle.laws.specs.Pairs.{Paired}
 use Rattle.machine.specs.Queue.{roomFor, insert}
 use Rattle.outer.specs.declared.Candidate.{Candidate}
 use Rattle.outer.specs.Blocks.{candidateOf}
@@ -33,6 +32,7 @@ use Rattle.standing.specs.Seen.{Memory, memory, Lent, Seen, Viewed, StepSeen, I
 use Rattle.standing.specs.Standing.{cell, Row, Stands, withIds, PutRow, Made}
 use Rattle.standing.proofs.Slots.{distinct-forward}
 use Rattle.standing.proofs.Sizes.{slots-apart}
+use Rattle.standing.proofs.Taken.{taken-row}
 use Rattle.standing.proofs.Leaving.{stands-held, stands-few}
 use Rattle.standing.proofs.Views.{stands-seen, stands-view}
 use Rattle.standing.proofs.Places.{stands-insert-second}
@@ -60,8 +60,7 @@ module _ {m N : ℕ} {x : Memory} {e t : ℕ} {es vs : List ℕ} {last : Block} 
   path = c .hand .taken
 
   row : Row book (x .rows) (slotAt e) path
-  unfolding Paired
-  row = c .hand .stands .queue .0 .row
+  row = taken-row (c .hand .stands)
 
   pub fork-blocks : suc b < 1024
   fork-blocks =

@@ -24,7 +24,7 @@ use Rattle.outer.specs.Blocks.{BlockTabled, candidateOf}
 use Rattle.outer.proofs.Entries.{block-low, block-walkable}
 use Rattle.reader.specs.Arrays.{valsOf}
 use Rattle.reader.specs.Paths.{Path, keyOf, ownWord, viewOf}
-use Rattle.reader.specs.Reader.{Cut, copyWith, copy}
+use Rattle.reader.specs.Reader.{copyWith, copy}
 use Rattle.reader.proofs.Descent.{place-own, place-most}
 use Rattle.reader.proofs.Found.{next-number}
 use Rattle.order.specs.Entries.{slotAt}
@@ -34,9 +34,10 @@ use Rattle.heights.proofs.Spots.{spot-room}
 use Rattle.standing.specs.Seen.{Memory, Lent}
 use Rattle.standing.specs.Standing.{cell, Row, Stands}
 use Rattle.standing.proofs.Sizes.{stands-length}
+use Rattle.standing.proofs.Taken.{taken-row}
 use Rattle.words.specs.declared.Block.{Block}
 use Rattle.words.specs.Kept.{Keeps, Kepts}
-use Rattle.steps.specs.Steps.{Forking, Copying}
+use Rattle.steps.specs.Steps.{Forking, Copying, CopiedTo}
 
 -- ---- a word as the search answers it
 
@@ -73,9 +74,8 @@ module _ {m N : ℕ} {x : Memory} {e : ℕ} {es vs kinds terms : List ℕ} {last
       let o = c .own .block in
       record { valid = c .booked .valid; inside = o .within; tabled = c .booked .tabled; first = o .start; height = o .height }
 
-  pub copy-row : Row book (x .rows) (slotAt e) path
-  unfolding Paired
-  copy-row = c .hand .stands .queue .0 .row
+  row : Row book (x .rows) (slotAt e) path
+  row = taken-row (c .hand .stands)
 
   low : last .height ≤ book .m
   low =
@@ -88,7 +88,7 @@ module _ {m N : ℕ} {x : Memory} {e : ℕ} {es vs kinds terms : List ℕ} {last
   -- the id in the row, and the values of its array
   id-is : idAt (x .rows) (slotAt e) (last .height) ≡ path .ids (last .height)
   unfolding HasIds
-  id-is = copy-row .ids (last .height) low
+  id-is = row .ids (last .height) low
 
   id-ok : Id N (path .ids (last .height))
   unfolding All
@@ -116,7 +116,7 @@ module _ {m N : ℕ} {x : Memory} {e : ℕ} {es vs kinds terms : List ℕ} {last
       }
 
   pub copy-cost : cell (x .rows) (slotAt e) 11 < 4294967295
-  copy-cost = omega (arith, copy-row .cost, c .own .fit .total)
+  copy-cost = omega (arith, row .cost, c .own .fit .total)
 
   -- ---- what it answers
 
@@ -139,19 +139,12 @@ module _ {m N : ℕ} {x : Memory} {e : ℕ} {es vs kinds terms : List ℕ} {last
   rest-length : length es ≡ length rest
   rest-length = omega (arith, stands-length (c .hand .stands))
 
-  -- what the step has to come to: so many queued, the next number, the count, and memory
-  abbrev Comes : ℕ → ℕ → ℕ → ℕ → Memory → List ℕ → List ℕ → List ℕ → Cut → Type 0
-  Comes queued n before after y qs ws kept′ k =
-      (queued ≡ length (k .queue)) × (n ≡ k .next) × (after ≡ before + length (k .crowded))
-      × Stands book N y (e ∷ qs) ws (k .arrays) (path ∷ k .queue)
-      × Kepts book (k .arrays) kept′ qs (k .queue)
-
   -- no next word: nothing changes
   pub copy-none : {found : Candidate} (n crowded : ℕ) → found ≡ candidateOf book next → found .some ≡ false →
-      Comes (length es) n crowded crowded x es vs kept (copy book N (c .hand .arrays) path rest n (suc b))
+      CopiedTo book N e path (copy book N (c .hand .arrays) path rest n (suc b)) crowded (length es) n crowded x es vs kept
   unfolding copy copyWith Paired
   copy-none n crowded is not-one =
-      subst (λ (o : Option Word). Comes (length es) n crowded crowded x es vs kept (copyWith book N (c .hand .arrays) path b rest n o)) (sym (none-word book next _ is not-one))
+      subst (λ (o : Option Word). CopiedTo book N e path (copyWith book N (c .hand .arrays) path b rest n o) crowded (length es) n crowded x es vs kept) (sym (none-word book next _ is not-one))
       (rest-length, refl, omega arith, c .hand .stands, c .known .1)
 
   -- ---- a next word, the queue cut
@@ -200,10 +193,10 @@ module _ {m N : ℕ} {x : Memory} {e : ℕ} {es vs kinds terms : List ℕ} {last
         let k = copyWith (o .hand .book) N (o .hand .arrays) (o .hand .taken) b (o .hand .rest) n (some (o .word)) in
         Stands (o .hand .book) N z (e ∷ qs′) ws (k .arrays) (o .hand .taken ∷ k .queue)
         × (Kepts (o .hand .book) (o .hand .arrays) kept qs (o .hand .rest) → Kepts (o .hand .book) (k .arrays) kept′ qs′ (k .queue))) →
-        Comes (suc left) (suc n) crowded (crowded + (length es - left)) z qs′ ws kept′ (copy book N (c .hand .arrays) path rest n (suc b))
+        CopiedTo book N e path (copy book N (c .hand .arrays) path rest n (suc b)) crowded (suc left) (suc n) (crowded + (length es - left)) z qs′ ws kept′
     unfolding copy copyWith roomFor copy-fork
     copy-done n crowded kept′ {z} {qs′} cut h =
         let twice : roomFor N (roomFor N rest) ≡ roomFor N rest = take-take (N - 2) (N - 2) rest (omega arith) in
         let words = h .1 (subst (λ (l : List ℕ). Kepts book (c .hand .arrays) kept l (roomFor N rest)) (sym cut) copy-kept) in
-        subst (λ (o : Option Word). Comes (suc left) (suc n) crowded (crowded + (length es - left)) z qs′ ws kept′ (copyWith book N (c .hand .arrays) path b rest n o)) (sym word-is)
+        subst (λ (o : Option Word). CopiedTo book N e path (copyWith book N (c .hand .arrays) path b rest n o) crowded (suc left) (suc n) (crowded + (length es - left)) z qs′ ws kept′) (sym word-is)
         (ap suc count ∙ sym (insert-length (keyOf book) _ (roomFor N rest)), refl, omega (arith, crowded-is), rw twice at (h .0), rw twice at words)

@@ -16,7 +16,7 @@ use Rattle.outer.specs.Words.{Word, nextAfter}
 use Rattle.outer.specs.Blocks.{candidateOf}
 use Rattle.reader.specs.Arrays.{Arrays, View, valsOf}
 use Rattle.reader.specs.Paths.{Path, ownWord, place, idsOf, viewOf}
-use Rattle.reader.specs.Reader.{commit}
+use Rattle.reader.specs.Reader.{Cut, commit}
 use Rattle.reader.specs.Fit.{Fit, FitFor}
 use Rattle.standing.specs.Seen.{Memory}
 use Rattle.standing.specs.Standing.{Stands, InHand}
@@ -67,6 +67,12 @@ pub record Copying (m N : ℕ) (x : Memory) (e : ℕ) (es vs : List ℕ) (kinds 
   pub known : Kepts (hand .book) (hand .arrays) kept (e ∷ es) (hand .taken ∷ hand .rest)
   pub total : (y : Word) → nextAfter (ownWord (hand .book) (hand .taken) b) (hand .book) (valsOf (viewOf (hand .arrays) (hand .taken)) (blockAt (hand .book) b .j)) (hand .taken .earlier) b ≡ some y
       → hand .taken .spent + y .cost ≤ 1048064
+
+-- what the step has come to, from so many crowded out before: so many queued, the next number, the count, memory, and the words kept
+abbrev pub CopiedTo : Book → ℕ → ℕ → Path → Cut → ℕ → ℕ → ℕ → ℕ → Memory → List ℕ → List ℕ → List ℕ → Type 0
+CopiedTo B N e p k before queued next crowded x es vs kept =
+    (queued ≡ length (k .queue)) × (next ≡ k .next) × (crowded ≡ before + length (k .crowded))
+    × Stands B N x (e ∷ es) vs (k .arrays) (p ∷ k .queue) × Kepts B (k .arrays) kept es (k .queue)
 
 -- ---- the next block
 

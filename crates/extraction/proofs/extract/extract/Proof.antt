@@ -2,7 +2,7 @@
 -- leave is the reader's extraction. Extracts.antt has each step, for any state that memory stands for; the contract's own state shows what the calls
 -- need. Assumes nothing.
 use mathlib.Core.Path.{_≡_, ap, _∙_, subst}
-use mathlib.Core.List.{List, _∷_}
+use mathlib.Core.List.{List}
 use Prim.Native.Nat.{ℕ, suc, _+_, _-_}
 use native.Mathlib.Omega.{arith}
 use borrow.Author.Needs.{needs}
@@ -10,8 +10,7 @@ use lib.ListN.{length}
 use Rattle.reader.specs.Reader.{copy}
 use Rattle.order.specs.Entries.{queueOf, Rising}
 use Rattle.standing.specs.Seen.{Memory, memory}
-use Rattle.standing.specs.Standing.{Stands}
-use Rattle.words.specs.Kept.{Kepts}
+use Rattle.steps.specs.Steps.{CopiedTo}
 use Rattle.extraction.specs.Extraction.{Extracting}
 use Rattle.extraction.proofs.Extracts.{visit-length, extract-blocks, extract-seconding, extract-thirding, MovedTo, extract-queued, extract-done}
 use Rattle.extraction.proofs.extract.extract.Statement.{statement}
@@ -57,9 +56,8 @@ words c = c .second .last .1 .1 .1 .1 .1 .1 .1 .1 .1 .1 .1 .1 .0
 copied : (c : tie.After-second) (o : Extract (start c)) → let a = start c .args in
     let d = extract-seconding o in
     let k = copy (d .hand .book) (a .s .paths) (d .hand .arrays) (d .hand .taken) (d .hand .rest) (a .t .next) (d .hand .taken .blocks) in
-    (c .second .result .queued ≡ length (k .queue)) × (c .second .result .next ≡ k .next) × (c .second .result .crowded ≡ a .t .crowded + length (k .crowded))
-    × Stands (d .hand .book) (a .s .paths) (at-second c) (a .e ∷ entries c) (vacants c) (k .arrays) (d .hand .taken ∷ k .queue)
-    × Kepts (d .hand .book) (k .arrays) (words c) (entries c) (k .queue)
+    let r = c .second .result in
+    CopiedTo (d .hand .book) (a .s .paths) (a .e) (d .hand .taken) k (a .t .crowded) (r .queued) (r .next) (r .crowded) (at-second c) (entries c) (vacants c) (words c)
 copied c o = c .second .ensures .1 .1 .0 (extract-seconding o)
 
 third-requires : tie.Need-third-requires

@@ -16,10 +16,11 @@ use Rattle.order.specs.Entries.{queueOf, Rising}
 use Rattle.order.proofs.Queues.{queue-first, queue-length}
 use Rattle.standing.specs.Seen.{Memory, memory}
 use Rattle.standing.specs.Standing.{Stands}
+use Rattle.standing.proofs.Taken.{taken-row}
 use Rattle.words.specs.Kept.{Kepts}
 use Rattle.steps.specs.Steps.{Forking, Copying}
 use Rattle.steps.proofs.Forks.{fork-apart}
-use Rattle.steps.proofs.Nexts.{next, copy-tabled, copy-row, copy-low, copy-id, copy-searchable, copy-cost, copy-found, copy-none, copy-fork, copy-done}
+use Rattle.steps.proofs.Nexts.{next, copy-tabled, copy-low, copy-id, copy-searchable, copy-cost, copy-found, copy-none, copy-fork, copy-done}
 use Rattle.steps.proofs.copies.copy.Statement.{statement}
 use Rattle.steps.proofs.copies.copy.Tie as tie
 
@@ -55,7 +56,7 @@ found-is : (c : tie.After-other-word) (b : ℕ) (o : Copy (start c) b) → c .ot
 unfolding memory
 found-is c b o =
     copy-found o
-    (c .other-word .ensures .1 (o .hand .book) b (o .hand .taken) (copy-tabled o) (o .own .fit .earlier) (copy-row o) (o .own .blocks))
+    (c .other-word .ensures .1 (o .hand .book) b (o .hand .taken) (copy-tabled o) (o .own .fit .earlier) (taken-row (o .hand .stands)) (o .own .blocks))
 
 -- what the test tells
 none-there : (c : tie.Then1) → c .before .before .other-word .result .some ≡ false
