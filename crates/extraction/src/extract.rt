@@ -24,7 +24,7 @@ use steps::Setting;
 use steps::Tally;
 use steps::copies::copy;
 use words::Block;
-use words::keep;
+use words::kept::keep;
 use words::nearest_words;
 use words::put;
 use words::score;

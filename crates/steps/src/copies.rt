@@ -21,7 +21,7 @@ use outer::Candidate;
 use sharing::holders::share;
 use views::view::claim;
 use words::Block;
-use words::forget;
+use words::kept::forget;
 use words::other_word;
 use words::put;
 use words::score;

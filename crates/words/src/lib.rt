@@ -1,8 +1,7 @@
 // The words of a path's block, found from what its row and the workspace hold; its score; and its row written.
 ghost use mathlib.Core.Path.{_≡_};
 ghost use mathlib.Core.Option.{some};
-ghost use Prim.Native.Nat.{ℕ, suc, _+_, _-_, _/_, _%_, _^_, _≤_, _<_};
-ghost use lib.Dec.{eqb};
+ghost use Prim.Native.Nat.{ℕ, suc, _+_, _^_, _≤_, _<_};
 ghost use lib.ListN.{length};
 ghost use lib.IntN.{pos, negℤ, _-ℤ_};
 ghost use Rattle.polar.specs.Layers.{part, Within};
@@ -17,13 +16,16 @@ ghost use Rattle.order.specs.Entries.{slotAt};
 ghost use Rattle.sharing.specs.Sharing.{idAt};
 ghost use Rattle.heights.specs.Workspace.{spot, Id};
 ghost use Rattle.standing.specs.Standing.{cell, Row, PutRow};
-ghost use Rattle.words.specs.Kept.{keptCell, keptAt, OneKept, Keeps};
+ghost use Rattle.words.specs.Kept.{Keeps};
+use crate::kept::recall;
 use heights::arrays::spot_of;
 use order::entries::slot_of;
 use outer::Candidate;
 use outer::Pair;
 use search::find::nearest_pair;
 use search::find::next_after;
+
+pub mod kept;
 
 // A block: its first index, its height, its bias, and the height where its word goes.
 pub struct Block {
@@ -146,67 +148,6 @@ pub fn next_word(
         sets,
         sums,
     )
-}
-
-// What cell 0 of a slot holds where this word is kept.
-fn mark(word: Candidate) -> u32
-    requires { ⌜ word .setting < 1073741824 ⌝ }
-    ensures { λ r. ⌜ (0 < r) × (eqb (r % 2) 0 ≡ word .some) × ((r - 1) / 2 ≡ word .setting) ⌝ }
-{
-    let twice = word.setting * 2;
-    if word.some { twice + 2 } else { twice + 1 }
-}
-
-// Keeps a word for the path in a slot.
-pub fn keep(kept: &mut [u32; 1024], slot: usize, word: Candidate)
-    requires { ⌜ (length (now kept) ≡ 1024) × (slot < 256) × (word .setting < 1073741824) ⌝ }
-    ensures { λ _. ⌜ OneKept slot (now (kept .entry)) (now (kept .exit)) × (keptAt (now (kept .exit)) slot ≡ word) ⌝ }
-{
-    let at = slot * 4;
-    let parities = word.parities;
-    let cost = word.cost;
-    let number = word.number;
-    kept[at] = mark(word);
-    kept[at + 1] = parities;
-    kept[at + 2] = cost;
-    kept[at + 3] = number;
-}
-
-// Keeps no word for the path in a slot.
-pub fn forget(kept: &mut [u32; 1024], slot: usize)
-    requires { ⌜ (length (now kept) ≡ 1024) × (slot < 256) ⌝ }
-    ensures { λ _. ⌜ OneKept slot (now (kept .entry)) (now (kept .exit)) × (keptCell (now (kept .exit)) slot 0 ≡ 0) ⌝ }
-{
-    kept[slot * 4] = 0;
-}
-
-// The word kept in a slot that keeps one.
-fn recall(kept: &[u32; 1024], slot: usize) -> Candidate
-    requires { ⌜ (length (now kept) ≡ 1024) × (slot < 256) × (0 < keptCell (now kept) slot 0) ⌝ }
-    ensures { λ r. ⌜ r ≡ keptAt (now (kept .entry)) slot ⌝ }
-{
-    let at = slot * 4;
-    let marked = kept[at];
-    let setting = (marked - 1) / 2;
-    let parities = kept[at + 1];
-    let cost = kept[at + 2];
-    let number = kept[at + 3];
-    if marked % 2 == 0 {
-        return Candidate {
-            some: true,
-            setting,
-            parities,
-            cost,
-            number,
-        };
-    }
-    Candidate {
-        some: false,
-        setting,
-        parities,
-        cost,
-        number,
-    }
 }
 
 // The next word of the last block of the path of entry e: the word kept in its slot, if one is, else by a search.

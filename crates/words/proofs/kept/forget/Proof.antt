@@ -1,4 +1,4 @@
--- `words::forget` meets its contract: one cell is written, the first of the slot. Assumes nothing.
+-- `words::kept::forget` meets its contract: one cell is written, the first of the slot. Assumes nothing.
 use mathlib.Core.Path.{_∙_}
 use Prim.Native.Nat.{_*_}
 use native.Mathlib.Omega.{arith}
@@ -6,8 +6,8 @@ use lib.ListN.{length-set}
 use lib.Seq.{getD-set-same, getD-set-other}
 use Rattle.words.proofs.Kepts.{first-cell, one-kept}
 use borrow.Author.Needs.{needs}
-use Rattle.words.proofs.forget.Statement.{statement}
-use Rattle.words.proofs.forget.Tie as tie
+use Rattle.words.proofs.kept.forget.Statement.{statement}
+use Rattle.words.proofs.kept.forget.Tie as tie
 
 mul-kept : tie.Need-mul-kept
 mul-kept c = search needs

@@ -1,4 +1,4 @@
--- `words::keep` meets its contract: the four stores are those of a list of four numbers, one after the other. Assumes nothing.
+-- `words::kept::keep` meets its contract: the four stores are those of a list of four numbers, one after the other. Assumes nothing.
 use mathlib.Core.Path.{refl, ap, _∙_}
 use mathlib.Core.List.{[], _∷_}
 use Prim.Native.Nat.{ℕ, _+_, _-_, _*_, _/_, _%_}
@@ -10,8 +10,8 @@ use Rattle.words.specs.Kept.{keptCell, keptAt}
 use Rattle.words.proofs.Cells.{store-next, store-read}
 use Rattle.words.proofs.Kepts.{one-kept}
 use borrow.Author.Needs.{needs}
-use Rattle.words.proofs.keep.Statement.{statement}
-use Rattle.words.proofs.keep.Tie as tie
+use Rattle.words.proofs.kept.keep.Statement.{statement}
+use Rattle.words.proofs.kept.keep.Tie as tie
 
 mul-at : tie.Need-mul-at
 mul-at c = search needs

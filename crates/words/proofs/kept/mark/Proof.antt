@@ -1,11 +1,11 @@
--- `words::mark` meets its contract: twice the setting and 1 or 2 more. Assumes nothing.
+-- `words::kept::mark` meets its contract: twice the setting and 1 or 2 more. Assumes nothing.
 use mathlib.Core.Path.{sym, _∙_}
 use Prim.Native.Nat.{_+_, _*_, _%_}
 use native.Mathlib.Omega.{arith}
 use borrow.Author.Tests.{eq-eqb, ne-eqb}
 use borrow.Author.Needs.{needs}
-use Rattle.words.proofs.mark.Statement.{statement}
-use Rattle.words.proofs.mark.Tie as tie
+use Rattle.words.proofs.kept.mark.Statement.{statement}
+use Rattle.words.proofs.kept.mark.Tie as tie
 
 mul-twice : tie.Need-mul-twice
 mul-twice c = search needs

@@ -1,4 +1,4 @@
--- `words::recall` meets its contract: the four cells of the slot, and what the first says. Assumes nothing.
+-- `words::kept::recall` meets its contract: the four cells of the slot, and what the first says. Assumes nothing.
 use mathlib.Core.Path.{sym, ap, _∙_}
 use Prim.Native.Nat.{_-_, _*_, _/_, _%_}
 use native.Mathlib.Omega.{arith}
@@ -8,8 +8,8 @@ use lib.ListN.{getD}
 use Rattle.words.specs.Kept.{keptCell, keptAt}
 use Rattle.words.proofs.Kepts.{first-cell}
 use borrow.Author.Needs.{needs}
-use Rattle.words.proofs.recall.Statement.{statement}
-use Rattle.words.proofs.recall.Tie as tie
+use Rattle.words.proofs.kept.recall.Statement.{statement}
+use Rattle.words.proofs.kept.recall.Tie as tie
 
 mul-at : tie.Need-mul-at
 mul-at c = search needs
