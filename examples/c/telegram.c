@@ -1,6 +1,7 @@
 /*
  * Decodes a telegram and shows its record: the hook call as a reader's firmware would make it, with every refusal told apart. Then the same
- * telegram with a lower limit (faint), with a value out of range, with a workspace one entry short, and with a limit out of range.
+ * telegram with a lower limit (faint), with a value out of range, with a workspace one entry short, with a limit out of range and with a book that is
+ * cut; and a word of the code whose data hold no record (unreadable).
  */
 #include <stdio.h>
 #include <string.h>
@@ -50,12 +51,12 @@ static const char *const meaning[] = {
 
 static const char *const status[] = {"passed", "held for laboratory", "held for veterinarian", "held for owner", "condemned"};
 
-static uint32_t decode(const int16_t *values, uint32_t limit, size_t numbers_len)
+static uint32_t decode(size_t book_len, const int16_t *values, uint32_t limit, size_t numbers_len)
 {
     uint32_t counts[4], record[4];
     const size_t walk_len = SADDLEMINT_WALK(VISITS, BLOCKS);
     const uint32_t answer =
-        saddlemint_decode_hook(book, sizeof book, VISITS, PATHS, limit, values, N, word, N, data, K, numbers, numbers_len, bytes,
+        saddlemint_decode_hook(book, book_len, VISITS, PATHS, limit, values, N, word, N, data, K, numbers, numbers_len, bytes,
                                sizeof bytes, walk[0], walk_len, walk[1], walk_len, walk[2], walk_len, counts, 4, record, 4);
     printf("answer %u, %s\n", (unsigned)answer, meaning[answer]);
     printf("  extractions %u, crowded out %u, outrun %u, discrepancy %u\n", (unsigned)counts[0], (unsigned)counts[1],
@@ -66,17 +67,31 @@ static uint32_t decode(const int16_t *values, uint32_t limit, size_t numbers_len
     return answer;
 }
 
+/* The values of a word received without noise, whose data have the status 7: there is no such status. */
+static void no_record(int16_t *values)
+{
+    uint8_t sent[N], bits[K] = {0};
+
+    bits[27] = bits[28] = bits[29] = 1;
+    saddlemint_encode(book, sizeof book, bits, K, sent, N);
+    for (int i = 0; i < N; i++)
+        values[i] = sent[i] ? -500 : 500;
+}
+
 int main(void)
 {
     const size_t enough = SADDLEMINT_NUMBERS(N, PATHS);
-    int16_t spoiled[N];
+    int16_t spoiled[N], unreadable[N];
 
     memcpy(spoiled, received, sizeof spoiled);
     spoiled[9] = 2048;
-    int as_wanted = decode(received, LIMIT, enough) == SADDLEMINT_DONE;
-    as_wanted &= decode(received, 100, enough) == SADDLEMINT_FAINT;
-    as_wanted &= decode(spoiled, LIMIT, enough) == SADDLEMINT_BAD_VALUE;
-    as_wanted &= decode(received, LIMIT, enough - 1) == SADDLEMINT_MISFIT;
-    as_wanted &= decode(received, 1048577, enough) == SADDLEMINT_BAD_SETTING;
+    no_record(unreadable);
+    int as_wanted = decode(sizeof book, received, LIMIT, enough) == SADDLEMINT_DONE;
+    as_wanted &= decode(sizeof book, received, 100, enough) == SADDLEMINT_FAINT;
+    as_wanted &= decode(sizeof book, spoiled, LIMIT, enough) == SADDLEMINT_BAD_VALUE;
+    as_wanted &= decode(sizeof book, received, LIMIT, enough - 1) == SADDLEMINT_MISFIT;
+    as_wanted &= decode(sizeof book, received, 1048577, enough) == SADDLEMINT_BAD_SETTING;
+    as_wanted &= decode(sizeof book - 1, received, LIMIT, enough) == SADDLEMINT_SHORT;
+    as_wanted &= decode(sizeof book, unreadable, LIMIT, enough) == SADDLEMINT_UNREADABLE;
     return !as_wanted;
 }

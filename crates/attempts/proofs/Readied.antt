@@ -30,7 +30,7 @@ use Rattle.checks.specs.declared.Checked.the-variants.{Good, Bad}
 use Rattle.checks.specs.Checks.{admittedAs}
 use Rattle.checks.proofs.Admitted.{admittedBy, admitted}
 use Rattle.checks.proofs.Fitting.{LengthsRight, settings-fit, lengthsOf, lengths-fit}
-use Rattle.reading.specs.Running.{Tables}
+use Rattle.reading.specs.Running.{InTables}
 use Rattle.extraction.proofs.Counts.{blocks-few}
 use Rattle.attempts.specs.Attempt.{Ready, fitsFor}
 use Rattle.attempts.proofs.Unbarred.{Free}
@@ -38,7 +38,7 @@ use Rattle.attempts.proofs.Unbarred.{Free}
 -- ---- the tables of a loaded book
 
 module _ (book : List ℕ) (B : Book) (e : load book ≡ loaded B) (old new : C.Tables) (f : Filled (load book) old new) where
-  pub load-read : Tables B (new .kinds) (new .terms) (new .heights) (new .starts) (new .biases)
+  pub load-read : InTables B (new .kinds) (new .terms) (new .heights) (new .starts) (new .biases)
   unfolding Filled overlaid tablesOf blockAt
   load-read =
       let g : new ≡ overlaid (tablesOf B) old = rw e at f in

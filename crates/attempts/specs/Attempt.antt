@@ -1,5 +1,5 @@
 -- What both decoding calls do before a word is handed out: the answer as far as refusal 10, what the run found, and the buffers with word and data as
--- they were. decoder/proofs/Handing shows that plainCall and hookCall are this, and a word handed out. Assumes nothing.
+-- they were. decoder/proofs/Handing (plain-handed, hook-handed) shows that plainCall and hookCall are this, and a word handed out. Assumes nothing.
 use mathlib.Core.Path.{_≡_}
 use mathlib.Core.Bool.{Bool, true, false, cond, not, _||_}
 use mathlib.Core.List.{List, []}
@@ -7,7 +7,7 @@ use mathlib.Core.Option.{Option, none, some}
 use Prim.Native.Nat.{ℕ, _^_, _≤_}
 use lib.ListN.{length}
 use lib.IntN.{ℤ}
-use lib.Dec.{leb, eqb}
+use lib.Dec.{leb}
 use Rattle.laws.specs.Lists.{All}
 use Rattle.polar.specs.Layers.{part, Within}
 use Rattle.codebook.specs.declared.Refusal.{Refusal}
@@ -19,16 +19,16 @@ use Rattle.codebook.specs.Book.{Book, freeCount}
 use Rattle.codebook.specs.Loading.{Load, refused, loaded, load}
 use Rattle.codec.specs.declared.RecordRead.{RecordRead}
 use Rattle.codec.specs.Record.{readRecord}
-use Rattle.codec.specs.Calls.{notRead, recordRead}
+use Rattle.codec.specs.Calls.{holds32, notRead, recordRead}
 use Rattle.machine.specs.declared.Decoded.{Decoded}
 use Rattle.machine.specs.Queue.{Final}
 use Rattle.machine.specs.Machine.{Run, runOf}
 use Rattle.machine.specs.Calls.{Input, Lent, barred, finalOf, countsOf, noCounts, afterRun, isDone}
-use Rattle.reading.specs.Running.{Tables}
+use Rattle.reading.specs.Running.{InTables}
 
--- what a call asks of k besides the lengths: a record needs k = 32
+-- what a call asks of k besides the lengths: the hook call asks that a record fits
 unfoldable pub fitsFor : Bool → Book → Bool
-fitsFor hook B = not hook || eqb (freeCount (B .kinds)) 32
+fitsFor hook B = not hook || holds32 B
 
 -- the answer as far as 10, the final word with its data, and the buffers
 pub record Attempted : Type 0 where
@@ -86,7 +86,7 @@ readAs (Refused r) bits = notRead r
 -- a loaded book, in tables and sizes, and values that fit it
 pub record Ready (x : Sizes) (values : List ℤ) (kinds terms heights starts : List ℕ) (biases : List ℤ) : Type 0 where
   pub book : Book
-  pub tables : Tables book kinds terms heights starts biases
+  pub tables : InTables book kinds terms heights starts biases
   pub deep : x .m ≡ book .m
   pub size : x .n ≡ 2 ^ (book .m)
   pub free : x .k ≡ freeCount (book .kinds)

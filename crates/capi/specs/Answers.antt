@@ -10,7 +10,7 @@ use lib.Dec.{eqb}
 use Rattle.codebook.specs.declared.Outcome.{Outcome}
 use Rattle.codebook.specs.declared.Outcome.the-variants.{Done, Refused}
 use Rattle.codebook.specs.declared.Refusal.the-variants.{Mismatch, BadValue}
-use Rattle.codebook.specs.Refusals.{number, outcomeNumber}
+use Rattle.codebook.specs.Refusals.{refusalNumber, outcomeNumber}
 use Rattle.codebook.specs.Loading.{Load, refused, loaded, load, shapeOf}
 use Rattle.codec.specs.declared.Status.{Status}
 use Rattle.codec.specs.declared.Status.the-variants.{Passed}
@@ -27,8 +27,8 @@ pub record Answer : Type 0 where
 
 -- the number where a slice is lent at a wrong length: the book's fault, else 7
 abbrev pub lengthMismatch : Outcome → ℕ
-lengthMismatch Done = number Mismatch
-lengthMismatch (Refused r) = number r
+lengthMismatch Done = refusalNumber Mismatch
+lengthMismatch (Refused r) = refusalNumber r
 
 -- load: the shape is n, k and V
 unfoldable pub loadAnswer : List ℕ → List ℕ → Answer
@@ -42,7 +42,7 @@ loadAnswer book shape =
 abbrev pub testedNumber : Tested → ℕ
 testedNumber InCode = 0
 testedNumber NotInCode = 255
-testedNumber (NotTested r) = number r
+testedNumber (NotTested r) = refusalNumber r
 
 -- make record, where the status is above 4: a field too large for its bits
 unfoldable pub noStatus : Load → List ℕ → Wrote

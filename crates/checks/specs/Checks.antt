@@ -1,5 +1,5 @@
 -- The checks of a decoding call, as functions of numbers: document 01, "Refusal table", 8, 7 and 9. machine/specs/Calls says the same of a call's input
--- and buffers; proofs/ shows the two alike. Assumes nothing.
+-- and buffers; proofs/Fitting shows the two alike (settings-fit, lengths-fit). Assumes nothing.
 use mathlib.Core.Bool.{Bool, cond, _&&_}
 use mathlib.Core.List.{List}
 use Prim.Native.Nat.{ℕ, _+_, _*_}

@@ -13,7 +13,7 @@ use Rattle.laws.proofs.Tests.{cond-case}
 use Rattle.codebook.specs.declared.Refusal.{Refusal}
 use Rattle.codebook.specs.declared.Command.{Command}
 use Rattle.codebook.specs.declared.Command.the-variants.{Length, Free, Zero, Tie, Term, Block as NextBlock, End}
-use Rattle.codebook.specs.Refusals.{number, unless}
+use Rattle.codebook.specs.Refusals.{refusalNumber, unless}
 use Rattle.codebook.specs.Loading.{Loading, Load, refused, loaded, start, width, command, fault, next, refusal, decided, loadFrom, load}
 
 -- what holds of each refusal in a chain of tests holds of the chain's
@@ -23,7 +23,7 @@ unless-may P true r o h k = k
 unless-may P false r o h k = h
 
 abbrev Low : Refusal → Type 0
-Low r = number r ≤ 6
+Low r = refusalNumber r ≤ 6
 
 fault-low : (s : Loading) (c : Command) → May Low (fault s c)
 unfolding fault May
@@ -60,6 +60,6 @@ from-low (suc fuel) s (byte ∷ after) =
     (λ _. cond-case LoadLow (eqb (length after) 0) (λ _. tt) (λ _. omega arith))
     (λ _. from-low fuel (next s (command byte (take (width byte) after))) (drop (width byte) after)))
 
-pub load-refuses : (bytes : List ℕ) (r : Refusal) → load bytes ≡ refused r → number r ≤ 6
+pub load-refuses : (bytes : List ℕ) (r : Refusal) → load bytes ≡ refused r → refusalNumber r ≤ 6
 unfolding load LoadLow
 load-refuses bytes r e = subst LoadLow e (from-low (length bytes) start bytes)

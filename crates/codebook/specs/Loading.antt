@@ -81,8 +81,8 @@ member x (y ∷ ys) = eqb x y || member x ys
 
 -- ---- refusals
 
--- Whether a listed command byte may stand here. The length comes first, once. Index commands come until all n indices are filled, a term
--- only directly after a tie or a term; then block commands until the blocks reach n; then the end.
+-- Whether a listed command byte may stand here. The length comes first, once: before it n counts as 0, so that nothing else may stand. Index commands
+-- come until all n indices are filled, a term only directly after a tie or a term; then block commands until the blocks reach n; then the end.
 unfoldable pub placed : Loading → ℕ → Bool
 placed s byte =
     let begun = not (eqb (s .m) 0) in
@@ -95,7 +95,7 @@ placed s byte =
     (begun && reached))))
 
 -- Why a command that may stand here, with all its operands, is refused: 4, then 5, then 6. A count is above 0 and goes no further
--- than n; a tie names an earlier index, a term one that the tie does not name yet; at most 32 indices are tied; a block has j at most 5,
+-- than n; a tie names an earlier index; a term one before the tied index, which is the last so far, that the tie does not name yet; at most 32 indices are tied; a block has j at most 5,
 -- starts at a multiple of its length, goes no further than n, has a bias in range and at most 8 free indices.
 unfoldable pub fault : Loading → Command → Option Refusal
 fault s (Length m) = unless (leb 2 m && leb m 9) OutOfRange none

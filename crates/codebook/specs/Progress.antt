@@ -127,9 +127,9 @@ Obeys p c whole t u x =
     (old : Tables) (s : Loading) → HoldsLoaded p t old s → Judged (verdict s c whole) (isEnd c) (λ q. HoldsLoaded q u old (next s c)) x
 
 -- the command of a run of indices with this code, 0 free or 1 zero
-unfoldable pub runOf : ℕ → ℕ → Command
-runOf zero count = Free count
-runOf (suc code) count = Zero count
+unfoldable pub runCommand : ℕ → ℕ → Command
+runCommand zero count = Free count
+runCommand (suc code) count = Zero count
 
 -- whether a block may start at this index of n, with its bias in range
 unfoldable pub blockFits : ℕ → ℕ → ℕ → ℤ → Bool

@@ -9,18 +9,18 @@ use Rattle.codebook.specs.declared.Outcome.{Outcome}
 use Rattle.codebook.specs.declared.Outcome.the-variants.{Done, Refused}
 
 -- a refusal's number
-abbrev pub number : Refusal → ℕ
-number Truncated = 1
-number Unknown = 2
-number Misplaced = 3
-number OutOfRange = 4
-number TooManyTied = 5
-number TooManyFree = 6
-number Mismatch = 7
-number BadSetting = 8
-number BadValue = 9
-number AboveLimit = 10
-number Unreadable = 11
+abbrev pub refusalNumber : Refusal → ℕ
+refusalNumber Truncated = 1
+refusalNumber Unknown = 2
+refusalNumber Misplaced = 3
+refusalNumber OutOfRange = 4
+refusalNumber TooManyTied = 5
+refusalNumber TooManyFree = 6
+refusalNumber Mismatch = 7
+refusalNumber BadSetting = 8
+refusalNumber BadValue = 9
+refusalNumber AboveLimit = 10
+refusalNumber Unreadable = 11
 
 -- the trade's word for it
 unfoldable pub word : Refusal → String
@@ -39,7 +39,7 @@ word Unreadable = "unreadable"
 -- an outcome's number: 0, or the refusal's
 abbrev pub outcomeNumber : Outcome → ℕ
 outcomeNumber Done = 0
-outcomeNumber (Refused r) = number r
+outcomeNumber (Refused r) = refusalNumber r
 
 -- refusal r where the test fails, else what comes after it
 unfoldable pub unless : Bool → Refusal → Option Refusal → Option Refusal

@@ -2,11 +2,11 @@
 use crate::Outcome;
 use crate::Refusal;
 ghost use mathlib.Core.Path.{_≡_};
-ghost use Rattle.codebook.specs.Refusals.{number, outcomeNumber};
+ghost use Rattle.codebook.specs.Refusals.{refusalNumber, outcomeNumber};
 
 // A refusal's number.
 pub fn refusal_number(r: Refusal) -> u32
-    ensures { λ x. ⌜ x ≡ number r ⌝ }
+    ensures { λ x. ⌜ x ≡ refusalNumber r ⌝ }
 {
     match r {
         Refusal::Truncated => 1,

@@ -31,8 +31,12 @@ wordFits B c = eqb (length c) (2 ^ (B .m))
 unfoldable pub dataFits : Book → List ℕ → Bool
 dataFits B ds = eqb (length ds) (freeCount (B .kinds))
 
+-- a record needs k = 32
+abbrev pub holds32 : Book → Bool
+holds32 B = eqb (freeCount (B .kinds)) 32
+
 unfoldable pub holdsRecord : Book → List ℕ → Bool
-holdsRecord B ds = eqb (freeCount (B .kinds)) 32 && dataFits B ds
+holdsRecord B ds = holds32 B && dataFits B ds
 
 -- a call that writes one buffer: its outcome, and what the buffer then holds
 pub record Wrote : Type 0 where

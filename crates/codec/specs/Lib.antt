@@ -1,5 +1,5 @@
 pub mod Code
-pub mod Ties
 pub mod Record
 pub mod Calls
+pub mod Ties
 pub mod Tabled

@@ -38,6 +38,7 @@ pub record Agreed (B : Book) (c : Input) (l : Lent) (counts : Counts) (after : L
   pub blocks : after .walkBlocks ≡ walked (λ (s : Step). pos (s .blocks)) (readerRun B c l .steps) (l .walkBlocks)
   pub scores : after .walkScore ≡ walked (λ (s : Step). s .score) (readerRun B c l .steps) (l .walkScore)
 
--- so it is of every call that makes a run: its book loads, and nothing bars it; fits is what the call asks of the book besides
+-- so it is of every call that makes a run: its book loads, and nothing bars it; fits is what the call asks of the book besides: fitsFor false of the plain
+-- call, fitsFor true of the hook call (attempts/specs/Attempt)
 unfoldable pub WholeRun : (Book → Bool) → Input → Lent → Counts → Lent → Type 0
 WholeRun fits c l counts after = (B : Book) → load (c .book) ≡ loaded B → barred B c l (fits B) ≡ none → Agreed B c l counts after

@@ -22,7 +22,7 @@ use Rattle.codebook.specs.declared.Step.the-variants.{Next, End as Ended, Refus
 use Rattle.codebook.specs.Refusals.{unless}
 use Rattle.codebook.specs.Book.{freeCount}
 use Rattle.codebook.specs.Loading.{Loading, total, lastTerms, member, placed, fault, grown, next}
-use Rattle.codebook.specs.Progress.{byteOf, isEnd, verdict, CountsLoaded, Goes, Judged, runOf, blockFits, kindOf}
+use Rattle.codebook.specs.Progress.{byteOf, isEnd, verdict, CountsLoaded, Goes, Judged, runCommand, blockFits, kindOf}
 use Rattle.codebook.proofs.Command.{the-type}
 
 -- ---- steps
@@ -67,8 +67,8 @@ fits-facts start n j bias e =
     (leb→le j 5 (and-left short aligned (and-left (short && aligned) within t)), leb→le (start + 2 ^ j) n (and-right (short && aligned) within t))
 
 -- a run is not the end, and puts its kinds last
-pub run-goes : (s : Loading) (code count : ℕ) → isEnd (runOf code count) ≡ false × next s (runOf code count) ≡ grown s (replicate count (kindOf code))
-unfolding isEnd byteOf next runOf kindOf
+pub run-goes : (s : Loading) (code count : ℕ) → isEnd (runCommand code count) ≡ false × next s (runCommand code count) ≡ grown s (replicate count (kindOf code))
+unfolding isEnd byteOf next runCommand kindOf
 run-goes s zero count = (refl, refl)
 run-goes s (suc code) count = (refl, refl)
 
@@ -167,8 +167,8 @@ module _ (p : Progress) (s : Loading) (c : CountsLoaded p s) where
     unfolding verdict unless byteOf isEnd placed
     length-stands e m = rw (eq-eqb (s .m) 0 (sym (c .m) ∙ e))
 
-    pub run-stands : p .filled < p .n → (code count : ℕ) → verdict s (runOf code count) whole ≡ unless whole Truncated (fault s (Free count))
-    unfolding verdict unless byteOf isEnd placed fault runOf
+    pub run-stands : p .filled < p .n → (code count : ℕ) → verdict s (runCommand code count) whole ≡ unless whole Truncated (fault s (Free count))
+    unfolding verdict unless byteOf isEnd placed fault runCommand
     run-stands l zero count = rw (open-indices l)
     run-stands l (suc code) count = rw (open-indices l)
 

@@ -15,7 +15,7 @@ ghost use Prim.Native.Nat.{ℕ, _<_, _≤_};
 ghost use lib.IntN.{natAbs};
 ghost use lib.Dec.{leb};
 ghost use Rattle.codebook.specs.Tables.{Tables};
-ghost use Rattle.codebook.specs.Progress.{byteOf, Safe, Obeys, runOf, blockFits, tables, withIndices};
+ghost use Rattle.codebook.specs.Progress.{byteOf, Safe, Obeys, runCommand, blockFits, tables, withIndices};
 
 // The first command: the length.
 fn begin(c: Command, whole: bool, p: Progress, terms: &mut [u32; 512]) -> Step
@@ -52,7 +52,7 @@ fn begin(c: Command, whole: bool, p: Progress, terms: &mut [u32; 512]) -> Step
 fn run(p: Progress, whole: bool, count: u32, code: u8, kinds: &mut [u8; 512]) -> Step
     requires { ⌜ Safe p ⌝ }
     requires { ⌜ (p .filled < p .n) × (code < 2) ⌝ }
-    ensures { λ r. ⌜ ((t : Tables) → Obeys p (runOf code count) whole (withIndices t (now (kinds .entry)) (t .terms)) (withIndices t (now (kinds .exit)) (t .terms)) r) ⌝ }
+    ensures { λ r. ⌜ ((t : Tables) → Obeys p (runCommand code count) whole (withIndices t (now (kinds .entry)) (t .terms)) (withIndices t (now (kinds .exit)) (t .terms)) r) ⌝ }
 {
     if !whole {
         return Step::Refused(Refusal::Truncated);

@@ -15,12 +15,12 @@ use Rattle.codebook.specs.declared.Refusal.the-variants.{Mismatch, BadSetting, 
 use Rattle.codebook.specs.declared.Outcome.{Outcome}
 use Rattle.codebook.specs.declared.Outcome.the-variants.{Done, Refused}
 use Rattle.codebook.specs.Refusals.{unless}
-use Rattle.codebook.specs.Book.{Book, freeCount}
+use Rattle.codebook.specs.Book.{Book}
 use Rattle.codebook.specs.Loading.{Load, refused, loaded, load}
 use Rattle.codec.specs.declared.RecordRead.{RecordRead}
 use Rattle.codec.specs.Code.{freeBits}
 use Rattle.codec.specs.Record.{noRecord, readRecord}
-use Rattle.codec.specs.Calls.{wordFits, dataFits, notRead, recordRead}
+use Rattle.codec.specs.Calls.{wordFits, dataFits, holds32, notRead, recordRead}
 use Rattle.machine.specs.declared.Counts.{Counts}
 use Rattle.machine.specs.declared.Decoded.{Decoded}
 use Rattle.machine.specs.declared.HookDecoded.{HookDecoded}
@@ -186,10 +186,9 @@ unfoldable pub hookChecked : Book → Input → Lent → Option Refusal → Call
 hookChecked B c l (some r) = hookRefused r l
 hookChecked B c l none = hookRan B c l (runOf B (c .L) (c .D) (c .values))
 
--- a record needs k = 32
 unfoldable pub hookWith : Load → Input → Lent → Called HookDecoded
 hookWith (refused r) c l = hookRefused r l
-hookWith (loaded B) c l = hookChecked B c l (barred B c l (eqb (freeCount (B .kinds)) 32))
+hookWith (loaded B) c l = hookChecked B c l (barred B c l (holds32 B))
 
 unfoldable pub hookCall : Input → Lent → Called HookDecoded
 hookCall c l = hookWith (load (c .book)) c l

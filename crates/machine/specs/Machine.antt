@@ -54,12 +54,12 @@ pub record Cut : Type 0 where
   pub next : ℕ
   pub crowded : List ℕ
 
--- where there is no next word nothing is crowded out
+-- step 2: of the queue qs, D - 2 paths are left, the others are crowded out, and the copy is queued; without a next word nothing is crowded out
 unfoldable pub cut : ℕ → List Path → ℕ → Option Path → Cut
 cut D qs n none = record { queue = qs; next = n; crowded = [] }
 cut D qs n (some copy) = record { queue = insert keyOf copy (roomFor D qs); next = suc n; crowded = numbers keyOf (crowdedOut D qs) }
 
--- step 3: the path with the nearest word of its next block
+-- step 3 enters block b: the path with its nearest word; there always is one (runs/proofs/Steps, nearest-found)
 unfoldable pub advanceWith : Book → List ℤ → Path → Option Ranked → Path
 advanceWith B ys p none = p
 advanceWith B ys p (some x) = path B ys (p .number) (suc (p .blocks)) (x .bits)

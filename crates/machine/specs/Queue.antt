@@ -61,7 +61,7 @@ module _ {A : Type 0} where
 unfoldable pub visit : List ℕ → ℕ → List ℕ
 visit visits b = set visits b (suc (getD visits b 0))
 
--- one extraction: the path taken, its blocks and its score, and the numbers crowded out and outrun
+-- one extraction (steps 1 to 4): the path taken, its blocks and its score, which make the walk's entry, and the numbers crowded out and outrun
 pub record Step : Type 0 where
   pub path : ℕ
   pub blocks : ℕ
@@ -69,7 +69,7 @@ pub record Step : Type 0 where
   pub crowded : List ℕ
   pub outrun : List ℕ
 
--- what a run comes to: the final word, its data and its discrepancy
+-- what a run comes to: the final word, its data (bits) and its discrepancy
 pub record Final : Type 0 where
   pub word : List ℕ
   pub bits : List ℕ

@@ -27,7 +27,7 @@ unfoldable pub penalties : ℕ → List ℤ → List ℕ → ℕ → ℕ → ℤ
 penalties m ys u i zero = pos 0
 penalties m ys u i (suc n) = penalties m ys u i n +ℤ penalty (getD u (i + n) 0) (value m ys u (i + n))
 
--- the costs of n bits of u from bit i on: their penalties with the other sign
+-- the costs of n bits of u from bit i on: their penalties with the other sign (proofs/Value, penalties-costs)
 unfoldable pub costs : ℕ → List ℤ → List ℕ → ℕ → ℕ → ℕ
 costs m ys u i zero = 0
 costs m ys u i (suc n) = costs m ys u i n + cost (getD u (i + n) 0) (value m ys u (i + n))

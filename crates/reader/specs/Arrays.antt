@@ -97,7 +97,7 @@ descend others (suc d) (suc m) t v =
     let t′ = rest m t in
     descend others d m t′ (cond (eqb t′ 0) (putVals others m (child m t (sumsOf v m) (valsOf v (suc m))) v) v)
 
--- one height of that way, height h from the one above: by Q where a first half starts, by P with the word in the sums of height h where a last one does
+-- one height of that way, as views/src/view.rt goes it, height h from the one above: by Q where a first half starts, by P with the word in the sums of height h where a last one does
 abbrev pub byQ : List (ℕ → ℕ) → ℕ → View → View
 byQ others h v = putVals others h (Qs (take (2 ^ h) (valsOf v (suc h))) (drop (2 ^ h) (valsOf v (suc h)))) v
 

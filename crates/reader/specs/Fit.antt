@@ -1,5 +1,5 @@
 -- What the next extraction of a queued path relies on, in the reader's own terms: arrays where it will look, values within range, sums of bits.
--- Nothing here says what the values mean; that is for the whole-run theorem. Assumes nothing.
+-- Nothing here says what the values mean; that is for specs/Reached and proofs/Agree. Assumes nothing.
 use mathlib.Core.Path.{_≡_}
 use Prim.Native.Nat.{ℕ, zero, suc, _+_, _≤_, _<_}
 use lib.ListN.{length}

@@ -1,5 +1,5 @@
 pub mod Arrays
 pub mod Paths
 pub mod Reader
-pub mod Fit
 pub mod Reached
+pub mod Fit

@@ -31,8 +31,8 @@ Sums (suc m) u t C = (2 ^ m ≤ t → C m ≡ first m u) × Sums m (restBits m t
 
 -- ---- what is true of a queued path
 
--- the path p, whose last block is b, has the bits u, and v is what it sees: the values of the way to its block, but where the block's word
--- will go; and the block's own
+-- The path p, whose last block is b, has the bits u, and v is what it sees. way k is the values of the node of height k on the way from the root to
+-- the block; p sees them at every height but the one where the block's word will go (same), and at the block's own height always (own).
 pub record Good (B : Book) (ys : List ℤ) (v : View) (u : List ℕ) (p : Path) (b : ℕ) : Type 0 where
   pub within : b < length (B .blocks)
   pub size : length u ≡ startOf (B .blocks) b + 2 ^ (blockAt B b .j)
@@ -79,8 +79,10 @@ pub record Rooted (B : Book) (p : Path) : Type 0 where
   pub root : 1 ≤ p .ids (B .m)
   pub has : (b : ℕ) → p .blocks ≡ suc b → (h : ℕ) → blockAt B b .j ≤ h → h ≤ B .m → 1 ≤ p .ids h
 
--- ---- what is true of the queue: machine is the queue of the machine that it stands for
+-- ---- what is true of the queue
 
+-- the queue ps stands, path by path, for the queue `machine` of the machine; every path has the arrays that it will look at; there are at most D paths,
+-- and no id is above D
 pub record Reached (B : Book) (ys : List ℤ) (D : ℕ) (A : Arrays) (ps : List Path) : Type 0 where
   pub machine : List M.Path
   pub stands : Paired (StandsFor B ys A) machine ps

@@ -32,7 +32,7 @@ use Rattle.steps.specs.declared.Setting.{Setting}
 use Rattle.steps.specs.declared.Tally.{Tally}
 use Rattle.steps.specs.Steps.{BlockIs, committed}
 use Rattle.reading.specs.declared.Ran.{Ran}
-use Rattle.start.specs.Start.{firstHeld, Tables}
+use Rattle.start.specs.Start.{firstHeld, InTables}
 use Rattle.reading.specs.Running.{arraysOf, Running, RanIs}
 use Rattle.extraction.specs.Extraction.{Extracting}
 use Rattle.reading.specs.Ending.{Ending}
@@ -45,7 +45,7 @@ use Rattle.reading.proofs.Going.{Going, going-first, going-blocks, goin
 -- r is block b of any book in these tables that has it
 abbrev pub ReadAt : List ℕ → List ℕ → List ℤ → ℕ → Block → Type 0
 ReadAt heights starts biases b r =
-    (B : Book) (kinds terms : List ℕ) → Valid B → Tables B kinds terms heights starts biases → b < length (B .blocks) → BlockIs B b r
+    (B : Book) (kinds terms : List ℕ) → Valid B → InTables B kinds terms heights starts biases → b < length (B .blocks) → BlockIs B b r
 
 -- the first path's key
 first-key : (B : Book) (e : ℕ) → Packed e (record { score = pos 0; blocks = 0; number = 0 }) 0 → Packed e (keyOf B (firstPath B)) 0

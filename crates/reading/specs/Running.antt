@@ -13,7 +13,7 @@ use Rattle.reader.specs.Arrays.{Arrays}
 use Rattle.reader.specs.Reader.{Run}
 use Rattle.heights.specs.Workspace.{spot, Id}
 use Rattle.steps.specs.declared.Setting.{Setting}
-pub use Rattle.start.specs.Start.{Tables}
+pub use Rattle.start.specs.Start.{InTables}
 use Rattle.reading.specs.declared.Ran.{Ran}
 
 -- the arrays that a workspace holds
@@ -28,7 +28,7 @@ received m values numbers = overAt (spot m 1 m) values numbers
 -- a run's input: a book in tables, its shape, and received values within range
 pub record Running (s : Setting) (values : List ℤ) (kinds terms heights starts : List ℕ) (biases : List ℤ) : Type 0 where
   pub book : Book
-  pub tables : Tables book kinds terms heights starts biases
+  pub tables : InTables book kinds terms heights starts biases
   pub deep : book .m ≡ s .m
   pub blocks : length (book .blocks) ≡ s .blocks
   pub size : length values ≡ 2 ^ (s .m)

@@ -16,7 +16,7 @@ use Rattle.codebook.specs.declared.Refusal.{Refusal}
 use Rattle.codebook.specs.declared.Refusal.the-variants.{AboveLimit, Unreadable}
 use Rattle.codebook.specs.declared.Outcome.{Outcome}
 use Rattle.codebook.specs.declared.Outcome.the-variants.{Done, Refused}
-use Rattle.codebook.specs.Refusals.{number, outcomeNumber, unless}
+use Rattle.codebook.specs.Refusals.{refusalNumber, outcomeNumber, unless}
 use Rattle.codebook.specs.Book.{Book}
 use Rattle.codebook.specs.Loading.{Load, refused, loaded, load}
 use Rattle.codebook.proofs.Loaded.{loaded-valid}
@@ -24,7 +24,7 @@ use Rattle.codebook.proofs.Refused.{unless-may, load-refuses}
 use Rattle.codec.specs.declared.HookRecord.{HookRecord}
 use Rattle.codec.specs.declared.RecordRead.{RecordRead}
 use Rattle.codec.specs.Record.{readRecord}
-use Rattle.codec.specs.Calls.{notRead, recordRead}
+use Rattle.codec.specs.Calls.{holds32, notRead, recordRead}
 use Rattle.machine.specs.declared.Decoded.{Decoded}
 use Rattle.machine.specs.declared.HookDecoded.{HookDecoded}
 use Rattle.machine.specs.Queue.{Step}
@@ -32,7 +32,7 @@ use Rattle.machine.specs.Machine.{runOf}
 use Rattle.machine.specs.Calls.{Input, Lent, Called, settingsOk, lentOk, valuesOk, barred, countsOf, afterRun, isDone}
 use Rattle.machine.specs.Calls.{plainRan, plainRefused, plainChecked, plainWith, plainCall}
 use Rattle.machine.specs.Calls.{hookOf, hookRan, hookRefused, hookChecked, hookWith, hookCall}
-use Rattle.runs.specs.Handed.{Made, finalWord, holds32, HandedOut, Withheld, PlainHanded, HookHanded}
+use Rattle.runs.specs.Handed.{Made, finalWord, HandedOut, Withheld, PlainHanded, HookHanded}
 use Rattle.runs.proofs.Final.{run-exact}
 
 -- ---- what bars a call
@@ -51,10 +51,10 @@ first-holds true x f t = tt
 first-holds false x f t = subst T (f refl) t
 
 -- what bars a call is 7, 8 or 9
-barred-low : (B : Book) (c : Input) (l : Lent) (fits : Bool) (r : Refusal) → barred B c l fits ≡ some r → number r ≤ 9
+barred-low : (B : Book) (c : Input) (l : Lent) (fits : Bool) (r : Refusal) → barred B c l fits ≡ some r → refusalNumber r ≤ 9
 unfolding barred May
 barred-low B c l fits r e =
-    let P : Refusal → Type 0 = λ r. number r ≤ 9 in
+    let P : Refusal → Type 0 = λ r. refusalNumber r ≤ 9 in
     subst (May P) e (unless-may P _ _ _ (omega arith) (unless-may P _ _ _ (omega arith) (unless-may P _ _ _ (omega arith) tt)))
 
 -- ---- which calls make a run
@@ -62,7 +62,7 @@ barred-low B c l fits r e =
 -- no refusal with 1 to 9
 unfoldable Late : Outcome → Type 0
 Late Done = Unit {0}
-Late (Refused r) = 9 < number r
+Late (Refused r) = 9 < refusalNumber r
 
 module _ (c : Input) (l : Lent) where
   plain-makes : Late (plainCall c l .answer .outcome) → (B : Book) × Made true c l B

@@ -7,13 +7,13 @@ use mathlib.Core.Logic.{_↔_}
 use mathlib.Core.Option.{none, some}
 use Prim.Native.Nat.{_^_, _≤_, _<_}
 use lib.ListN.{length}
-use lib.Dec.{T, eqb}
+use lib.Dec.{T}
 use Rattle.laws.specs.Lists.{All}
 use Rattle.polar.specs.Bits.{Bit}
 use Rattle.polar.specs.Soft.{discrepancy}
 use Rattle.codebook.specs.declared.Refusal.the-variants.{AboveLimit, Unreadable}
 use Rattle.codebook.specs.declared.Outcome.the-variants.{Done, Refused}
-use Rattle.codebook.specs.Book.{Book, freeCount}
+use Rattle.codebook.specs.Book.{Book}
 use Rattle.codebook.specs.Loading.{loaded, load}
 use Rattle.codec.specs.declared.HookRecord.{HookRecord}
 use Rattle.codec.specs.Code.{inCode, readData}
@@ -23,6 +23,7 @@ use Rattle.machine.specs.declared.Decoded.{Decoded}
 use Rattle.machine.specs.declared.HookDecoded.{HookDecoded}
 use Rattle.machine.specs.Queue.{Final}
 use Rattle.machine.specs.Machine.{runOf}
+use Rattle.codec.specs.Calls.{holds32}
 use Rattle.machine.specs.Calls.{Input, Lent, barred, finalOf}
 
 -- ---- the run of a call
@@ -37,10 +38,6 @@ pub record Made (fits : Bool) (c : Input) (l : Lent) (B : Book) : Type 0 where
 -- the machine's final word, with its data and its discrepancy
 unfoldable pub finalWord : Book → Input → Final
 finalWord B c = finalOf B (c .values) (runOf B (c .L) (c .D) (c .values) .final)
-
--- whether a book's data can hold a record
-abbrev pub holds32 : Book → Bool
-holds32 B = eqb (freeCount (B .kinds)) 32
 
 -- ---- after a run
 

@@ -11,7 +11,7 @@ use lib.IntN.{ℤ}
 use borrow.Author.Tests.{eq-eqb, ne-eqb}
 use Rattle.codebook.specs.declared.Refusal.{Refusal}
 use Rattle.codebook.specs.declared.Refusal.the-variants.{Mismatch, BadSetting}
-use Rattle.codebook.specs.Refusals.{number, outcomeNumber}
+use Rattle.codebook.specs.Refusals.{refusalNumber, outcomeNumber}
 use Rattle.codebook.specs.Book.{Book}
 use Rattle.codebook.specs.Loading.{Load, load, refused, loaded}
 use Rattle.machine.specs.Calls.{Input, Lent, settingsOk, plainCall, hookCall}
@@ -42,14 +42,14 @@ fourth xs a b c e = omega (arith, e, length-set (set (set xs 0 a) 1 b) 2 c, leng
 -- ---- the number of a mismatch
 
 module _ (c : Input) where
-  pub mismatch-book : (r : Refusal) → load (c .book) ≡ refused r → number r ≡ mismatchNumber c
+  pub mismatch-book : (r : Refusal) → load (c .book) ≡ refused r → refusalNumber r ≡ mismatchNumber c
   unfolding mismatchNumber mismatchWith
   mismatch-book r e = sym (ap (λ x. mismatchWith x c) e)
 
   module _ (B : Book) (e : load (c .book) ≡ loaded B) where
-    by-settings : {s : Bool} → settingsOk c ≡ s → cond s (number Mismatch) (number BadSetting) ≡ mismatchNumber c
+    by-settings : {s : Bool} → settingsOk c ≡ s → cond s (refusalNumber Mismatch) (refusalNumber BadSetting) ≡ mismatchNumber c
     unfolding mismatchNumber mismatchWith
-    by-settings p = sym (ap (λ x. mismatchWith x c) e ∙ ap (λ (t : Bool). cond t (number Mismatch) (number BadSetting)) p)
+    by-settings p = sym (ap (λ x. mismatchWith x c) e ∙ ap (λ (t : Bool). cond t (refusalNumber Mismatch) (refusalNumber BadSetting)) p)
 
     pub mismatch-setting : settingsOk c ≡ false → 8 ≡ mismatchNumber c
     mismatch-setting p = by-settings p

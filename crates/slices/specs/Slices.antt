@@ -6,7 +6,7 @@ use Prim.Native.Nat.{ℕ}
 use lib.ListN.{length}
 use lib.Dec.{eqb}
 use Rattle.codebook.specs.declared.Refusal.the-variants.{Mismatch, BadSetting}
-use Rattle.codebook.specs.Refusals.{number, outcomeNumber}
+use Rattle.codebook.specs.Refusals.{refusalNumber, outcomeNumber}
 use Rattle.codebook.specs.Loading.{Load, refused, loaded, load}
 use Rattle.codec.specs.declared.HookRecord.{HookRecord}
 use Rattle.codec.specs.Record.{statusNumber}
@@ -23,8 +23,8 @@ recordSlice h = h .plant ∷ h .carcass ∷ h .side ∷ statusNumber (h .status)
 
 -- the number where counts or record have a wrong length, by what loading comes to: the book's fault, then 8, then 7
 unfoldable pub mismatchWith : Load → Input → ℕ
-mismatchWith (refused r) c = number r
-mismatchWith (loaded B) c = cond (settingsOk c) (number Mismatch) (number BadSetting)
+mismatchWith (refused r) c = refusalNumber r
+mismatchWith (loaded B) c = cond (settingsOk c) (refusalNumber Mismatch) (refusalNumber BadSetting)
 
 -- that number of a call
 unfoldable pub mismatchNumber : Input → ℕ

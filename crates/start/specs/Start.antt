@@ -15,7 +15,7 @@ unfoldable pub firstHeld : ℕ → ℕ → ℕ → ℕ
 firstHeld m h i = cond (eqb h m) (one 1 i) (cond (ltb h m) (one 0 i) 0)
 
 -- the tables are the book's: those of kinds and terms, and those of the blocks' heights, starts and biases
-pub record Tables (B : Book) (kinds terms heights starts : List ℕ) (biases : List ℤ) : Type 0 where
+pub record InTables (B : Book) (kinds terms heights starts : List ℕ) (biases : List ℤ) : Type 0 where
   pub booked : Booked B kinds terms
   pub height : (b : ℕ) → b < length (B .blocks) → getD heights b 0 ≡ blockAt B b .j
   pub start : (b : ℕ) → b < length (B .blocks) → getD starts b 0 ≡ startOf (B .blocks) b

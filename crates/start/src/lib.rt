@@ -12,7 +12,7 @@ ghost use Rattle.reader.specs.Arrays.{turn};
 ghost use Rattle.sharing.specs.Sharing.{heldAt, Held};
 ghost use Rattle.order.specs.Entries.{keyAt};
 ghost use Rattle.steps.specs.Steps.{BlockIs};
-ghost use Rattle.start.specs.Start.{firstHeld, Tables};
+ghost use Rattle.start.specs.Start.{firstHeld, InTables};
 use heights::arrays::power;
 use order::entries::blocks_of;
 use order::entries::number_of;
@@ -70,7 +70,7 @@ fn twos(t: usize) -> usize
 pub fn block_at(heights: &[u8; 512], starts: &[u16; 512], biases: &[i32; 512], b: usize) -> Block
     requires { ⌜ (length (now heights) ≡ 512) × (length (now starts) ≡ 512) × (length (now biases) ≡ 512) × (b < 512) ⌝ }
     requires { ⌜ (getD (now heights) b 0 ≤ 5) × (getD (now starts) b 0 + 2 ^ getD (now heights) b 0 ≤ 512) ⌝ }
-    ensures { λ r. ⌜ ((B : Book) (kinds terms : List ℕ) → Valid B → Tables B kinds terms (now (heights .entry)) (now (starts .entry)) (now (biases .entry)) → b < length (B .blocks) → BlockIs B b r) ⌝ }
+    ensures { λ r. ⌜ ((B : Book) (kinds terms : List ℕ) → Valid B → InTables B kinds terms (now (heights .entry)) (now (starts .entry)) (now (biases .entry)) → b < length (B .blocks) → BlockIs B b r) ⌝ }
 {
     let start = starts[b] as usize;
     let height = heights[b] as usize;

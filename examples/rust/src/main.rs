@@ -5,6 +5,8 @@
 use std::fmt;
 
 extern "C" {
+    fn saddlemint_load(book: *const u8, book_len: usize, shape: *mut u32, shape_len: usize) -> u32;
+    fn saddlemint_encode(book: *const u8, book_len: usize, data: *const u8, data_len: usize, word: *mut u8, word_len: usize) -> u32;
     fn saddlemint_decode_hook(
         book: *const u8, book_len: usize,
         visits: u32, paths: u32, limit: u32,
@@ -78,7 +80,19 @@ impl fmt::Display for Record {
     }
 }
 
-/// A decoder with its workspace, for one book, n and number of blocks.
+/// The refusal of an answer other than 0.
+fn refusal(answer: u32) -> Refusal {
+    match answer {
+        7 => Refusal::Misfit,
+        8 => Refusal::BadSetting,
+        9 => Refusal::BadValue,
+        10 => Refusal::Faint,
+        11 => Refusal::Unreadable,
+        number => Refusal::Book(number),
+    }
+}
+
+/// A decoder with its workspace, for one book; and the counts of its last call: extractions, crowded out, outrun, discrepancy.
 struct Decoder<'a> {
     book: &'a [u8],
     visits: u32,
@@ -88,12 +102,19 @@ struct Decoder<'a> {
     numbers: Vec<i32>,
     bytes: Vec<u8>,
     walk: [Vec<i32>; 3],
+    counts: [u32; 4],
 }
 
 impl<'a> Decoder<'a> {
-    fn new(book: &'a [u8], n: usize, blocks: usize, visits: u32, paths: u32) -> Decoder<'a> {
+    fn new(book: &'a [u8], visits: u32, paths: u32) -> Result<Decoder<'a>, Refusal> {
+        let mut shape = [0u32; 3];
+        let answer = unsafe { saddlemint_load(book.as_ptr(), book.len(), shape.as_mut_ptr(), shape.len()) };
+        if answer != 0 {
+            return Err(refusal(answer));
+        }
+        let [n, _, blocks] = shape.map(|x| x as usize);
         let entries = visits as usize * blocks + 1;
-        Decoder {
+        Ok(Decoder {
             book,
             visits,
             paths,
@@ -102,11 +123,12 @@ impl<'a> Decoder<'a> {
             numbers: vec![0; paths as usize * (2 * n + 32)],
             bytes: vec![0; paths as usize * 2 * n],
             walk: [vec![0; entries], vec![0; entries], vec![0; entries]],
-        }
+            counts: [0; 4],
+        })
     }
 
     fn decode(&mut self, values: &[i16], limit: u32) -> Result<Record, Refusal> {
-        let (mut counts, mut record) = ([0u32; 4], [0u32; 4]);
+        let mut record = [0u32; 4];
         let [path, blocks, score] = &mut self.walk;
         // Each pointer comes with the length of the slice that it is of, and no two overlap: all that the library asks.
         let answer = unsafe {
@@ -121,31 +143,37 @@ impl<'a> Decoder<'a> {
                 path.as_mut_ptr(), path.len(),
                 blocks.as_mut_ptr(), blocks.len(),
                 score.as_mut_ptr(), score.len(),
-                counts.as_mut_ptr(), counts.len(),
+                self.counts.as_mut_ptr(), self.counts.len(),
                 record.as_mut_ptr(), record.len(),
             )
         };
         let [plant, carcass, side, status] = record;
         match answer {
             0 => Ok(Record { plant, carcass, right: side == 1, status }),
-            7 => Err(Refusal::Misfit),
-            8 => Err(Refusal::BadSetting),
-            9 => Err(Refusal::BadValue),
-            10 => Err(Refusal::Faint),
-            11 => Err(Refusal::Unreadable),
-            number => Err(Refusal::Book(number)),
+            _ => Err(refusal(answer)),
         }
     }
 }
 
+/// The values of a word received without noise, whose data have the status 7: there is no such status.
+fn no_record() -> Vec<i16> {
+    let (mut data, mut word) = ([0u8; 32], [0u8; 64]);
+    data[27..30].fill(1);
+    let answer = unsafe { saddlemint_encode(BOOK.as_ptr(), BOOK.len(), data.as_ptr(), data.len(), word.as_mut_ptr(), word.len()) };
+    assert_eq!(answer, 0);
+    word.iter().map(|&bit| if bit == 1 { -500 } else { 500 }).collect()
+}
+
 fn main() {
-    let mut decoder = Decoder::new(BOOK, 64, 5, 8, 16);
+    let mut decoder = Decoder::new(BOOK, 8, 16).expect("a sound book");
     for limit in [1000, 100, 1048577] {
         match decoder.decode(&RECEIVED, limit) {
-            Ok(record) => println!("limit {limit}: {record}"),
+            Ok(record) => println!("limit {limit}: {record}; {} extractions, discrepancy {}", decoder.counts[0], decoder.counts[3]),
             Err(refusal) => println!("limit {limit}: {refusal}"),
         }
     }
+    println!("status 7: {}", decoder.decode(&no_record(), 1000).unwrap_err());
+    println!("a book cut by one byte: {}", Decoder::new(&BOOK[..BOOK.len() - 1], 8, 16).err().expect("a refusal"));
     let mut spoiled = RECEIVED;
     spoiled[9] = 2048;
     println!("a value of 2048: {}", decoder.decode(&spoiled, 1000).unwrap_err());

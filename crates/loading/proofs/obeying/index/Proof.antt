@@ -2,7 +2,7 @@
 use native.Mathlib.Omega.{arith}
 use borrow.Author.Needs.{needs}
 use Rattle.codebook.specs.declared.Refusal.the-variants.{Misplaced}
-use Rattle.codebook.specs.Progress.{withIndices, runOf}
+use Rattle.codebook.specs.Progress.{withIndices, runCommand}
 use Rattle.loading.proofs.Verdicts.{refuse, verdict-misplaced, index-misplaced}
 use Rattle.loading.proofs.Growing.{unfilled, uncovered}
 use Rattle.loading.proofs.obeying.index.Statement.{statement}
@@ -15,7 +15,7 @@ run-requires : tie.Need-run-requires
 run-requires c κs = search needs
 
 returns : tie.Need-returns
-unfolding runOf
+unfolding runCommand
 returns c t n old s h =
     let a = c .before .before .before .before .before .args in
     rw (c .before .before .before .c .given .1) (c .run .ensures (withIndices t (a .kinds .now) (a .terms .now)) old s h)
@@ -27,7 +27,7 @@ run-requires-2 : tie.Need-run-requires-2
 run-requires-2 c κs = search needs
 
 returns-2 : tie.Need-returns-2
-unfolding runOf
+unfolding runCommand
 returns-2 c t n old s h =
     let a = c .before .before .before .before .before .before .args in
     rw (c .before .before .before .c2 .given .1) (c .run2 .ensures (withIndices t (a .kinds .now) (a .terms .now)) old s h)
