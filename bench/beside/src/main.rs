@@ -271,7 +271,7 @@ fn main() {
     );
     println!("|{}", "---|".repeat(16));
     for setup in &setups() {
-        for decibel in [1.5, 2.5, 4.0] {
+        for decibel in [1.0, 1.5, 2.5, 4.0] {
             beside(setup, decibel, rounds);
         }
     }
