@@ -1,17 +1,19 @@
 -- The queue of an array that is being changed in place: what each loop of the moves has done after some turns, and what that comes to at its end.
 -- By induction on the number of entries. Assumes nothing.
-use mathlib.Core.Path.{_≡_, refl, sym, ap, ap₂, _∙_}
+use mathlib.Core.Path.{_≡_, refl, sym, ap, ap₂, _∙_, subst}
+use mathlib.Core.Bool.{true, false, _&&_}
 use mathlib.Core.List.{List, [], _∷_}
 use mathlib.Core.Logic.{_⊎_, inl, inr}
-use Prim.Native.Nat.{ℕ, zero, suc, _+_, _-_, _*_, _/_, _≤_, _<_}
+use Prim.Native.Nat.{ℕ, zero, suc, _+_, _-_, _/_, _≤_, _<_}
 use native.Mathlib.Nat.{zero-add}
 use native.Mathlib.Numerals.{add-one}
 use native.Mathlib.Omega.{arith}
+use lib.Dec.{T, leb, ltb, ltb→lt, leb→le}
 use lib.ListN.{length, getD, set, take, length-set}
 use lib.Seq.{getD-set-same, getD-set-other}
-use borrow.Author.Tests.{lt-ltb, le-ltb}
+use borrow.Author.Tests.{leb-false, lt-ltb, le-ltb}
 use Rattle.laws.specs.Lists.{keep}
-use Rattle.laws.proofs.Tests.{lt-or}
+use Rattle.laws.proofs.Tests.{and-left, and-right, lt-or}
 use Rattle.laws.proofs.Stores.{Stored, stored-more}
 use Rattle.machine.specs.Queue.{insert, ahead}
 use Rattle.order.specs.Entries.{keyAt, queueOf, Rising}
@@ -57,31 +59,26 @@ pub rising-none : (l : List ℕ) → Rising l 0
 unfolding Rising
 rising-none l i j h b = absurd (omega arith)
 
--- ---- position
-
--- where one entry is below e but for its slot, so are those before it
-module _ (l : List ℕ) (queued mid e : ℕ) (r : Rising l queued) (b : mid < queued) where
-  pub position-low : getD l mid 0 < e / 256 * 256 → (k : ℕ) → k ≤ mid → getD l k 0 / 256 < e / 256
-  unfolding Rising
-  position-low h k j = omega (arith, r k mid j b)
-
 -- ---- insert
 
--- the entries from `at` on have moved up by one
-pub record Moved (old new : List ℕ) (at queued : ℕ) : Type 0 where
+-- the entries from `at` on have moved up by one, and e comes before none of them
+pub record Moved (old new : List ℕ) (e at queued : ℕ) : Type 0 where
   pub size : length new ≡ length old
   pub low : (k : ℕ) → k < at → getD new k 0 ≡ getD old k 0
   pub high : (k : ℕ) → at ≤ k → k < queued → getD new (suc k) 0 ≡ getD old k 0
+  pub above : (k : ℕ) → at ≤ k → k < queued → e / 256 ≤ getD old k 0 / 256
 
-pub moved-none : (l : List ℕ) (queued : ℕ) → Moved l l queued queued
-moved-none l queued = record { size = refl; low = λ k h. refl; high = λ k h j. absurd (omega arith) }
+pub moved-none : (l : List ℕ) (e queued : ℕ) → Moved l l e queued queued
+moved-none l e queued = record { size = refl; low = λ k h. refl; high = λ k h j. absurd (omega arith); above = λ k h j. absurd (omega arith) }
 
-pub moved-more : {old new : List ℕ} {at queued : ℕ} (m : ℕ) → Moved old new at queued → at ≡ suc m → at < length old → Moved old (set new at (getD new m 0)) m queued
-moved-more {old} {new} {at} {queued} m s q b =
+pub moved-more : {old new : List ℕ} {e at queued : ℕ} (m : ℕ) → Moved old new e at queued → at ≡ suc m → at < length old → e / 256 ≤ getD new m 0 / 256 →
+    Moved old (set new at (getD new m 0)) e m queued
+moved-more {old} {new} {e} {at} {queued} m s q b g =
     record {
       size = length-set new at v ∙ s .size;
       low = λ k h. getD-set-other new at k v 0 (λ p. omega arith) ∙ s .low k (omega arith);
       high = λ k h j. high k (lt-or m k) h j;
+      above = λ k h j. above k (lt-or m k) h j;
     }
   where
     v : ℕ
@@ -96,9 +93,27 @@ moved-more {old} {new} {at} {queued} m s q b =
         ∙ s .low m (omega arith)
         ∙ ap (λ i. getD old i 0) p
 
+    above : (k : ℕ) → (m < k) ⊎ (k ≤ m) → m ≤ k → k < queued → e / 256 ≤ getD old k 0 / 256
+    above k (inl l) h j = s .above k (omega arith) j
+    above k (inr l) h j = let p : m ≡ k = omega arith in omega (arith, s .low m (omega arith), ap (λ i. getD old i 0) p)
+
+-- what the test of a turn says where it passes
+pub test-passed : (k x y : ℕ) → (ltb 0 k && leb x y) ≡ true → (0 < k) × (x ≤ y)
+test-passed k x y q =
+    let t : T (ltb 0 k && leb x y) = subst T (sym q) tt in
+    (ltb→lt 0 k (and-left (ltb 0 k) (leb x y) t), leb→le x y (and-right (ltb 0 k) (leb x y) t))
+
+-- where it fails, e comes before all entries below `at`, since the last of them is the highest
+pub test-failed : {old new : List ℕ} {e at queued : ℕ} → Moved old new e at queued → at ≤ queued → Rising old queued →
+    (ltb 0 at && leb (e / 256) (getD new (at - 1) 0 / 256)) ≡ false → (k : ℕ) → k < at → getD old k 0 / 256 < e / 256
+unfolding Rising
+test-failed {old} {new} {e} {at} s a r q k h =
+    let last : getD new (at - 1) 0 / 256 < e / 256 = leb-false _ _ (rw (lt-ltb 0 at (omega arith)) at q) in
+    omega (arith, last, s .low (at - 1) (omega arith), r k (at - 1) (omega arith) (omega arith))
+
 -- e comes before the entries below `at`, and before none from there on
-module _ {old new : List ℕ} {at queued : ℕ} (e : ℕ) (s : Moved old new at queued) (b : at < length old)
-    (below : (k : ℕ) → k < at → getD old k 0 / 256 < e / 256) (above : (k : ℕ) → at ≤ k → k < queued → e / 256 ≤ getD old k 0 / 256) where
+module _ {old new : List ℕ} {e at queued : ℕ} (s : Moved old new e at queued) (b : at < length old)
+    (below : (k : ℕ) → k < at → getD old k 0 / 256 < e / 256) where
   -- put at `at` it is in its place
   pub moved-put : (n : ℕ) → at ≤ n → n ≤ queued → queueOf (set new at e) (suc n) ≡ insert keyAt e (queueOf old n)
   unfolding queueOf insert
@@ -115,7 +130,7 @@ module _ {old new : List ℕ} {at queued : ℕ} (e : ℕ) (s : Moved old new at 
           rw (before-entries e (getD old n 0) ∙ lt-ltb _ _ (below n l))
           (ap (λ i. queueOf (set new at e) (suc i)) q ∙ queue-put at new e (omega (arith, s .size)) ∙ ap (λ x. e ∷ x) low)
       go (inr l) ih =
-          rw (before-entries e (getD old n 0) ∙ le-ltb _ _ (above n l (omega arith)))
+          rw (before-entries e (getD old n 0) ∙ le-ltb _ _ (s .above n l (omega arith)))
           (ap₂ (λ x y. x ∷ y) (getD-set-other new at (suc n) e 0 (λ q. omega arith) ∙ s .high n l (omega arith)) (ih l (omega arith)))
 
   -- an entry of the array then, at, below and above `at`
@@ -137,11 +152,11 @@ module _ {old new : List ℕ} {at queued : ℕ} (e : ℕ) (s : Moved old new at 
     where
       go : (i < at) ⊎ (at ≤ i) → (at < i) ⊎ (i ≤ at) → (j < at) ⊎ (at ≤ j) → (at < j) ⊎ (j ≤ at) → getD (set new at e) i 0 / 256 ≤ getD (set new at e) j 0 / 256
       go (inl p) t (inl q) u = omega (arith, is-below i p, is-below j q, r i j h (omega arith))
-      go (inl p) t (inr q) (inl u) = omega (arith, is-below i p, is-above j u (omega arith), below i p, above (j - 1) (omega arith) (omega arith))
+      go (inl p) t (inr q) (inl u) = omega (arith, is-below i p, is-above j u (omega arith), below i p, s .above (j - 1) (omega arith) (omega arith))
       go (inl p) t (inr q) (inr u) = omega (arith, is-below i p, is-at j (omega arith), below i p)
       go (inr p) (inl t) q (inl u) = omega (arith, is-above i t (omega arith), is-above j u (omega arith), r (i - 1) (j - 1) (omega arith) (omega arith))
       go (inr p) (inl t) q (inr u) = absurd (omega arith)
-      go (inr p) (inr t) q (inl u) = omega (arith, is-at i (omega arith), is-above j u (omega arith), above (j - 1) (omega arith) (omega arith))
+      go (inr p) (inr t) q (inl u) = omega (arith, is-at i (omega arith), is-above j u (omega arith), s .above (j - 1) (omega arith) (omega arith))
       go (inr p) (inr t) q (inr u) = omega (arith, is-at i (omega arith), is-at j (omega arith))
 
 -- ---- cut

@@ -3,7 +3,7 @@
 -- Assumes nothing.
 use mathlib.Core.Path.{_≡_}
 use mathlib.Core.List.{List, [], _∷_}
-use Prim.Native.Nat.{ℕ, zero, suc, _+_, _-_, _/_, _%_, _≤_, _<_}
+use Prim.Native.Nat.{ℕ, zero, suc, _-_, _/_, _%_, _≤_, _<_}
 use lib.ListN.{getD}
 use lib.IntN.{pos, _-ℤ_}
 use Rattle.machine.specs.Queue.{Key}
@@ -29,9 +29,3 @@ queueOf order (suc n) = getD order n 0 ∷ queueOf order n
 -- the first n entries never fall, but for their slots: the queue's order, first path last
 unfoldable pub Rising : List ℕ → ℕ → Type 0
 Rising order n = (i j : ℕ) → i ≤ j → j < n → getD order i 0 / 256 ≤ getD order j 0 / 256
-
--- an entry's place among the first n lies from `low` on, at most w places on: those below it come after the entry, those past it do not
-pub record Between (order : List ℕ) (n e low w : ℕ) : Type 0 where
-  pub within : low ≤ n
-  pub under : (k : ℕ) → k < low → getD order k 0 / 256 < e / 256
-  pub over : (k : ℕ) → low + w ≤ k → k < n → e / 256 ≤ getD order k 0 / 256

@@ -1,57 +1,26 @@
 // The moves of the queue: a path inserted, the last ones cut off, those with few blocks removed. Entries move within the array; nothing else is
 // touched. Relies on entries.rt; machine/specs/Queue says what each move is, specs/Entries.antt which queue an array holds.
 ghost use mathlib.Core.Path.{_≡_};
-ghost use Prim.Native.Nat.{ℕ, suc, _+_, _/_, _≤_, _<_};
+ghost use mathlib.Core.Bool.{_&&_};
+ghost use Prim.Native.Nat.{suc, _-_, _/_, _≤_, _<_};
 ghost use lib.ListN.{length, getD, take};
+ghost use lib.Dec.{ltb, leb};
 ghost use Rattle.machine.specs.Queue as Q;
-ghost use Rattle.order.specs.Entries.{keyAt, queueOf, Rising, Between};
+ghost use Rattle.order.specs.Entries.{keyAt, queueOf, Rising};
 use crate::entries::blocks_of;
 
-// The place of e among the `queued` entries, which lies from `low` on and at most w places on, lies from the answer on and at most v places on: half as
-// far, by the entry in the middle.
-fn halve(order: &[u64; 256], queued: usize, e: u64, low: usize, half: usize) -> usize
-    requires { ⌜ (length (now order) ≡ 256) × (queued ≤ 256) × Rising (now order) queued × (1 ≤ half) × (low + half ≤ 512) ⌝ }
-    ensures { λ r. ⌜ (r ≤ low + half)
-        × ((w v : ℕ) → w ≤ half + v → half ≤ v + 1 → Between (now (order .entry)) queued e low w → Between (now (order .entry)) queued e r v) ⌝ }
+// Whether there is an entry just below place k and e does not come before it: then it goes up to make room for e.
+fn above(order: &[u64; 256], k: usize, e: u64) -> bool
+    requires { ⌜ k ≤ 256 ⌝ }
+    ensures { λ r. ⌜ r ≡ (ltb 0 k && leb (e / 256) (getD (now (order .entry)) (k - 1) 0 / 256)) ⌝ }
 {
-    let next = low + half;
-    if queued < next {
-        return low;
+    if k == 0 {
+        return false;
     }
-    if order[next - 1] < e / 256 * 256 {
-        next
-    } else {
-        low
-    }
+    order[k - 1] >= e / 256 * 256
 }
 
-// Where an entry goes among the `queued` entries: above those that it comes before.
-fn position(order: &[u64; 256], queued: usize, e: u64) -> usize
-    requires { ⌜ (length (now order) ≡ 256) × (queued ≤ 256) ⌝ }
-    requires { ⌜ Rising (now order) queued ⌝ }
-    ensures { λ r. ⌜ (r ≤ queued) × ((k : ℕ) → k < r → getD (now (order .entry)) k 0 / 256 < e / 256)
-        × ((k : ℕ) → r ≤ k → k < queued → e / 256 ≤ getD (now (order .entry)) k 0 / 256) ⌝ }
-{
-    let floor = e / 256 * 256;
-    // a path that was just moved mostly goes above them all
-    if queued > 0 {
-        if order[queued - 1] < floor {
-            return queued;
-        }
-    }
-    // written out, since the compiler makes branches of such a choice in a loop, and they cannot be foreseen
-    let mut low = halve(order, queued, e, 0, 128);
-    low = halve(order, queued, e, low, 64);
-    low = halve(order, queued, e, low, 32);
-    low = halve(order, queued, e, low, 16);
-    low = halve(order, queued, e, low, 8);
-    low = halve(order, queued, e, low, 4);
-    low = halve(order, queued, e, low, 2);
-    low = halve(order, queued, e, low, 1);
-    halve(order, queued, e, low, 1)
-}
-
-// Puts an entry into its place among the `queued` entries.
+// Puts an entry into its place among the `queued` entries: those above it go up by one, the last first.
 pub fn insert(order: &mut [u64; 256], queued: usize, e: u64)
     requires { ⌜ (length (now order) ≡ 256) × (queued < 256) ⌝ }
     requires { ⌜ Rising (now order) queued ⌝ }
@@ -59,13 +28,12 @@ pub fn insert(order: &mut [u64; 256], queued: usize, e: u64)
         × (queueOf (now (order .exit)) (suc queued) ≡ Q.insert keyAt e (queueOf (now (order .entry)) queued)) ⌝ }
     ensures { λ _. ⌜ Rising (now (order .exit)) (suc queued) ⌝ }
 {
-    let at = position(order, queued, e);
     let mut k = queued;
-    while k > at {
+    while above(order, k, e) {
         order[k] = order[k - 1];
         k -= 1;
     }
-    order[at] = e;
+    order[k] = e;
 }
 
 // Leaves the first `kept` paths of the queue.

@@ -131,26 +131,42 @@ module _ (B : Book) (b : ℕ) (kinds terms : List ℕ) (start j : ℕ) (o : Bloc
   unfolding nearest
   found-nearest = found-with (λ _. true) 0 (λ w. le-leb 0 (settingKey e vs w) (omega arith))
 
+  -- the keys above a word's are those of the words after it
+  after-test : (own : Word) → own .number < 4294967296 → (w : ℕ) → leb (keyOf (own .cost) (own .number) + 1) (settingKey e vs w) ≡ nearer own (W w)
+  unfolding nearer
+  after-test own l w =
+      above (keyOf (own .cost) (own .number)) (settingKey e vs w) ∙ ap (ltb (keyOf (own .cost) (own .number))) (entry-key w)
+      ∙ key-order (own .cost) (own .number) (W w .cost) (W w .number) l (word-lt w)
+
   pub found-next : (own : Word) → own .number < 4294967296 → found kinds terms start (paritySet B x) (2 ^ j) vs (keyOf (own .cost) (own .number) + 1) ≡ candidateOf B (nextAfter own B vs x b)
-  unfolding nextAfter nearer
-  found-next own l =
-      found-with (nearer own) (keyOf (own .cost) (own .number) + 1)
-      (λ w. above (keyOf (own .cost) (own .number)) (settingKey e vs w) ∙ ap (ltb (keyOf (own .cost) (own .number))) (entry-key w) ∙ key-order (own .cost) (own .number) (W w .cost) (W w .number) l (word-lt w))
+  unfolding nextAfter
+  found-next own l = found-with (nearer own) (keyOf (own .cost) (own .number) + 1) (after-test own l)
 
-  -- the number of the nearest word
-  nearest-lt : (w : Word) → nearest B vs x b ≡ some w → w .number < 4294967296
-  unfolding nearest Same MayPair
-  nearest-lt w q = go (leastFrom (settingKey e vs) 0 (2 ^ freeCount (kindsOf B b))) (subst (MayPair Same (leastFrom (settingKey e vs) 0 (2 ^ freeCount (kindsOf B b)))) q (paired (λ _. true) 0 every))
-    where
-      every : (v : ℕ) → leb 0 (settingKey e vs v) ≡ true
-      every v = le-leb 0 (settingKey e vs v) (omega arith)
+  -- ---- the next after what is found
 
-      go : (s : Option ℕ) → MayPair Same s (some w) → w .number < 4294967296
-      go none p = absurd p
-      go (some v) p = omega (arith, word-lt v, ap (λ (y : Word). y .number) p)
+  module _ (test : Word → Bool) (bound : ℕ) (t : (w : ℕ) → leb bound (settingKey e vs w) ≡ test (W w)) (y : Word) (q : nearestWith test B vs x b ≡ some y) where
+    -- its number
+    with-lt : y .number < 4294967296
+    unfolding Same MayPair
+    with-lt = go (leastFrom (settingKey e vs) bound (2 ^ freeCount (kindsOf B b))) (subst (MayPair Same (leastFrom (settingKey e vs) bound (2 ^ freeCount (kindsOf B b)))) q (paired test bound t))
+      where
+        go : (s : Option ℕ) → MayPair Same s (some y) → y .number < 4294967296
+        go none p = absurd p
+        go (some v) p = omega (arith, word-lt v, ap (λ (z : Word). z .number) p)
+
+    after-with : let c = found kinds terms start (paritySet B x) (2 ^ j) vs bound in
+        found kinds terms start (paritySet B x) (2 ^ j) vs (keyOf (c .cost) (c .number) + 1) ≡ candidateOf B (nextAfter y B vs x b)
+    unfolding candidateOf
+    after-with =
+        let first : found kinds terms start (paritySet B x) (2 ^ j) vs bound ≡ candidateOf B (some y) = found-with test bound t ∙ ap (candidateOf B) q in
+        ap (λ (c : Candidate). found kinds terms start (paritySet B x) (2 ^ j) vs (keyOf (c .cost) (c .number) + 1)) first ∙ found-next y with-lt
 
   pub found-second : (w : Word) → nearest B vs x b ≡ some w → foundPair kinds terms start (paritySet B x) (2 ^ j) vs .second ≡ candidateOf B (nextAfter w B vs x b)
-  unfolding foundPair candidateOf
-  found-second w q =
-      let first : found kinds terms start (paritySet B x) (2 ^ j) vs 0 ≡ candidateOf B (some w) = found-nearest ∙ ap (candidateOf B) q in
-      ap (λ (c : Candidate). found kinds terms start (paritySet B x) (2 ^ j) vs (keyOf (c .cost) (c .number) + 1)) first ∙ found-next w (nearest-lt w q)
+  unfolding foundPair nearest
+  found-second w q = after-with (λ _. true) 0 (λ v. le-leb 0 (settingKey e vs v) (omega arith)) w q
+
+  pub found-after : (own : Word) → own .number < 4294967296 → (w : Word) → nextAfter own B vs x b ≡ some w →
+      let c = found kinds terms start (paritySet B x) (2 ^ j) vs (keyOf (own .cost) (own .number) + 1) in
+      found kinds terms start (paritySet B x) (2 ^ j) vs (keyOf (c .cost) (c .number) + 1) ≡ candidateOf B (nextAfter w B vs x b)
+  unfolding nextAfter
+  found-after own l w q = after-with (nearer own) (keyOf (own .cost) (own .number) + 1) (after-test own l) w q

@@ -15,3 +15,10 @@ pub struct Pair {
     pub first: Candidate,
     pub second: Candidate,
 }
+
+// The next word of a block after one and, where that is known too, the next after it.
+pub struct Next {
+    pub first: Candidate,
+    pub second: Candidate,
+    pub known: bool,
+}

@@ -4,7 +4,7 @@ use mathlib.Core.Path.{_≡_, refl, sym, ap, ap₂, _∙_, subst}
 use mathlib.Core.Bool.{Bool, true, false, cond}
 use mathlib.Core.Logic.{_⊎_, inl, inr}
 use mathlib.Core.Option.{Option, none, some}
-use Prim.Native.Nat.{ℕ, _+_, _≤_, _<_}
+use Prim.Native.Nat.{ℕ, _+_, _/_, _≤_, _<_}
 use native.Mathlib.Numerals.{add-one}
 use native.Mathlib.Omega.{arith}
 use lib.Dec.{ltb, leb, eqb}
@@ -130,6 +130,11 @@ module _ (k : ℕ → ℕ) (b n : ℕ) where
               let m : k w < k n = omega (arith, ap (λ (x : Two). x .first) t) in
               ap (λ (x : Two). record { first = x .first; second = k n; at = x .at; next = n }) t
               ∙ after (some w) (some n) (kept k b n w e (omega arith)) (taken k (k w + 1) n (above k n (some w)) refl (omega arith) (omega (arith, ap (λ (x : Two). x .second) t)))
+
+    -- a key whose cost is above that of the second
+    pub costly : {cost number : ℕ} → cost < 4294967295 → number < 4294967296 → keyOf cost number ≡ k n → two .second / 4294967296 < cost → two ≡ twoLeast k b (n + 1)
+    unfolding keyOf
+    costly h f e l = far (key-lt h f e) (omega arith)
 
 -- ---- one key more, by choices alone
 

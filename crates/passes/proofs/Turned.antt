@@ -1,8 +1,9 @@
 -- A word with every bit turned: its cost and the word's are the sum of the magnitudes. So where the last direction is the word of ones, the
--- costs of each two words from an even setting on have one sum. By induction on the values. Assumes nothing.
+-- costs of each two words from an even setting on have one sum, and the cost of one gives the keys of both. By induction on the values.
+-- Assumes nothing.
 use mathlib.Core.Path.{_≡_, refl, sym, ap, ap₂, _∙_}
 use mathlib.Core.List.{List, [], _∷_}
-use Prim.Native.Nat.{ℕ, zero, suc, _+_, _-_, _*_, _/_, _%_, _^_, _<_}
+use Prim.Native.Nat.{ℕ, zero, suc, _+_, _-_, _*_, _/_, _%_, _^_, _≤_, _<_}
 use native.Mathlib.Nat.{two-pow-succ, mul-zero, mul-one}
 use native.Mathlib.Omega.{arith}
 use lib.Bits.{bitXor, xor-shr, xor-add-and, xor-zero-r}
@@ -11,8 +12,9 @@ use lib.ListN.{length, getD}
 use lib.Pow.{pow-pos}
 use Rattle.polar.specs.Soft.{cost, hard}
 use Rattle.polar.proofs.Soft.{cost-same, cost-other}
-use Rattle.outer.specs.Search.{spread, costOf, picked, Costs}
-use Rattle.passes.specs.Pass.{Turned}
+use Rattle.outer.specs.Search.{spread, costOf, picked, Costs, keyOf}
+use Rattle.passes.specs.declared.Two.{Two}
+use Rattle.passes.specs.Pass.{twoLeast, Turned, summedKey}
 use Rattle.outer.proofs.Sums.{picked-costs}
 
 -- the costs of the two bits
@@ -80,13 +82,21 @@ turned-pairs words ds sums (suc m) count runs total n vs h q d c o l t = record 
         let y : 1 ≡ 2 * 0 + 1 = omega arith in
         t ∙ ap₂ (λ a b. picked sums 0 runs (getD words a 0) + picked sums 0 runs (getD words b 0)) z y ∙ pair 0 (omega (arith, two-pow-succ m, pow-pos m))
 
--- ---- what the pass goes by
+-- ---- what the loops over two words a turn go by
 
--- an even setting and the next
-pub pair-sum : (sums words : List ℕ) (runs n total w : ℕ) → Turned sums runs words n total → w % 2 ≡ 0 → w < n
-    → picked sums 0 runs (getD words w 0) + picked sums 0 runs (getD words (w + 1) 0) ≡ total
-pair-sum sums words runs n total w t e l =
+-- the loops' invariant: the two least of the first w settings, where w is even
+abbrev pub Passed : List ℕ → List ℕ → ℕ → ℕ → ℕ → Two → ℕ → Type 0
+Passed sums words runs n bound two w = (w ≤ n) × (w % 2 ≡ 0) × (two ≡ twoLeast (summedKey sums runs words) bound w)
+
+-- the keys of an even setting and the next, by the cost of the first: that of the second is what is left of the sum
+pub pair-keys : {sums words : List ℕ} {runs n total w cost : ℕ} → Turned sums runs words n total → w % 2 ≡ 0 → w < n → cost ≡ picked sums 0 runs (getD words w 0)
+    → (cost ≤ total) × (keyOf cost (getD words w 0) ≡ summedKey sums runs words w) × (keyOf (total - cost) (getD words (w + 1) 0) ≡ summedKey sums runs words (w + 1))
+unfolding summedKey
+pair-keys {sums} {words} {runs} {n} {total} {w} {cost} t e l c =
     let k : ℕ = w / 2 in
     let p : w ≡ 2 * k = omega arith in
     let q : w + 1 ≡ 2 * k + 1 = omega arith in
-    ap₂ (λ a b. picked sums 0 runs (getD words a 0) + picked sums 0 runs (getD words b 0)) p q ∙ t .sum k (omega (arith, t .even))
+    let sum : picked sums 0 runs (getD words w 0) + picked sums 0 runs (getD words (w + 1) 0) ≡ total =
+    ap₂ (λ a b. picked sums 0 runs (getD words a 0) + picked sums 0 runs (getD words b 0)) p q ∙ t .sum k (omega (arith, t .even)) in
+    let left : total - cost ≡ picked sums 0 runs (getD words (w + 1) 0) = omega arith in
+    (omega arith, ap (λ i. keyOf i (getD words w 0)) c, ap (λ i. keyOf i (getD words (w + 1) 0)) left)

@@ -54,7 +54,7 @@ fn open(key: u64, bound: u64, first: u64) -> u64
 
 // The two least with the key of one setting more, by its cost and its number, where it is not below the bound; the earlier of equals. It is all choices and
 // no branch, since which keys are least cannot be foreseen.
-fn among(two: Two, bound: u64, cost: u32, number: u32, setting: usize) -> Two
+pub fn among(two: Two, bound: u64, cost: u32, number: u32, setting: usize) -> Two
     requires { ⌜ cost < 4294967295 ⌝ }
     ensures { λ r. ⌜ ((k : ℕ → ℕ) → two ≡ twoLeast k bound setting → keyOf cost number ≡ k setting → r ≡ twoLeast k bound (setting + 1)) ⌝ }
 {
@@ -83,4 +83,26 @@ pub fn sift(two: Two, bound: u64, cost: u32, number: u32, setting: usize, count:
         }
     }
     among(two, bound, cost, number, setting)
+}
+
+// The two least with the keys of two settings more, this one and the next. Both are passed over by a branch where both costs are above that of the second
+// least: where settings are many, it is foreseen nearly always.
+pub fn sift_both(
+    two: Two,
+    bound: u64,
+    cost: u32,
+    number: u32,
+    other: u32,
+    next: u32,
+    setting: usize,
+) -> Two
+    requires { ⌜ (cost < 4294967295) × (other < 4294967295) × (setting < 18446744073709551615) ⌝ }
+    ensures { λ r. ⌜ ((k : ℕ → ℕ) → two ≡ twoLeast k bound setting → keyOf cost number ≡ k setting → keyOf other next ≡ k (setting + 1) → r ≡ twoLeast k bound (setting + 2)) ⌝ }
+{
+    let limit = two.second / 4294967296;
+    if cost as u64 <= limit || other as u64 <= limit {
+        let one = among(two, bound, cost, number, setting);
+        return among(one, bound, other, next, setting + 1);
+    }
+    two
 }

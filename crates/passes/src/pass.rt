@@ -8,8 +8,10 @@ ghost use Rattle.polar.specs.Layers.{part, Within};
 ghost use Rattle.outer.specs.Search.{Entry, Spans, picked, Runs, Small, leastFrom, answer, settingKey};
 ghost use Rattle.passes.specs.Pass.{afterFirst, twoLeast, Turned, summedKey, chosen};
 use crate::Two;
+use crate::least_two::among;
 use crate::least_two::none;
 use crate::least_two::sift;
+use crate::least_two::sift_both;
 use outer::Candidate;
 use outer::Pair;
 use tables::costs::cost_of;
@@ -64,7 +66,8 @@ fn two_each(words: &[u32; 256], count: usize, sums: &[u32; 128], runs: usize, bo
 }
 
 // The same, where the costs of each two words from an even setting on have one sum: each second cost is what is left of it.
-fn two_turned(
+// For few words: no branch.
+fn few_turned(
     words: &[u32; 256],
     count: usize,
     sums: &[u32; 128],
@@ -81,14 +84,38 @@ fn two_turned(
         let word = words[w];
         let other = words[w + 1];
         let cost = cost_of(sums, runs, word);
-        two = sift(two, bound, cost, word, w, count);
-        two = sift(two, bound, total - cost, other, w + 1, count);
+        let one = among(two, bound, cost, word, w);
+        two = among(one, bound, total - cost, other, w + 1);
         w += 2;
     }
     two
 }
 
-// The same, two words a turn unless the sum is the greatest number.
+// The same for many words: most are passed over, two at a time.
+fn many_turned(
+    words: &[u32; 256],
+    count: usize,
+    sums: &[u32; 128],
+    runs: usize,
+    total: u32,
+    bound: u64,
+) -> Two
+    requires { ⌜ (count ≤ 256) × Runs runs × Small (now sums) runs × (total < 4294967295) × Turned (now sums) runs (now words) count total ⌝ }
+    ensures { λ r. ⌜ r ≡ twoLeast (summedKey (now (sums .entry)) runs (now (words .entry))) bound count ⌝ }
+{
+    let mut two = none();
+    let mut w: usize = 0;
+    while w < count {
+        let word = words[w];
+        let other = words[w + 1];
+        let cost = cost_of(sums, runs, word);
+        two = sift_both(two, bound, cost, word, total - cost, other, w);
+        w += 2;
+    }
+    two
+}
+
+// The same, two words a turn unless the sum is the greatest number; more than 64 words are many.
 fn pass(
     words: &[u32; 256],
     count: usize,
@@ -104,7 +131,10 @@ fn pass(
     if total == 4294967295 {
         return two_each(words, count, sums, runs, bound);
     }
-    two_turned(words, count, sums, runs, total, bound)
+    if count > 64 {
+        return many_turned(words, count, sums, runs, total, bound);
+    }
+    few_turned(words, count, sums, runs, total, bound)
 }
 
 // The word with a key, as a candidate; none for the greatest number.

@@ -2,6 +2,7 @@
 // free has a search of its own, and this or a single parity check (all free but the first) a pair of its own; all else goes by the pass. Relies on the
 // crates tables, passes and short; outer/specs/Words.antt says what the words are, outer/specs/Search.antt what a key is.
 ghost use mathlib.Core.Path.{_≡_};
+ghost use mathlib.Core.Bool.{true};
 ghost use mathlib.Core.Option.{some};
 ghost use Prim.Native.Nat.{ℕ, _+_, _^_, _≤_, _<_};
 ghost use Rattle.polar.specs.Layers.{part};
@@ -9,8 +10,9 @@ ghost use Rattle.codebook.specs.Book.{Book};
 ghost use Rattle.codec.specs.Ties.{Parities};
 ghost use Rattle.outer.specs.Search.{keyOf, found, foundPair, Scratch, Searchable};
 ghost use Rattle.outer.specs.Words.{Word, nearest, nextAfter};
-ghost use Rattle.outer.specs.Blocks.{paritySet, Bits, BlockTabled, candidateOf};
+ghost use Rattle.outer.specs.Blocks.{paritySet, Bits, BlockTabled, candidateOf, Nexts};
 use outer::Candidate;
+use outer::Next;
 use outer::Pair;
 use passes::least_two::key;
 use passes::pass::find_two;
@@ -35,7 +37,7 @@ fn after(cost: u32, number: u32) -> u64
     key(cost, number) + 1
 }
 
-// The word of least key from a bound on.
+// The word of least key from a bound on and, where all words were passed over, the one of least key after it.
 fn search(
     numbers: &[i32],
     at: usize,
@@ -48,11 +50,12 @@ fn search(
     words: &mut [u32; 256],
     sets: &mut [u32; 256],
     sums: &mut [u32; 128],
-) -> Candidate
+) -> Next
     requires { ⌜ Searchable (now numbers) at (now kinds) start j ⌝ }
     requires { ⌜ Scratch (now words) (now sets) (now sums) ⌝ }
     ensures { λ _. ⌜ Scratch (now (words .exit)) (now (sets .exit)) (now (sums .exit)) ⌝ }
-    ensures { λ r. ⌜ r ≡ found (now (kinds .entry)) (now (terms .entry)) start parities (2 ^ j) (part at (2 ^ j) (now (numbers .entry))) bound ⌝ }
+    ensures { λ r. ⌜ (let from = found (now (kinds .entry)) (now (terms .entry)) start parities (2 ^ j) (part at (2 ^ j) (now (numbers .entry))) in
+        (r .first ≡ from bound) × (r .known ≡ true → r .first .some ≡ true → r .second ≡ from (keyOf (r .first .cost) (r .first .number) + 1))) ⌝ }
 {
     let n = power(j);
     let mut steps: [u32; 9] = [0; 9];
@@ -60,11 +63,22 @@ fn search(
     let free = walk(kinds, terms, start, n, parities, &mut steps, &mut ties);
     if n == 8 {
         if free >= 8 {
-            return search_bytes(numbers, at, &ties, free, bound, sets);
+            let first = search_bytes(numbers, at, &ties, free, bound, sets);
+            return Next {
+                first,
+                second: first,
+                known: false,
+            };
         }
     }
     let two = find_two(numbers, at, n, bound, &steps, &ties, free, words, sums);
-    two.first
+    let first = two.first;
+    let second = two.second;
+    Next {
+        first,
+        second,
+        known: true,
+    }
 }
 
 // The nearest word of a block: of all settings of its free bits, after the given parities, the least cost, equals by the smaller number. The
@@ -87,7 +101,7 @@ pub fn nearest(
     ensures { λ r. ⌜ ((B : Book) (b : ℕ) (x : Parities) → BlockTabled B b (now (kinds .entry)) (now (terms .entry)) start j
         → Bits x → parities ≡ paritySet B x → r ≡ candidateOf B (nearest B (part at (2 ^ j) (now (numbers .entry))) x b)) ⌝ }
 {
-    search(
+    let found = search(
         numbers,
         at,
         kinds,
@@ -99,7 +113,8 @@ pub fn nearest(
         words,
         sets,
         sums,
-    )
+    );
+    found.first
 }
 
 // The word of least key, and the one of least key after it.
@@ -173,7 +188,7 @@ pub fn nearest_pair(
     )
 }
 
-// The next word of a block after the one with this cost and number.
+// The next word of a block after the one with this cost and number and, where that is known too, the next after it.
 pub fn next_after(
     numbers: &[i32],
     at: usize,
@@ -187,14 +202,14 @@ pub fn next_after(
     words: &mut [u32; 256],
     sets: &mut [u32; 256],
     sums: &mut [u32; 128],
-) -> Candidate
+) -> Next
     requires { ⌜ Searchable (now numbers) at (now kinds) start j ⌝ }
     requires { ⌜ Scratch (now words) (now sets) (now sums) ⌝ }
     requires { ⌜ cost < 4294967295 ⌝ }
     ensures { λ _. ⌜ Scratch (now (words .exit)) (now (sets .exit)) (now (sums .exit)) ⌝ }
     ensures { λ r. ⌜ ((B : Book) (b : ℕ) (x : Parities) (own : Word) → BlockTabled B b (now (kinds .entry)) (now (terms .entry)) start j
         → Bits x → parities ≡ paritySet B x → own .cost ≡ cost → own .number ≡ number
-        → r ≡ candidateOf B (nextAfter own B (part at (2 ^ j) (now (numbers .entry))) x b)) ⌝ }
+        → (let vs = part at (2 ^ j) (now (numbers .entry)) in Nexts B vs x b (nextAfter own B vs x b) r)) ⌝ }
 {
     search(
         numbers,

@@ -2,9 +2,10 @@
 -- hand, has one of its own where its word will go, and is queued. Each is a law of crates/standing for that change of memory; the reader's own cut
 -- of the queue leaves it whole, since there is room. Assumes nothing.
 use mathlib.Core.Path.{_≡_, refl, sym, ap, ap₂, _∙_, subst}
+use mathlib.Core.Bool.{true}
 use mathlib.Core.List.{List, [], _∷_, map}
 use mathlib.Core.Logic.{_≢_}
-use mathlib.Core.Option.{some}
+use mathlib.Core.Option.{Option, none, some}
 use Prim.Native.Nat.{ℕ, zero, suc, _+_, _-_, _^_, _≤_, _<_}
 use native.Mathlib.Omega.{arith}
 use lib.ListN.{length}
@@ -13,19 +14,22 @@ use lib.Pow.{pow-pos, pow-mono}
 use lib.IntN.{ℤ, pos, negℤ, _-ℤ_}
 use Rattle.polar.specs.Bits.{number}
 use Rattle.polar.specs.Layers.{Within}
-use Rattle.codebook.specs.Book.{Book, startOf, blockAt}
+use Rattle.codebook.specs.Book.{Book, freeCount, kindsOf, startOf, blockAt}
 use Rattle.codebook.specs.Book as K
 use Rattle.laws.specs.Lists.{All, Distinct}
 use Rattle.laws.proofs.Lists.{all-front}
 use Rattle.machine.specs.Queue.{roomFor, insert}
 use Rattle.outer.specs.declared.Candidate.{Candidate}
+use Rattle.outer.specs.declared.Next.{Next}
+use Rattle.outer.specs.Words.{Word, nextAfter}
 use Rattle.outer.specs.Blocks.{candidateOf}
 use Rattle.outer.proofs.Blocks.{start-less}
-use Rattle.reader.specs.Arrays.{Arrays, View, claim}
-use Rattle.reader.specs.Paths.{Path, scoreOf, keyOf, lastWord, place, idsOf, viewOf}
+use Rattle.reader.specs.Arrays.{Arrays, View, valsOf, claim}
+use Rattle.reader.specs.Paths.{Path, scoreOf, keyOf, lastWord, ownWord, place, idsOf, viewOf}
 use Rattle.reader.specs.Reader.{copyWith}
-use Rattle.reader.proofs.Arrays.{Kept, claim-kept}
+use Rattle.reader.proofs.Arrays.{Kept, claim-kept, claim-own}
 use Rattle.reader.proofs.Descent.{place-most}
+use Rattle.reader.proofs.Found.{next-few}
 use Rattle.order.specs.Entries.{keyAt, slotAt, Packed}
 use Rattle.sharing.specs.Sharing.{idAt, heldAt, Copied, MoreBy}
 use Rattle.standing.specs.Seen.{Memory, memory, Lent, Seen, Viewed, StepSeen, IdsOnly}
@@ -39,7 +43,7 @@ use Rattle.standing.proofs.Places.{stands-insert-second}
 use Rattle.standing.proofs.Written.{stands-share}
 use Rattle.views.specs.Steps.{Claimable}
 use Rattle.words.specs.declared.Block.{Block}
-use Rattle.words.specs.Kept.{keptCell, Keeps, OneKept, KeptFor, Kepts}
+use Rattle.words.specs.Kept.{Keeps, OneKept, nextOf, KeptFor, Kepts}
 use Rattle.words.proofs.Kepts.{kepts-other, kepts-frame, kepts-insert}
 use Rattle.steps.specs.Steps.{Forking}
 
@@ -50,7 +54,7 @@ start-count bs zero h = omega arith
 start-count [] (suc b) h = absurd (omega arith)
 start-count (x ∷ bs) (suc b) h = omega (arith, start-count bs b (omega arith), pow-pos (x .j))
 
-module _ {m N : ℕ} {x : Memory} {e t : ℕ} {es vs : List ℕ} {last : Block} {found : Candidate} {b : ℕ}
+module _ {m N : ℕ} {x : Memory} {e t : ℕ} {es vs : List ℕ} {last : Block} {found : Next} {b : ℕ}
     (c : Forking m N x e t es vs last found b) where
   -- the book, the path in hand, and the row of its slot
   abbrev book : Book
@@ -68,13 +72,37 @@ module _ {m N : ℕ} {x : Memory} {e t : ℕ} {es vs : List ℕ} {last : Block} 
       let top : 2 ^ (book .m) ≤ 2 ^ 9 = pow-mono (c .valid .high) in
       omega (arith, start-count (book .blocks) b (omega arith), start-less book (c .valid) b l)
 
+  -- ---- the word that may be kept for it
+
+  -- the values of the block that it is made from, and the next after the copy's word
+  abbrev values : List ℤ
+  values = valsOf (viewOf (c .hand .arrays) path) (blockAt book b .j)
+
+  abbrev after : Option Word
+  after = nextAfter (c .word) book values (path .earlier) b
+
+  -- where it is known, it is that word, and its setting is small
+  pub fork-known : found .known ≡ true → found .second ≡ candidateOf book after
+  fork-known k = c .is .second k (c .word) refl
+
+  pub fork-few : found .known ≡ true → found .second .setting < 1073741824
+  unfolding candidateOf
+  fork-few k = go after refl
+    where
+      top : 2 ^ freeCount (kindsOf book b) ≤ 2 ^ 8
+      top = pow-mono (c .valid .blocks b (c .own .block .within) .light)
+
+      go : (o : Option Word) → after ≡ o → found .second .setting < 1073741824
+      go none q = omega (arith, ap (λ (y : Candidate). y .setting) (fork-known k ∙ ap (candidateOf book) q))
+      go (some y) q = omega (arith, top, next-few book values (path .earlier) b y (c .word) q, ap (λ (y : Candidate). y .setting) (fork-known k ∙ ap (candidateOf book) q))
+
   -- ---- the entry
 
-  cost-is : found .cost ≡ c .word .cost
+  cost-is : found .first .cost ≡ c .word .cost
   unfolding candidateOf
-  cost-is = ap (λ (y : Candidate). y .cost) (c .is)
+  cost-is = ap (λ (y : Candidate). y .cost) (c .is .first)
 
-  pub fork-total : cell (x .rows) (slotAt e) 10 + found .cost ≤ 1048064
+  pub fork-total : cell (x .rows) (slotAt e) 10 + found .first .cost ≤ 1048064
   fork-total = omega (arith, row .spent, cost-is, c .total)
 
   pub fork-bias : Within 1048576 (last .bias)
@@ -96,10 +124,10 @@ module _ {m N : ℕ} {x : Memory} {e t : ℕ} {es vs : List ℕ} {last : Block} 
 
   -- the code's score is the copy's, so that the entry is
   pub fork-entry : {n d : ℕ} {s : ℤ} → Packed d (record { score = s; blocks = suc b; number = n }) t →
-      s ≡ negℤ (pos (cell (x .rows) (slotAt e) 10 + found .cost)) -ℤ last .bias → Packed d (keyOf book (made n)) t
+      s ≡ negℤ (pos (cell (x .rows) (slotAt e) 10 + found .first .cost)) -ℤ last .bias → Packed d (keyOf book (made n)) t
   unfolding keyOf scoreOf
   fork-entry {n} {d} {s} p q =
-      let total : cell (x .rows) (slotAt e) 10 + found .cost ≡ path .spent + c .word .cost = omega (arith, row .spent, cost-is) in
+      let total : cell (x .rows) (slotAt e) 10 + found .first .cost ≡ path .spent + c .word .cost = omega (arith, row .spent, cost-is) in
       let score : s ≡ scoreOf book (made n) (suc b) = q ∙ ap₂ (λ (k : ℕ) (z : ℤ). negℤ (pos k) -ℤ z) total (c .own .block .bias) in
       subst (λ (z : ℤ). Packed d (record { score = z; blocks = suc b; number = n }) t) score p
 
@@ -109,14 +137,14 @@ module _ {m N : ℕ} {x : Memory} {e t : ℕ} {es vs : List ℕ} {last : Block} 
 
   -- the copy is number n, and its entry d
   module _ (n : ℕ) {d : ℕ} (packed : Packed d (keyOf book (made n)) t) where
-    word-is : (k : ℕ) → suc b ≡ suc k → found .number ≡ number (lastWord book (made n) k)
+    word-is : (k : ℕ) → suc b ≡ suc k → found .first .number ≡ number (lastWord book (made n) k)
     unfolding candidateOf lastWord
     word-is k q =
         let same : b ≡ k = omega arith in
-        ap (λ (y : Candidate). y .number) (c .is) ∙ c .made ∙ ap (λ (i : ℕ). number (lastWord book (made n) i)) same
+        ap (λ (y : Candidate). y .number) (c .is .first) ∙ c .made ∙ ap (λ (i : ℕ). number (lastWord book (made n) i)) same
 
     -- what its entry and its row hold
-    fork-made : Made book (made n) d t (cell (x .rows) (slotAt e) 10) (found .cost) (found .number) (cell (x .rows) (slotAt e) 13) (found .parities)
+    fork-made : Made book (made n) d t (cell (x .rows) (slotAt e) 10) (found .first .cost) (found .first .number) (cell (x .rows) (slotAt e) 13) (found .first .parities)
     unfolding candidateOf
     fork-made =
         record {
@@ -125,14 +153,14 @@ module _ {m N : ℕ} {x : Memory} {e t : ℕ} {es vs : List ℕ} {last : Block} 
           cost = cost-is;
           word = word-is;
           earlier = row .earlier;
-          parities = ap (λ (y : Candidate). y .parities) (c .is);
+          parities = ap (λ (y : Candidate). y .parities) (c .is .first);
         }
 
     -- ---- the row written
 
     pub fork-written : {rows₁ rows₂ : List ℕ} (holders′ : List ℕ) → Lent m N x → Copied m (slotAt e) t (x .rows) rows₁ →
         MoreBy (m + 1) (x .rows) (slotAt e) (x .holders) holders′ →
-        PutRow t rows₁ rows₂ (cell (x .rows) (slotAt e) 10) (found .cost) (found .number) (cell (x .rows) (slotAt e) 13) (found .parities) →
+        PutRow t rows₁ rows₂ (cell (x .rows) (slotAt e) 10) (found .first .cost) (found .first .number) (cell (x .rows) (slotAt e) 13) (found .first .parities) →
         Written n d (memory rows₂ holders′ (x .numbers) (x .bytes))
     fork-written {rows₁} holders′ l copied more put =
         let copied′ : Copied (book .m) (slotAt e) t (x .rows) rows₁ = subst (λ (k : ℕ). Copied k (slotAt e) t (x .rows) rows₁) (sym (c .hand .deep)) copied in
@@ -193,12 +221,26 @@ module _ {m N : ℕ} {x : Memory} {e t : ℕ} {es vs : List ℕ} {last : Block} 
         (subst (λ (j : ℕ). Taken z (c .hand .rest) j (place book b)) (o .height)
         (subst (λ (h : ℕ). Taken z (c .hand .rest) (last .height) h) (o .word) (taken st only turned)))
 
-    -- no word is kept for it, and those of the others are as they were
-    pub fork-kepts : {old new : List ℕ} → OneKept t old new → keptCell new t 0 ≡ 0 → Kepts book (c .hand .arrays) old es (c .hand .rest) →
+    -- ---- the word kept for it
+
+    -- its own word is the one it is made with
+    own-is : (ids : ℕ → ℕ) → c .word ≡ ownWord book (withIds (made n) ids) b
+    unfolding ownWord lastWord withIds
+    own-is ids = ap (λ (k : ℕ). record { setting = c .word .setting; parities = c .word .parities; cost = c .word .cost; number = k }) (c .made)
+
+    -- the values go along where they would be lost, so that its next word is the same
+    after-is : (qs : List Path) → let v = claimed qs (blockAt book b .j) (place book b) in after ≡ nextOf book (v .arrays) (withIds (made n) (v .ids)) b
+    unfolding withIds
+    after-is qs =
+        let v : View = claimed qs (blockAt book b .j) (place book b) in
+        ap₂ (λ (w : Word) (l : List ℤ). nextAfter w book l (path .earlier) b) (own-is (v .ids)) (sym (claim-own (path .ids ∷ idsOf qs) (place book b) (viewOf (c .hand .arrays) path) (blockAt book b .j)))
+
+    -- the word that is kept for it, if one is, is its next; those of the others are as they were
+    pub fork-kepts : {old new : List ℕ} → OneKept t old new → Keeps new t (candidateOf book after) → Kepts book (c .hand .arrays) old es (c .hand .rest) →
         let k = copyWith book N (c .hand .arrays) path b (c .hand .rest) n (some (c .word)) in
         Kepts book (k .arrays) new (insert keyAt d es) (k .queue)
-    unfolding copyWith roomFor keyOf scoreOf Keeps All Distinct withIds
-    fork-kepts {old} {new} one none kept =
+    unfolding copyWith roomFor keyOf scoreOf All Distinct withIds
+    fork-kepts {old} {new} one keeps kept =
         let A : Arrays = c .hand .arrays in
         let qs : List Path = c .hand .rest in
         let room : qs ≡ roomFor N qs = sym (take-all (N - 2) qs (omega (arith, c .room))) in
@@ -206,8 +248,14 @@ module _ {m N : ℕ} {x : Memory} {e t : ℕ} {es vs : List ℕ} {last : Block} 
         let apart : All (λ (s : ℕ). t ≢ s) slots = all-front (λ (s : ℕ). t ≢ s) slots vs (distinct-forward slots t vs (c .hand .stands .apart) .0) in
         let v : View = claimed qs (blockAt book b .j) (place book b) in
         let same : Kept (path .ids ∷ idsOf qs) A (v .arrays) = claim-kept (path .ids ∷ idsOf qs) (place book b) (viewOf A path) (blockAt book b .j) in
+        let Next : ℕ → ℕ → Type 0 = λ s k. Keeps new s (candidateOf book (nextOf book (v .arrays) (withIds (made n) (v .ids)) k)) in
         let own : KeptFor book (v .arrays) new d (withIds (made n) (v .ids)) =
-        record { key = packed .key; next = λ k q l. absurd (omega (arith, none, ap (λ (s : ℕ). keptCell new s 0) (packed .slot))) } in
+        record {
+          key = packed .key;
+          next = λ k q.
+              let same-block : b ≡ k = omega arith in
+              subst (Next (slotAt d)) same-block (subst (λ (s : ℕ). Next s b) (sym (packed .slot)) (subst (λ (o : Option Word). Keeps new t (candidateOf book o)) (after-is qs) keeps));
+        } in
         subst (λ (ps : List Path). let w = claimed ps (blockAt book b .j) (place book b) in Kepts book (w .arrays) new (insert keyAt d es) (insert (keyOf book) (withIds (made n) (w .ids)) ps)) room
         (kepts-insert book new (v .arrays) d (withIds (made n) (v .ids)) es qs own (kepts-frame book new A (v .arrays) es qs (same .1) (kepts-other book A one es qs (apart .1) kept)))
 

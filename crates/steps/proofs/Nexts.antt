@@ -18,9 +18,10 @@ use Rattle.codebook.specs.Book.{Book, blockAt}
 use Rattle.machine.specs.Queue.{numbers, roomFor, crowdedOut}
 use Rattle.runs.proofs.Order.{insert-length}
 use Rattle.outer.specs.declared.Candidate.{Candidate}
+use Rattle.outer.specs.declared.Next.{Next}
 use Rattle.outer.specs.Search.{Searchable}
 use Rattle.outer.specs.Words.{Word, nextAfter}
-use Rattle.outer.specs.Blocks.{BlockTabled, candidateOf}
+use Rattle.outer.specs.Blocks.{BlockTabled, candidateOf, Nexts}
 use Rattle.outer.proofs.Entries.{block-low, block-walkable}
 use Rattle.reader.specs.Arrays.{valsOf}
 use Rattle.reader.specs.Paths.{Path, keyOf, ownWord, viewOf}
@@ -63,9 +64,12 @@ module _ {m N : ℕ} {x : Memory} {e : ℕ} {es vs kinds terms : List ℕ} {last
   abbrev rest : List Path
   rest = c .hand .rest
 
-  -- the next word, as the reader finds it
-  abbrev pub next : Option Word
-  next = nextAfter (ownWord book path b) book (valsOf (viewOf (c .hand .arrays) path) (blockAt book b .j)) (path .earlier) b
+  -- the values that it sees of its last block, and the next word, as the reader finds it
+  abbrev pub seen : List ℤ
+  seen = valsOf (viewOf (c .hand .arrays) path) (blockAt book b .j)
+
+  abbrev next : Option Word
+  next = nextAfter (ownWord book path b) book seen (path .earlier) b
 
   -- ---- what the search needs
 
@@ -120,12 +124,17 @@ module _ {m N : ℕ} {x : Memory} {e : ℕ} {es vs kinds terms : List ℕ} {last
 
   -- ---- what it answers
 
-  pub copy-found : {found : Candidate} →
-      (let w = candidateOf book (nextAfter (ownWord book path b) book (part (spot m (idAt (x .rows) (slotAt e) (last .height)) (last .height)) (2 ^ last .height) (x .numbers)) (path .earlier) b) in
-      Keeps kept (slotAt e) w → found ≡ w) → found ≡ candidateOf book next
+  -- the answer `found`, at the block's values vs
+  abbrev pub Answers : Next → List ℤ → Type 0
+  Answers found vs = Nexts book vs (path .earlier) b (nextAfter (ownWord book path b) book vs (path .earlier) b) found
+
+  pub copy-found : {found : Next} →
+      (let vs = part (spot m (idAt (x .rows) (slotAt e) (last .height)) (last .height)) (2 ^ last .height) (x .numbers) in
+      Keeps kept (slotAt e) (candidateOf book (nextAfter (ownWord book path b) book vs (path .earlier) b)) → Answers found vs) →
+      Answers found seen
   unfolding Paired
   copy-found {found} q =
-      let Found : List ℤ → Type 0 = λ vs. let w = candidateOf book (nextAfter (ownWord book path b) book vs (path .earlier) b) in Keeps kept (slotAt e) w → found ≡ w in
+      let Found : List ℤ → Type 0 = λ vs. Keeps kept (slotAt e) (candidateOf book (nextAfter (ownWord book path b) book vs (path .earlier) b)) → Answers found vs in
       subst Found values-are q (c .known .0 .next b (c .own .blocks))
 
   -- ---- the words kept, of the paths queued
@@ -150,15 +159,15 @@ module _ {m N : ℕ} {x : Memory} {e : ℕ} {es vs kinds terms : List ℕ} {last
   -- ---- a next word, the queue cut
 
   -- so many are left, and t is the first vacant slot
-  module _ {found : Candidate} (is : found ≡ candidateOf book next) (there : found .some ≡ true) {y : Memory} {left t : ℕ} {qs ws : List ℕ}
+  module _ {found : Next} (is : Answers found seen) (there : found .first .some ≡ true) {y : Memory} {left t : ℕ} {qs ws : List ℕ}
       (count : left ≡ length (roomFor N rest)) (room : left + 2 ≤ N)
       (st : Stands book N y (e ∷ qs) (t ∷ ws) (c .hand .arrays) (path ∷ roomFor N rest)) where
     word : Word
-    word = some-word book next found is there .0
+    word = some-word book next (found .first) (is .first) there .0
 
     word-is : next ≡ some word
     unfolding word
-    word-is = some-word book next found is there .1
+    word-is = some-word book next (found .first) (is .first) there .1
 
     -- what the copy needs
     pub copy-fork : Forking m N y e t qs ws last found b
@@ -168,8 +177,8 @@ module _ {m N : ℕ} {x : Memory} {e : ℕ} {es vs kinds terms : List ℕ} {last
           valid = c .booked .valid;
           own = record { blocks = c .own .blocks; block = c .own .block; fit = c .own .fit };
           word = word;
-          is = is ∙ ap (candidateOf book) word-is;
-          made = next-number book (valsOf (viewOf (c .hand .arrays) path) (blockAt book b .j)) (path .earlier) b word (ownWord book path b) word-is;
+          is = subst (λ (o : Option Word). Nexts book seen (path .earlier) b o found) word-is is;
+          made = next-number book seen (path .earlier) b word (ownWord book path b) word-is;
           total = c .total word word-is;
           room = omega (arith, count, room);
         }

@@ -11,9 +11,9 @@ use Rattle.codebook.specs.Book.{Book, startOf, blockAt}
 use Rattle.codebook.specs.Limits.{Valid}
 use Rattle.codec.specs.Tabled.{Tabled}
 use Rattle.codec.specs.Ties.{fillBlock}
-use Rattle.outer.specs.declared.Candidate.{Candidate}
+use Rattle.outer.specs.declared.Next.{Next}
 use Rattle.outer.specs.Words.{Word, nextAfter}
-use Rattle.outer.specs.Blocks.{candidateOf}
+use Rattle.outer.specs.Blocks.{Nexts}
 use Rattle.reader.specs.Arrays.{Arrays, View, valsOf}
 use Rattle.reader.specs.Paths.{Path, ownWord, place, idsOf, viewOf}
 use Rattle.reader.specs.Reader.{Cut, commit}
@@ -48,13 +48,13 @@ committed h = commit (h .book) (idsOf (h .rest)) (h .taken) (h .taken .blocks) (
 
 -- ---- the copy
 
--- another word of the last block, for a copy in the vacant slot t; there is room for it
-pub record Forking (m N : ℕ) (x : Memory) (e t : ℕ) (es vs : List ℕ) (last : Block) (found : Candidate) (b : ℕ) : Type 0 where
+-- another word of the last block, for a copy in the vacant slot t, and where it is known the next after it; there is room for the copy
+pub record Forking (m N : ℕ) (x : Memory) (e t : ℕ) (es vs : List ℕ) (last : Block) (found : Next) (b : ℕ) : Type 0 where
   pub hand : InHand m N x e es (t ∷ vs)
   pub valid : Valid (hand .book)
   pub own : Last hand last b
   pub word : Word
-  pub is : found ≡ candidateOf (hand .book) (some word)
+  pub is : Nexts (hand .book) (valsOf (viewOf (hand .arrays) (hand .taken)) (blockAt (hand .book) b .j)) (hand .taken .earlier) b (some word) found
   pub made : word .number ≡ number (transform (blockAt (hand .book) b .j) (fillBlock (hand .book) (hand .taken .earlier) b (word .setting) .bits))
   pub total : hand .taken .spent + word .cost ≤ 1048064
   pub room : length (hand .rest) + 2 ≤ N

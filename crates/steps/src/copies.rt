@@ -17,16 +17,16 @@ use crate::crowding::crowd;
 use order::entries::entry;
 use order::entries::slot_of;
 use order::moves::insert;
-use outer::Candidate;
+use outer::Next;
 use sharing::holders::share;
 use views::view::claim;
 use words::Block;
-use words::kept::forget;
+use words::kept::keep_known;
 use words::other_word;
 use words::put;
 use words::score;
 
-// A copy of the path of entry e, with the word found, in the slot `to`; it is inserted. No word is kept for it.
+// A copy of the path of entry e, with the word found, in the slot `to`; it is inserted. The next word after that one is kept for it, where it is known.
 fn fork(
     rows: &mut [u32; 4096],
     holders: &mut [u16; 2580],
@@ -39,7 +39,7 @@ fn fork(
     e: u64,
     to: usize,
     last: Block,
-    found: Candidate,
+    found: Next,
     queued: usize,
     blocks: u32,
     number: u32,
@@ -57,13 +57,21 @@ fn fork(
     ensures { λ _. ⌜ Rising (now (order .exit)) (suc queued) ⌝ }
 {
     let slot = slot_of(e);
-    let cost = found.cost;
+    let cost = found.first.cost;
     let bias = last.bias;
     let spent = rows[slot * 16 + 10];
     let earlier = rows[slot * 16 + 13];
     let d = entry(score(spent, cost, bias), blocks, number, to);
     share(rows, holders, m, slot, to);
-    put(rows, to, spent, cost, found.number, earlier, found.parities);
+    put(
+        rows,
+        to,
+        spent,
+        cost,
+        found.first.number,
+        earlier,
+        found.first.parities,
+    );
     claim(
         rows,
         holders,
@@ -76,7 +84,8 @@ fn fork(
         last.place,
     );
     insert(order, queued, d);
-    forget(kept, to);
+    let next = found.second;
+    keep_known(kept, to, next, found.known);
 }
 
 // The tally once the queue is cut to `left` paths and a copy is queued.
@@ -145,7 +154,7 @@ pub fn copy(
         sets,
         sums,
     );
-    if !found.some {
+    if !found.first.some {
         return t;
     }
     let left = crowd(rows, holders, order, vacant, m, paths, queued);

@@ -1,10 +1,12 @@
 // The words kept: for a slot, the next word of its path's last block. A table of four numbers a slot holds them; specs/Kept.antt says how. Relies on no other
 // file.
 ghost use mathlib.Core.Path.{_≡_};
+ghost use mathlib.Core.Bool.{true};
 ghost use Prim.Native.Nat.{_-_, _/_, _%_, _<_};
 ghost use lib.Dec.{eqb};
 ghost use lib.ListN.{length};
-ghost use Rattle.words.specs.Kept.{keptCell, keptAt, OneKept};
+ghost use Rattle.words.specs.Kept.{keptCell, keptAt, Keeps, OneKept};
+ghost use Rattle.outer.specs.declared.Candidate.{Candidate};
 use outer::Candidate;
 
 // What cell 0 of a slot holds where this word is kept.
@@ -32,11 +34,23 @@ pub fn keep(kept: &mut [u32; 1024], slot: usize, word: Candidate)
 }
 
 // Keeps no word for the path in a slot.
-pub fn forget(kept: &mut [u32; 1024], slot: usize)
+fn forget(kept: &mut [u32; 1024], slot: usize)
     requires { ⌜ (length (now kept) ≡ 1024) × (slot < 256) ⌝ }
     ensures { λ _. ⌜ OneKept slot (now (kept .entry)) (now (kept .exit)) × (keptCell (now (kept .exit)) slot 0 ≡ 0) ⌝ }
 {
     kept[slot * 4] = 0;
+}
+
+// Keeps a word for the path in a slot where it is known, else none.
+pub fn keep_known(kept: &mut [u32; 1024], slot: usize, word: Candidate, known: bool)
+    requires { ⌜ (length (now kept) ≡ 1024) × (slot < 256) × (known ≡ true → word .setting < 1073741824) ⌝ }
+    ensures { λ _. ⌜ OneKept slot (now (kept .entry)) (now (kept .exit)) × ((c : Candidate) → (known ≡ true → word ≡ c) → Keeps (now (kept .exit)) slot c) ⌝ }
+{
+    if known {
+        keep(kept, slot, word);
+    } else {
+        forget(kept, slot);
+    }
 }
 
 // The word kept in a slot that keeps one.

@@ -8,7 +8,7 @@ ghost use Rattle.polar.specs.Layers.{part, Within};
 ghost use Rattle.codebook.specs.Book.{Book};
 ghost use Rattle.codec.specs.Ties.{Parities};
 ghost use Rattle.outer.specs.Search.{Scratch, Searchable};
-ghost use Rattle.outer.specs.Blocks.{paritySet, Bits, BlockTabled, candidateOf};
+ghost use Rattle.outer.specs.Blocks.{paritySet, Bits, BlockTabled, candidateOf, Nexts};
 ghost use Rattle.outer.specs.Words as W;
 ghost use Rattle.outer.specs.Words.{Word};
 ghost use Rattle.reader.specs.Paths.{Path, ownWord};
@@ -20,7 +20,7 @@ ghost use Rattle.words.specs.Kept.{Keeps};
 use crate::kept::recall;
 use heights::arrays::spot_of;
 use order::entries::slot_of;
-use outer::Candidate;
+use outer::Next;
 use outer::Pair;
 use search::find::nearest_pair;
 use search::find::next_after;
@@ -106,7 +106,7 @@ pub fn nearest_words(
     )
 }
 
-// The next word of the last block of the path in a slot.
+// The next word of the last block of the path in a slot and, where that is known too, the next after it.
 pub fn next_word(
     rows: &[u32; 4096],
     numbers: &[i32],
@@ -118,14 +118,15 @@ pub fn next_word(
     words: &mut [u32; 256],
     sets: &mut [u32; 256],
     sums: &mut [u32; 128],
-) -> Candidate
+) -> Next
     requires { ⌜ (length (now rows) ≡ 4096) × (slot < 256) × (m ≤ 9) × (last .height ≤ m) × Id 256 (idAt (now rows) slot (last .height)) ⌝ }
     requires { ⌜ Searchable (now numbers) (spot m (idAt (now rows) slot (last .height)) (last .height)) (now kinds) (last .start) (last .height) ⌝ }
     requires { ⌜ Scratch (now words) (now sets) (now sums) × (cell (now rows) slot 11 < 4294967295) ⌝ }
     ensures { λ _. ⌜ Scratch (now (words .exit)) (now (sets .exit)) (now (sums .exit)) ⌝ }
     ensures { λ r. ⌜ ((B : Book) (b : ℕ) (p : Path) → BlockTabled B b (now (kinds .entry)) (now (terms .entry)) (last .start) (last .height)
         → Bits (p .earlier) → Row B (now (rows .entry)) slot p → p .blocks ≡ suc b
-        → r ≡ candidateOf B (W.nextAfter (ownWord B p b) B (part (spot m (idAt (now (rows .entry)) slot (last .height)) (last .height)) (2 ^ (last .height)) (now (numbers .entry))) (p .earlier) b)) ⌝ }
+        → (let vs = part (spot m (idAt (now (rows .entry)) slot (last .height)) (last .height)) (2 ^ (last .height)) (now (numbers .entry)) in
+        Nexts B vs (p .earlier) b (W.nextAfter (ownWord B p b) B vs (p .earlier) b) r)) ⌝ }
 {
     let j = last.height;
     let start = last.start;
@@ -150,7 +151,7 @@ pub fn next_word(
     )
 }
 
-// The next word of the last block of the path of entry e: the word kept in its slot, if one is, else by a search.
+// The same of the path of entry e: the word kept in its slot alone, if one is, else by a search.
 pub fn other_word(
     rows: &[u32; 4096],
     numbers: &[i32],
@@ -163,19 +164,25 @@ pub fn other_word(
     words: &mut [u32; 256],
     sets: &mut [u32; 256],
     sums: &mut [u32; 128],
-) -> Candidate
+) -> Next
     requires { ⌜ (length (now rows) ≡ 4096) × (m ≤ 9) × (last .height ≤ m) × Id 256 (idAt (now rows) (slotAt e) (last .height)) × (length (now kept) ≡ 1024) ⌝ }
     requires { ⌜ Searchable (now numbers) (spot m (idAt (now rows) (slotAt e) (last .height)) (last .height)) (now kinds) (last .start) (last .height) ⌝ }
     requires { ⌜ Scratch (now words) (now sets) (now sums) × (cell (now rows) (slotAt e) 11 < 4294967295) ⌝ }
     ensures { λ _. ⌜ Scratch (now (words .exit)) (now (sets .exit)) (now (sums .exit)) ⌝ }
     ensures { λ r. ⌜ ((B : Book) (b : ℕ) (p : Path) → BlockTabled B b (now (kinds .entry)) (now (terms .entry)) (last .start) (last .height)
         → Bits (p .earlier) → Row B (now (rows .entry)) (slotAt e) p → p .blocks ≡ suc b
-        → (let next = W.nextAfter (ownWord B p b) B (part (spot m (idAt (now (rows .entry)) (slotAt e) (last .height)) (last .height)) (2 ^ (last .height)) (now (numbers .entry))) (p .earlier) b in
-        Keeps (now (kept .entry)) (slotAt e) (candidateOf B next) → r ≡ candidateOf B next)) ⌝ }
+        → (let vs = part (spot m (idAt (now (rows .entry)) (slotAt e) (last .height)) (last .height)) (2 ^ (last .height)) (now (numbers .entry)) in
+        let next = W.nextAfter (ownWord B p b) B vs (p .earlier) b in
+        Keeps (now (kept .entry)) (slotAt e) (candidateOf B next) → Nexts B vs (p .earlier) b next r)) ⌝ }
 {
     let slot = slot_of(e);
     if kept[slot * 4] != 0 {
-        return recall(kept, slot);
+        let first = recall(kept, slot);
+        return Next {
+            first,
+            second: first,
+            known: false,
+        };
     }
     next_word(
         rows,

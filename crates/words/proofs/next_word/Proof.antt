@@ -1,12 +1,12 @@
 -- `words::next_word` meets its contract: the id, the parities before the last block, and that block's cost and word are those of the row, and
 -- the values lie where `spot_of` says. Assumes nothing.
-use mathlib.Core.Path.{sym, ap, _∙_}
-use Prim.Native.Nat.{_+_, _*_, _^_}
+use mathlib.Core.Path.{sym, subst}
+use Prim.Native.Nat.{ℕ, _+_, _*_, _^_}
 use native.Mathlib.Omega.{arith}
 use lib.ListN.{getD}
 use borrow.Author.Needs.{needs}
 use Rattle.polar.specs.Layers.{part}
-use Rattle.outer.specs.Blocks.{candidateOf}
+use Rattle.outer.specs.Blocks.{Nexts}
 use Rattle.outer.specs.Words.{nextAfter}
 use Rattle.reader.specs.Paths.{ownWord}
 use Rattle.sharing.specs.Sharing.{idAt}
@@ -90,8 +90,8 @@ returns c =
     let j = a .last .height in (
       c .next-after .ensures .0,
       λ B b p o h r e.
-          c .next-after .ensures .1 B b (p .earlier) (ownWord B p b) o h (r .earlier) (sym (r .cost)) (sym (r .word b e))
-          ∙ ap (λ n. candidateOf B (nextAfter (ownWord B p b) B (part n (2 ^ j) (a .numbers .now)) (p .earlier) b)) (c .before .before .before .before .before .before .before .spot-of .ensures),
+          let At : ℕ → Type 0 = λ n. let vs = part n (2 ^ j) (a .numbers .now) in Nexts B vs (p .earlier) b (nextAfter (ownWord B p b) B vs (p .earlier) b) (c .next-after .result) in
+          subst At (c .before .before .before .before .before .before .before .spot-of .ensures) (c .next-after .ensures .1 B b (p .earlier) (ownWord B p b) o h (r .earlier) (sym (r .cost)) (sym (r .word b e))),
     )
 
 pub next-word-spec : {M : Type 1} → statement M

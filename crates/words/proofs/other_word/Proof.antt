@@ -1,6 +1,7 @@
 -- `words::other_word` meets its contract: a word kept in the path's slot is its next one, where that is said of it; else the search answers. Assumes
 -- nothing.
 use mathlib.Core.Path.{ap, _∙_, subst}
+use mathlib.Core.Bool.{false≢true}
 use Prim.Native.Nat.{ℕ, _<_}
 use native.Mathlib.Omega.{arith}
 use Rattle.words.specs.Kept.{keptCell, keptAt, Keeps}
@@ -34,8 +35,10 @@ returns c =
     let s = t .before in
     let l = s .args .kept .now in
     let f = t .slot-of .ensures .0 in
-    let some : 0 < keptCell l (t .slot-of .result) 0 = omega (arith, c .before .if1 .taken, first-cell l (t .slot-of .result)) in
-    (s .pre .1 .1 .0, λ B b p o bits row q k. c .recall .ensures ∙ ap (keptAt l) f ∙ k (subst (λ (i : ℕ). 0 < keptCell l i 0) f some))
+    let some : 0 < keptCell l (t .slot-of .result) 0 = omega (arith, c .before .if1 .taken, first-cell l (t .slot-of .result)) in (
+      s .pre .1 .1 .0,
+      λ B b p o bits row q k. record { first = c .recall .ensures ∙ ap (keptAt l) f ∙ k (subst (λ (i : ℕ). 0 < keptCell l i 0) f some); second = λ known. absurd (false≢true known) },
+    )
 
 next-word-requires : tie.Need-next-word-requires
 next-word-requires c κs =

@@ -2,17 +2,15 @@
 -- nothing.
 use native.Mathlib.Omega.{arith}
 use borrow.Author.Needs.{needs}
-use Rattle.outer.specs.Search.{keyOf}
-use Rattle.passes.proofs.LeastTwo.{key-lt, far}
+use Rattle.passes.proofs.LeastTwo.{costly}
 use Rattle.passes.proofs.least_two.sift.Statement.{statement}
 use Rattle.passes.proofs.least_two.sift.Tie as tie
 
 returns : tie.Need-returns
-unfolding keyOf
 returns c = λ k t e.
     let s = c .before .before .before in
     let a = s .args in
-    far k (a .bound) (a .setting) (a .two) t (key-lt (s .pre) (s .fits .number .fits) e) (omega (arith, c .if2 .taken))
+    costly k (a .bound) (a .setting) (a .two) t (s .pre) (s .fits .number .fits) e (omega (arith, c .if2 .taken))
 
 among-requires : tie.Need-among-requires
 among-requires c κs = search needs

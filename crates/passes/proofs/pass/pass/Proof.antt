@@ -10,13 +10,29 @@ two-each-requires c κs = search needs
 returns : tie.Need-returns
 returns c = search needs
 
-two-turned-requires : tie.Need-two-turned-requires
-two-turned-requires c κs =
-    let h = c .before .pre in
-    (h .0, h .1, h .2, omega (arith, c .if1 .left), h .3 (λ e. omega (arith, c .if1 .left)))
+many-turned-requires : tie.Need-many-turned-requires
+many-turned-requires c κs =
+    let h = c .before .before .pre in
+    (h .0, h .1, h .2, omega (arith, c .before .if1 .left), h .3 (c .before .if1 .left))
 
 returns-2 : tie.Need-returns-2
 returns-2 c = search needs
 
+few-turned-requires : tie.Need-few-turned-requires
+few-turned-requires c κs =
+    let h = c .before .before .pre in
+    (h .0, h .1, h .2, omega (arith, c .before .if1 .left), h .3 (c .before .if1 .left))
+
+returns-3 : tie.Need-returns-3
+returns-3 c = search needs
+
 pub pass-spec : {M : Type 1} → statement M
-pass-spec = tie.close (tie.spec two-each-requires returns two-turned-requires returns-2)
+pass-spec =
+    tie.close
+    (tie.spec
+    two-each-requires
+    returns
+    many-turned-requires
+    returns-2
+    few-turned-requires
+    returns-3)

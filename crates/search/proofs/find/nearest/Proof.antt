@@ -14,12 +14,12 @@ search-requires c κs = search needs
 
 returns : tie.Need-returns
 returns c =
-    let s = c .before .before .before .before in
+    let s = c .before .before .before .before .before in
     let a = s .args in
     let l = part (a .at) (2 ^ a .j) (a .numbers .now) in (
-      c .search .ensures .0,
+      c .before .search .ensures .0,
       λ B b x o h e.
-          c .search .ensures .1
+          c .before .search .ensures .1 .0
           ∙ ap (λ p. found (a .kinds .now) (a .terms .now) (a .start) p (2 ^ a .j) l 0) e
           ∙ found-nearest B b (a .kinds .now) (a .terms .now) (a .start) (a .j) o x h l (part-length (a .at) (2 ^ a .j) (a .numbers .now) (s .pre .0 .within)),
     )

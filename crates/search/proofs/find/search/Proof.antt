@@ -1,12 +1,13 @@
 -- `search::find::search` meets its contract: the directions span the entries, and where all 8 indices are free every byte is a word. Assumes nothing.
 use mathlib.Core.Path.{_≡_, refl, sym, ap, _∙_}
+use mathlib.Core.Bool.{false≢true}
 use Prim.Native.Nat.{ℕ, _^_, _≤_}
 use native.Mathlib.Omega.{arith}
 use borrow.Author.Needs.{needs}
 use Rattle.outer.specs.Search.{settings, entry}
 use Rattle.tables.proofs.Advance.{few-free}
 use Rattle.tables.proofs.Bounds.{entry-word}
-use Rattle.search.proofs.Cases.{all-bytes, found-among}
+use Rattle.search.proofs.Cases.{all-bytes, found-among, after-passed}
 use Rattle.search.proofs.find.search.Statement.{statement}
 use Rattle.search.proofs.find.search.Tie as tie
 
@@ -40,9 +41,12 @@ returns c =
     let f : w .result ≡ 8 = omega (arith, few (c .before .before .before .before .before), c .before .before .before .if2 .taken) in
     let m : 256 ≡ settings (a .kinds .now) (a .start) 8 = sym (ap (λ (i : ℕ). 2 ^ i) f) ∙ w .ensures .2 ∙ ap (settings (a .kinds .now) (a .start)) q in (
       record { words-size = s .pre .1 .words-size; sets-size = r .ensures .0; sums-size = s .pre .1 .sums-size },
-      r .ensures .1 (entry (a .kinds .now) (a .terms .now) (a .start) (a .parities) 8)
-          (all-bytes (a .kinds .now) (a .terms .now) (a .start) (a .parities) n (w .result) _ _ q (w .ensures .2) (w .ensures .3) f)
-          ∙ found-among (a .kinds .now) (a .terms .now) (a .start) (a .parities) (a .at) (a .j) 8 256 (a .numbers .now) e m (a .bound),
+      (
+        r .ensures .1 (entry (a .kinds .now) (a .terms .now) (a .start) (a .parities) 8)
+            (all-bytes (a .kinds .now) (a .terms .now) (a .start) (a .parities) n (w .result) _ _ q (w .ensures .2) (w .ensures .3) f)
+            ∙ found-among (a .kinds .now) (a .terms .now) (a .start) (a .parities) (a .at) (a .j) 8 256 (a .numbers .now) e m (a .bound),
+        λ k. absurd (false≢true k),
+      ),
     )
 
 find-two-requires : tie.Need-find-two-requires
@@ -54,16 +58,17 @@ find-two-requires c κs =
 
 returns-2 : tie.Need-returns-2
 returns-2 c =
-    let s = c .before .before .before .before .before .before .before .before .before .before .before in
+    let s = c .before .before .before .before .before .before .before .before .before .before .before .before in
     let a = s .args in
-    let t = c .before .find-two in
-    let w = c .before .before .before .before .before .before .before .walk in
-    let p = c .before .before .before .before .before .before .before .before .before .before .power in
+    let t = c .before .before .find-two in
+    let w = c .before .before .before .before .before .before .before .before .walk in
+    let p = c .before .before .before .before .before .before .before .before .before .before .before .power in
     let x = entry (a .kinds .now) (a .terms .now) (a .start) (a .parities) (p .result) in
-    let short : p .result ≤ 32 = rw (p .ensures) (s .pre .0 .walk .short) in (
+    let short : p .result ≤ 32 = rw (p .ensures) (s .pre .0 .walk .short) in
+    let both = t .ensures .1 x (w .ensures .3) (entry-word (a .kinds .now) (a .terms .now) (a .start) (a .parities) (p .result) short) in
+    let first = both .0 ∙ found-among (a .kinds .now) (a .terms .now) (a .start) (a .parities) (a .at) (a .j) (p .result) (2 ^ w .result) (a .numbers .now) (p .ensures) (w .ensures .2) (a .bound) in (
       record { words-size = t .ensures .0 .0; sets-size = s .pre .1 .sets-size; sums-size = t .ensures .0 .1 },
-      t .ensures .1 x (w .ensures .3) (entry-word (a .kinds .now) (a .terms .now) (a .start) (a .parities) (p .result) short) .0
-          ∙ found-among (a .kinds .now) (a .terms .now) (a .start) (a .parities) (a .at) (a .j) (p .result) (2 ^ w .result) (a .numbers .now) (p .ensures) (w .ensures .2) (a .bound),
+      (first, λ k. after-passed (a .kinds .now) (a .terms .now) (a .start) (a .parities) (a .at) (a .j) (p .result) (2 ^ w .result) (a .numbers .now) (p .ensures) (w .ensures .2) (a .bound) _ _ (both .0) (both .1)),
     )
 
 pub search-spec : {M : Type 1} → statement M

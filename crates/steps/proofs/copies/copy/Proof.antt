@@ -10,7 +10,6 @@ use borrow.Author.Needs.{needs}
 use lib.ListN.{length, getD}
 use borrow.Author.Tests.{not-true, not-false}
 use Rattle.machine.specs.Queue.{roomFor}
-use Rattle.outer.specs.Blocks.{candidateOf}
 use Rattle.reader.specs.Reader as R
 use Rattle.order.specs.Entries.{queueOf, Rising}
 use Rattle.order.proofs.Queues.{queue-first, queue-length}
@@ -20,7 +19,7 @@ use Rattle.standing.proofs.Taken.{taken-row}
 use Rattle.words.specs.Kept.{Kepts}
 use Rattle.steps.specs.Steps.{Forking, Copying}
 use Rattle.steps.proofs.Forks.{fork-apart}
-use Rattle.steps.proofs.Nexts.{next, copy-tabled, copy-low, copy-id, copy-searchable, copy-cost, copy-found, copy-none, copy-fork, copy-done}
+use Rattle.steps.proofs.Nexts.{Answers, seen, copy-tabled, copy-low, copy-id, copy-searchable, copy-cost, copy-found, copy-none, copy-fork, copy-done}
 use Rattle.steps.proofs.copies.copy.Statement.{statement}
 use Rattle.steps.proofs.copies.copy.Tie as tie
 
@@ -52,14 +51,14 @@ same-length c = search needs
 abbrev start : tie.After-other-word → tie.Start
 start c = c .before .before .before .before .before .before .before .before
 
-found-is : (c : tie.After-other-word) (b : ℕ) (o : Copy (start c) b) → c .other-word .result ≡ candidateOf (o .hand .book) (next o)
+found-is : (c : tie.After-other-word) (b : ℕ) (o : Copy (start c) b) → Answers o (c .other-word .result) (seen o)
 unfolding memory
 found-is c b o =
     copy-found o
     (c .other-word .ensures .1 (o .hand .book) b (o .hand .taken) (copy-tabled o) (o .own .fit .earlier) (taken-row (o .hand .stands)) (o .own .blocks))
 
 -- what the test tells
-none-there : (c : tie.Then1) → c .before .before .other-word .result .some ≡ false
+none-there : (c : tie.Then1) → c .before .before .other-word .result .first .some ≡ false
 none-there c = not-true _ (c .if1 .taken)
 
 returns : tie.Need-returns
@@ -72,7 +71,7 @@ returns c =
         (refl, refl, s .pre .1 .0 .2),
         (
           λ b o q.
-              let k = copy-none o (s .args .t .next) (s .args .t .crowded) (found-is t b o) (none-there c) in
+              let k = copy-none o (s .args .t .next) (s .args .t .crowded) (found-is t b o .first) (none-there c) in
               (sym (queue-length (s .args .t .queued) (s .args .order .now)) ∙ k .0, k .1, k .2, k .3, k .4),
           s .pre .1 .1 .1,
         ),
@@ -103,7 +102,7 @@ element-copy-out-to : tie.Need-element-copy-out-to
 unfolding memory
 element-copy-out-to c = let s = start (searched c) in omega (arith, c .crowd .ensures .0 .4, s .pre .0 .0 .many)
 
-some-there : (c : tie.After-crowd) → searched c .other-word .result .some ≡ true
+some-there : (c : tie.After-crowd) → searched c .other-word .result .first .some ≡ true
 some-there c = not-false _ (c .before .before .before .before .before .if1 .left)
 
 -- the copy's slot is the top vacant one

@@ -17,7 +17,7 @@ use Rattle.sharing.specs.Sharing.{Copied, MoreBy}
 use Rattle.standing.specs.Seen.{Memory, memory, Lent}
 use Rattle.standing.specs.Standing.{cell, PutRow}
 use Rattle.steps.specs.Steps.{Forking}
-use Rattle.steps.proofs.Forks.{fork-blocks, fork-total, fork-bias, made, fork-entry, Written, fork-written, fork-viewed, fork-queued, fork-kepts, fork-shareable, fork-apart, fork-place}
+use Rattle.steps.proofs.Forks.{fork-blocks, fork-total, fork-bias, made, fork-entry, Written, fork-written, fork-viewed, fork-queued, fork-kepts, fork-known, fork-few, fork-shareable, fork-apart, fork-place}
 use Rattle.steps.proofs.copies.fork.Statement.{statement}
 use Rattle.steps.proofs.copies.fork.Tie as tie
 
@@ -93,11 +93,11 @@ entry-requires c κs =
 
 -- the score and the entry, for any state
 score-is : (c : tie.After-score) →
-    back (c .score .result) ≡ negℤ (pos (cell-of (c .before) 10 + start (c .before) .args .found .cost)) -ℤ start (c .before) .args .last .bias
+    back (c .score .result) ≡ negℤ (pos (cell-of (c .before) 10 + start (c .before) .args .found .first .cost)) -ℤ start (c .before) .args .last .bias
 score-is c =
     let a = start (c .before) .args in
     score-back c ∙ c .score .ensures .0
-    ∙ ap₂ (λ (n : ℕ) (z : ℤ). negℤ (pos (n + a .found .cost)) -ℤ z) (read (c .before) 10) (bias-back (c .before))
+    ∙ ap₂ (λ (n : ℕ) (z : ℤ). negℤ (pos (n + a .found .first .cost)) -ℤ z) (read (c .before) 10) (bias-back (c .before))
 
 packed : (c : tie.After-entry) (b : ℕ) (vs : List ℕ) (o : Fork (start (c .before .before)) b vs) → start (c .before .before) .args .blocks ≡ suc b →
     Packed (c .entry .result) (keyOf (o .hand .book) (made o (start (c .before .before) .args .number))) (start (c .before .before) .args .to)
@@ -163,7 +163,7 @@ copied-in c b vs o q =
     let more : MoreBy (a .m + 1) (a .rows .now) (slotAt (a .e)) (a .holders .now) holders =
     subst (λ (i : ℕ). MoreBy (a .m + 1) (a .rows .now) i (a .holders .now) holders) (slot-is t) (f .1 .1) in
     let slot = t .before .before .before .slot-of .result in
-    let Put : ℕ → ℕ → Type 0 = λ p r. PutRow (a .to) rows (c .put .last .0) p (a .found .cost) (a .found .number) r (a .found .parities) in
+    let Put : ℕ → ℕ → Type 0 = λ p r. PutRow (a .to) rows (c .put .last .0) p (a .found .first .cost) (a .found .first .number) r (a .found .first .parities) in
     let put : Put (cell-of t 10) (cell-of t 13) =
     subst (λ (n : ℕ). Put (cell-of t 10) n) (read t 13) (subst (λ (n : ℕ). Put n (getD (a .rows .now) (slot * 16 + 13) 0)) (read t 10) (c .put .ensures)) in
     fork-written o (a .number) (entry-is c b vs o q) holders (start t .pre .0 .0) copied more put
@@ -186,25 +186,25 @@ insert-requires c κs =
 same-length : tie.Need-same-length
 same-length c = search needs
 
-forget-requires : tie.Need-forget-requires
+keep-known-requires : tie.Need-keep-known-requires
 unfolding memory
-forget-requires c κs =
-    let s = start (began (c .before .before .before .before .before .before .before .before)) in
-    (s .pre .0 .4, fork-apart (own s) .1)
+keep-known-requires c κs =
+    let s = start (began (c .before .before .before .before .before .before .before .before .before)) in
+    (s .pre .0 .4, fork-apart (own s) .1, fork-few (own s))
 
 returns : tie.Need-returns
 unfolding memory
 returns c =
-    let i = c .before .before in
+    let i = c .before .before .before in
     let f = i .before .before .before .claim in
     let u = i .before .before .before .before .before .before .before in
     let s = start (began u) in
-    let g = c .forget .ensures in (
+    let g = c .keep-known .ensures in (
       (f .ensures .0 .0, i .insert .ensures .0 .0, g .0 .size ∙ s .pre .0 .4),
       (
         λ b vs o q. (
           rw (i .insert .ensures .0 .1) (fork-queued o (s .args .number) (entry-is u b vs o q) (copied-in u b vs o q) (f .ensures .0 .1) (f .ensures .1)),
-          λ k. rw (i .insert .ensures .0 .1) (fork-kepts o (s .args .number) (entry-is u b vs o q) (g .0) (g .1) k),
+          λ k. rw (i .insert .ensures .0 .1) (fork-kepts o (s .args .number) (entry-is u b vs o q) (g .0) (g .1 _ (fork-known o)) k),
         ),
         i .insert .ensures .1,
       ),
@@ -229,6 +229,6 @@ fork-spec =
     put-requires
     claim-requires
     insert-requires
-    forget-requires
+    keep-known-requires
     same-length
     returns)
