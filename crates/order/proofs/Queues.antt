@@ -16,7 +16,7 @@ use Rattle.laws.specs.Lists.{keep}
 use Rattle.laws.proofs.Tests.{and-left, and-right, lt-or}
 use Rattle.laws.proofs.Stores.{Stored, stored-more}
 use Rattle.machine.specs.Queue.{insert, ahead}
-use Rattle.order.specs.Entries.{keyAt, queueOf, Rising}
+use Rattle.order.specs.Entries.{keyAt, queueOf, Rising, Moved}
 use Rattle.order.proofs.Digits.{before-entries}
 
 -- arrays that agree below n
@@ -61,24 +61,18 @@ rising-none l i j h b = absurd (omega arith)
 
 -- ---- insert
 
--- the entries from `at` on have moved up by one, and e comes before none of them
-pub record Moved (old new : List ℕ) (e at queued : ℕ) : Type 0 where
-  pub size : length new ≡ length old
-  pub low : (k : ℕ) → k < at → getD new k 0 ≡ getD old k 0
-  pub high : (k : ℕ) → at ≤ k → k < queued → getD new (suc k) 0 ≡ getD old k 0
-  pub above : (k : ℕ) → at ≤ k → k < queued → e / 256 ≤ getD old k 0 / 256
-
 pub moved-none : (l : List ℕ) (e queued : ℕ) → Moved l l e queued queued
-moved-none l e queued = record { size = refl; low = λ k h. refl; high = λ k h j. absurd (omega arith); above = λ k h j. absurd (omega arith) }
+moved-none l e queued = record { size = refl; low = λ k h. refl; high = λ k h j. absurd (omega arith); above = λ k h j. absurd (omega arith); rest = λ k h. refl }
 
-pub moved-more : {old new : List ℕ} {e at queued : ℕ} (m : ℕ) → Moved old new e at queued → at ≡ suc m → at < length old → e / 256 ≤ getD new m 0 / 256 →
+pub moved-more : {old new : List ℕ} {e at queued : ℕ} (m : ℕ) → Moved old new e at queued → at ≡ suc m → at ≤ queued → at < length old → e / 256 ≤ getD new m 0 / 256 →
     Moved old (set new at (getD new m 0)) e m queued
-moved-more {old} {new} {e} {at} {queued} m s q b g =
+moved-more {old} {new} {e} {at} {queued} m s q t b g =
     record {
       size = length-set new at v ∙ s .size;
       low = λ k h. getD-set-other new at k v 0 (λ p. omega arith) ∙ s .low k (omega arith);
       high = λ k h j. high k (lt-or m k) h j;
       above = λ k h j. above k (lt-or m k) h j;
+      rest = λ k h. getD-set-other new at k v 0 (λ p. omega arith) ∙ s .rest k h;
     }
   where
     v : ℕ
@@ -96,6 +90,31 @@ moved-more {old} {new} {e} {at} {queued} m s q b g =
     above : (k : ℕ) → (m < k) ⊎ (k ≤ m) → m ≤ k → k < queued → e / 256 ≤ getD old k 0 / 256
     above k (inl l) h j = s .above k (omega arith) j
     above k (inr l) h j = let p : m ≡ k = omega arith in omega (arith, s .low m (omega arith), ap (λ i. getD old i 0) p)
+
+-- the same where e does not come before an entry i that is no higher
+pub moved-next : {old new : List ℕ} {e at queued : ℕ} (i m : ℕ) → Rising old queued → e / 256 ≤ getD old i 0 / 256 → Moved old new e at queued → at ≡ suc m → at ≤ queued →
+    at < length old → i ≤ m → Moved old (set new at (getD new m 0)) e m queued
+unfolding Rising
+moved-next i m r g s q a b h = moved-more m s q a b (omega (arith, s .low m (omega arith), r i m h (omega arith)))
+
+-- first those from `at` on, then those from m on
+pub moved-then : {old mid new : List ℕ} {e at m queued : ℕ} → m ≤ at → at ≤ queued → Moved old mid e at queued → Moved mid new e m at → Moved old new e m queued
+moved-then {old} {mid} {new} {e} {at} {m} {queued} h a s t =
+    record {
+      size = t .size ∙ s .size;
+      low = λ k l. t .low k l ∙ s .low k (omega arith);
+      high = λ k l j. high k (lt-or k at) l j;
+      above = λ k l j. above k (lt-or k at) l j;
+      rest = λ k l. t .rest k (omega arith) ∙ s .rest k l;
+    }
+  where
+    high : (k : ℕ) → (k < at) ⊎ (at ≤ k) → m ≤ k → k < queued → getD new (suc k) 0 ≡ getD old k 0
+    high k (inl b) l j = t .high k l b ∙ s .low k b
+    high k (inr b) l j = t .rest (suc k) (omega arith) ∙ s .high k b j
+
+    above : (k : ℕ) → (k < at) ⊎ (at ≤ k) → m ≤ k → k < queued → e / 256 ≤ getD old k 0 / 256
+    above k (inl b) l j = omega (arith, t .above k l b, s .low k b)
+    above k (inr b) l j = s .above k b j
 
 -- what the test of a turn says where it passes
 pub test-passed : (k x y : ℕ) → (ltb 0 k && leb x y) ≡ true → (0 < k) × (x ≤ y)

@@ -4,7 +4,7 @@
 use mathlib.Core.Path.{_≡_}
 use mathlib.Core.List.{List, [], _∷_}
 use Prim.Native.Nat.{ℕ, zero, suc, _-_, _/_, _%_, _≤_, _<_}
-use lib.ListN.{getD}
+use lib.ListN.{length, getD}
 use lib.IntN.{pos, _-ℤ_}
 use Rattle.machine.specs.Queue.{Key}
 
@@ -29,3 +29,11 @@ queueOf order (suc n) = getD order n 0 ∷ queueOf order n
 -- the first n entries never fall, but for their slots: the queue's order, first path last
 unfoldable pub Rising : List ℕ → ℕ → Type 0
 Rising order n = (i j : ℕ) → i ≤ j → j < n → getD order i 0 / 256 ≤ getD order j 0 / 256
+
+-- on the way of an insertion: the entries from `at` on, of those queued, have moved up by one, and e comes before none of them
+pub record Moved (old new : List ℕ) (e at queued : ℕ) : Type 0 where
+  pub size : length new ≡ length old
+  pub low : (k : ℕ) → k < at → getD new k 0 ≡ getD old k 0
+  pub high : (k : ℕ) → at ≤ k → k < queued → getD new (suc k) 0 ≡ getD old k 0
+  pub above : (k : ℕ) → at ≤ k → k < queued → e / 256 ≤ getD old k 0 / 256
+  pub rest : (k : ℕ) → queued < k → getD new k 0 ≡ getD old k 0
