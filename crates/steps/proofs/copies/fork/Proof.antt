@@ -189,8 +189,9 @@ same-length c = search needs
 keep-known-requires : tie.Need-keep-known-requires
 unfolding memory
 keep-known-requires c κs =
-    let s = start (began (c .before .before .before .before .before .before .before .before .before)) in
-    (s .pre .0 .4, fork-apart (own s) .1, fork-few (own s))
+    let t = began (c .before .before .before .before .before .before .before .before .before) in
+    let s = start t in
+    (s .pre .0 .4, omega (arith, fork-apart (own s) .1, t .before .before .before .slot-of .ensures .1), fork-few (own s))
 
 returns : tie.Need-returns
 unfolding memory
