@@ -1,6 +1,7 @@
 -- A copy with another word of the last block: what its entry and its row hold, and what memory stands for once it shares the arrays of the path in
 -- hand, has one of its own where its word will go, and is queued. Each is a law of crates/standing for that change of memory; the reader's own cut
--- of the queue leaves it whole, since there is room. Assumes nothing.
+-- of the queue leaves it whole, since there is room. And the next word after its own, where that is known, is the one to keep for it: the copy sees
+-- the values that the search went by. Assumes nothing.
 use mathlib.Core.Path.{_≡_, refl, sym, ap, ap₂, _∙_, subst}
 use mathlib.Core.Bool.{true}
 use mathlib.Core.List.{List, [], _∷_, map}
