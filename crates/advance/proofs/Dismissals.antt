@@ -19,7 +19,7 @@ use Rattle.standing.specs.Seen.{Memory, memory}
 use Rattle.standing.specs.Standing.{Stands}
 use Rattle.standing.proofs.Sizes.{stands-length}
 use Rattle.standing.proofs.Places.{stands-forward}
-use Rattle.standing.proofs.Leaving.{stands-held, stands-remove}
+use Rattle.standing.proofs.Leaving.{stands-slot, stands-held, stands-remove}
 use Rattle.advance.proofs.Sides.{ahead-in, ahead-out, behind-in, behind-out, sides-none}
 use Rattle.steps.proofs.Tails.{Ending, ending, topOf, top-length, top-none, top-all, top-last}
 
@@ -90,6 +90,10 @@ module _ {B : Book} {N : ℕ} {x : Memory} {order vs : List ℕ} {A : Arrays} {p
   blocks : keyAt e .blocks ≡ keyOf B (last .one) .blocks
   unfolding Paired
   blocks = ap (λ (k : Key). k .blocks) (stands-forward xs e es (last .before) (last .one) stayed level apart .queue .0 .key)
+
+  -- its slot is one of the first N
+  pub next-slot : slotAt (getD order i 0) < N
+  next-slot = stands-slot xs e es (last .before) (last .one) stayed level apart
 
   -- each id of its row is one of the N, or none, and held
   pub next-held : (h : ℕ) → h ≤ B .m →

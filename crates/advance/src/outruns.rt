@@ -7,7 +7,7 @@ ghost use lib.ListN.{length, getD};
 ghost use Rattle.machine.specs.Queue.{ahead, behind, staying, outrunBy, visit};
 ghost use Rattle.reader.specs.Paths.{keyOf};
 ghost use Rattle.order.specs.Entries.{keyAt, queueOf, Rising};
-ghost use Rattle.sharing.specs.Sharing.{Held, Sizes};
+ghost use Rattle.sharing.specs.Sharing.{Held, Rows};
 ghost use Rattle.standing.specs.Seen.{memory};
 ghost use Rattle.standing.specs.Standing.{Stands};
 ghost use Rattle.steps.specs.Steps.{Queued};
@@ -20,7 +20,7 @@ use steps::Tally;
 
 // The queued paths with b blocks or fewer let go of their arrays and their slots; returns how many they are. Their entries stay in the order.
 fn dismiss(
-    rows: &[u32; 4096],
+    rows: &[u32],
     holders: &mut [u16; 2580],
     order: &[u64; 256],
     vacant: &mut [u8; 256],
@@ -29,7 +29,7 @@ fn dismiss(
     queued: usize,
     b: u32,
 ) -> usize
-    requires { ⌜ Sizes (now rows) (now holders) × (length (now order) ≡ 256) × (length (now vacant) ≡ 256) × (m ≤ 9) × (paths ≤ 256) × (queued ≤ paths) ⌝ }
+    requires { ⌜ Rows paths (now rows) × Held (now holders) × (length (now order) ≡ 256) × (length (now vacant) ≡ 256) × (m ≤ 9) × (paths ≤ 256) × (queued ≤ paths) ⌝ }
     requires { ⌜ ((numbers : List ℤ) × (bytes : List ℕ) × Queued m paths (memory (now rows) (now holders) numbers bytes) (queueOf (now order) queued) (queueOf (now vacant) (paths - queued))) ⌝ }
     ensures { λ r. ⌜ Held (now (holders .exit)) × (length (now (vacant .exit)) ≡ 256) × (r ≤ queued) ⌝ }
     ensures { λ r. ⌜ ((numbers : List ℤ) (bytes : List ℕ)
@@ -55,7 +55,7 @@ fn dismiss(
 
 // The visit to block b: the number of paths queued then, and the count.
 pub fn outrun(
-    rows: &[u32; 4096],
+    rows: &[u32],
     holders: &mut [u16; 2580],
     order: &mut [u64; 256],
     vacant: &mut [u8; 256],
@@ -64,7 +64,7 @@ pub fn outrun(
     t: Tally,
     b: usize,
 ) -> Tally
-    requires { ⌜ Sizes (now rows) (now holders) × (length (now order) ≡ 256) × (length (now vacant) ≡ 256) × (length (now visits) ≡ 512) × (s .m ≤ 9) ⌝ }
+    requires { ⌜ Rows (s .paths) (now rows) × Held (now holders) × (length (now order) ≡ 256) × (length (now vacant) ≡ 256) × (length (now visits) ≡ 512) × (s .m ≤ 9) ⌝ }
     requires { ⌜ (s .paths ≤ 256) × (t .queued ≤ s .paths) × (b < 512) × (getD (now visits) b 0 < 65536) × (t .outrun < 16777216) ⌝ }
     requires { ⌜ ((numbers : List ℤ) × (bytes : List ℕ) × Queued (s .m) (s .paths) (memory (now rows) (now holders) numbers bytes) (queueOf (now order) (t .queued)) (queueOf (now vacant) (s .paths - t .queued))) ⌝ }
     requires { ⌜ Rising (now order) (t .queued) ⌝ }

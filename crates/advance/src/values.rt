@@ -17,7 +17,7 @@ use words::Block;
 
 // What the path of entry e sees of its next block, `at`, after its last one.
 pub fn calculate(
-    rows: &mut [u32; 4096],
+    rows: &mut [u32],
     holders: &mut [u16; 2580],
     numbers: &mut [i32],
     bytes: &mut [u8],

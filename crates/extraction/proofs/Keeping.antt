@@ -5,15 +5,14 @@ use mathlib.Core.Path.{_≡_, refl, sym, ap, ap₂, _∙_, subst}
 use mathlib.Core.Bool.{_&&_, _||_}
 use mathlib.Core.List.{List, map}
 use mathlib.Core.Logic.{_≢_}
-use mathlib.Core.Option.{Option, none, some}
-use Prim.Native.Nat.{ℕ, _^_, _≤_, _<_}
+use mathlib.Core.Option.{Option}
+use Prim.Native.Nat.{ℕ, _<_}
 use native.Mathlib.Omega.{arith}
-use lib.Pow.{pow-mono}
 use lib.Dec.{ltb, eqb}
 use lib.IntN.{ℤ}
 use Rattle.laws.specs.Lists.{All, Distinct}
 use Rattle.laws.proofs.Lists.{all-front}
-use Rattle.codebook.specs.Book.{Book, freeCount, blockAt, kindsOf}
+use Rattle.codebook.specs.Book.{Book, blockAt}
 use Rattle.codec.specs.Ties.{Parities}
 use Rattle.machine.specs.Queue.{insert}
 use Rattle.outer.specs.declared.Candidate.{Candidate}
@@ -22,13 +21,13 @@ use Rattle.outer.specs.Blocks.{candidateOf}
 use Rattle.reader.specs.Arrays.{valsOf}
 use Rattle.reader.specs.Paths.{Path, keyOf, lastWord, ownWord, idsOf}
 use Rattle.reader.specs.Reader.{moveWith, move}
-use Rattle.reader.proofs.Found.{nearest-number, next-few}
+use Rattle.reader.proofs.Found.{nearest-number}
 use Rattle.reader.proofs.Step.{next-kept}
 use Rattle.order.specs.Entries.{keyAt, slotAt, Packed}
 use Rattle.standing.specs.Seen.{Memory}
 use Rattle.words.specs.declared.Block.{Block}
 use Rattle.words.specs.Kept.{keptAt, Keeps, OneKept, KeptFor, Kepts}
-use Rattle.words.proofs.Kepts.{kepts-other, kepts-frame, kepts-insert}
+use Rattle.words.proofs.Kepts.{next-small, kepts-other, kepts-frame, kepts-insert}
 use Rattle.extraction.specs.Extraction.{Thirding}
 use Rattle.extraction.proofs.Moves.{view, moved}
 
@@ -66,16 +65,7 @@ module _ {m N : ℕ} {x : Memory} {e : ℕ} {es vs kinds terms : List ℕ} {last
     second-is = is ∙ ap (candidateOf book) (same-next (c .word) (ownWord book (moved c) b) book values (path .parities) b refl own-number)
 
     pub third-few : second .setting < 1073741824
-    unfolding candidateOf
-    third-few = go (nextAfter (c .word) book values (path .parities) b) refl
-      where
-        top : 2 ^ freeCount (kindsOf book b) ≤ 2 ^ 8
-        top = pow-mono (c .booked .valid .blocks b (c .moving .next .within) .light)
-
-        go : (o : Option Word) → nextAfter (c .word) book values (path .parities) b ≡ o → second .setting < 1073741824
-        go none q = omega (arith, ap (λ (k : Candidate). k .setting) (is ∙ ap (candidateOf book) q))
-        go (some y) q =
-            omega (arith, top, next-few book values (path .parities) b y (c .word) q, ap (λ (k : Candidate). k .setting) (is ∙ ap (candidateOf book) q))
+    third-few = next-small book values (path .parities) b (c .word) (c .booked .valid .blocks b (c .moving .next .within) .light) is
 
     -- kept for the entry d that the path is queued with, and the others' words
     pub third-kept : {d : ℕ} {new : List ℕ} → Packed d (keyOf book (moved c)) (slotAt e) → OneKept (slotAt e) kept new → keptAt new (slotAt e) ≡ second →

@@ -10,7 +10,7 @@ ghost use Rattle.reader.specs.Paths.{keyOf};
 ghost use Rattle.order.specs.Entries.{queueOf, Rising};
 ghost use Rattle.standing.specs.Seen.{memory, Lent};
 ghost use Rattle.standing.specs.Standing.{Stands};
-ghost use Rattle.words.specs.Kept.{Kepts};
+ghost use Rattle.words.specs.Kept.{Cells, Kepts};
 ghost use Rattle.steps.specs.Steps.{CopiedTo};
 ghost use Rattle.extraction.specs.Extraction.{Seconding, Thirding, Extracting};
 use advance::outruns::outrun;
@@ -31,7 +31,7 @@ use words::score;
 
 // Step 2 for a path with so many blocks; the empty path has no copy.
 fn second(
-    rows: &mut [u32; 4096],
+    rows: &mut [u32],
     holders: &mut [u16; 2580],
     order: &mut [u64; 256],
     vacant: &mut [u8; 256],
@@ -43,18 +43,18 @@ fn second(
     t: Tally,
     e: u64,
     last: Block,
-    kept: &mut [u32; 1024],
+    kept: &mut [u32],
     words: &mut [u32; 256],
     sets: &mut [u32; 256],
     sums: &mut [u32; 128],
 ) -> Tally
-    requires { ⌜ Lent (s .m) (s .paths) (memory (now rows) (now holders) (now numbers) (now bytes)) × (length (now order) ≡ 256) × (length (now vacant) ≡ 256) × (length (now kept) ≡ 1024) ⌝ }
+    requires { ⌜ Lent (s .m) (s .paths) (memory (now rows) (now holders) (now numbers) (now bytes)) × (length (now order) ≡ 256) × (length (now vacant) ≡ 256) × Cells (s .paths) (now kept) ⌝ }
     requires { ⌜ Scratch (now words) (now sets) (now sums) × (2 ≤ s .paths) × (t .queued + 1 ≤ s .paths) × (t .next < 32768) × (t .crowded < 65536) ⌝ }
     requires { ⌜ Seconding (s .m) (s .paths) (memory (now rows) (now holders) (now numbers) (now bytes)) e (queueOf (now order) (t .queued))
         (queueOf (now vacant) (s .paths - (t .queued + 1))) (now kinds) (now terms) last (now kept) ⌝ }
     requires { ⌜ Rising (now order) (t .queued) ⌝ }
     ensures { λ _. ⌜ Lent (s .m) (s .paths) (memory (now (rows .exit)) (now (holders .exit)) (now (numbers .exit)) (now (bytes .entry)))
-        × (length (now (order .exit)) ≡ 256) × (length (now (vacant .exit)) ≡ 256) × (length (now (kept .exit)) ≡ 1024) × Scratch (now (words .exit)) (now (sets .exit)) (now (sums .exit)) ⌝ }
+        × (length (now (order .exit)) ≡ 256) × (length (now (vacant .exit)) ≡ 256) × Cells (s .paths) (now (kept .exit)) × Scratch (now (words .exit)) (now (sets .exit)) (now (sums .exit)) ⌝ }
     ensures { λ r. ⌜ (r .extractions ≡ t .extractions) × (r .outrun ≡ t .outrun) × (r .queued + 1 ≤ s .paths) ⌝ }
     ensures { λ r. ⌜ ((c : Seconding (s .m) (s .paths) (memory (now (rows .entry)) (now (holders .entry)) (now (numbers .entry)) (now (bytes .entry))) e (queueOf (now (order .entry)) (t .queued))
         (queueOf (now (vacant .entry)) (s .paths - (t .queued + 1))) (now (kinds .entry)) (now (terms .entry)) last (now (kept .entry)))
@@ -90,7 +90,7 @@ fn second(
 
 // Step 3: the path's next block, with its nearest word; it is queued again. The next word after that one is kept for it.
 fn third(
-    rows: &mut [u32; 4096],
+    rows: &mut [u32],
     holders: &mut [u16; 2580],
     order: &mut [u64; 256],
     numbers: &mut [i32],
@@ -103,16 +103,16 @@ fn third(
     e: u64,
     last: Block,
     at: Block,
-    kept: &mut [u32; 1024],
+    kept: &mut [u32],
     words: &mut [u32; 256],
     sets: &mut [u32; 256],
     sums: &mut [u32; 128],
 )
-    requires { ⌜ Lent m paths (memory (now rows) (now holders) (now numbers) (now bytes)) × (length (now order) ≡ 256) × (queued + 1 ≤ paths) × (length (now kept) ≡ 1024) × Scratch (now words) (now sets) (now sums) ⌝ }
+    requires { ⌜ Lent m paths (memory (now rows) (now holders) (now numbers) (now bytes)) × (length (now order) ≡ 256) × (queued + 1 ≤ paths) × Cells paths (now kept) × Scratch (now words) (now sets) (now sums) ⌝ }
     requires { ⌜ ((vs : List ℕ) × Thirding m paths (memory (now rows) (now holders) (now numbers) (now bytes)) e (queueOf (now order) queued) vs (now kinds) (now terms) last at (now kept)) ⌝ }
     requires { ⌜ Rising (now order) queued ⌝ }
     ensures { λ _. ⌜ Lent m paths (memory (now (rows .exit)) (now (holders .exit)) (now (numbers .exit)) (now (bytes .exit)))
-        × (length (now (order .exit)) ≡ 256) × (length (now (kept .exit)) ≡ 1024) × Scratch (now (words .exit)) (now (sets .exit)) (now (sums .exit)) ⌝ }
+        × (length (now (order .exit)) ≡ 256) × Cells paths (now (kept .exit)) × Scratch (now (words .exit)) (now (sets .exit)) (now (sums .exit)) ⌝ }
     ensures { λ _. ⌜ ((vs : List ℕ) (c : Thirding m paths (memory (now (rows .entry)) (now (holders .entry)) (now (numbers .entry)) (now (bytes .entry))) e (queueOf (now (order .entry)) queued) vs (now (kinds .entry)) (now (terms .entry)) last at (now (kept .entry)))
         → (let h = c .moving .hand in let k = R.move (h .book) (h .arrays) (h .taken) (h .rest) in
         Stands (h .book) paths (memory (now (rows .exit)) (now (holders .exit)) (now (numbers .exit)) (now (bytes .exit))) (queueOf (now (order .exit)) (suc queued)) vs
@@ -149,7 +149,7 @@ fn third(
 
 // Steps 2 to 4 for the path of entry e, which is no longer queued.
 pub fn extract(
-    rows: &mut [u32; 4096],
+    rows: &mut [u32],
     holders: &mut [u16; 2580],
     order: &mut [u64; 256],
     vacant: &mut [u8; 256],
@@ -163,19 +163,19 @@ pub fn extract(
     e: u64,
     last: Block,
     at: Block,
-    kept: &mut [u32; 1024],
+    kept: &mut [u32],
     words: &mut [u32; 256],
     sets: &mut [u32; 256],
     sums: &mut [u32; 128],
 ) -> Tally
-    requires { ⌜ Lent (s .m) (s .paths) (memory (now rows) (now holders) (now numbers) (now bytes)) × (length (now order) ≡ 256) × (length (now vacant) ≡ 256) × (length (now visits) ≡ 512) × (length (now kept) ≡ 1024) ⌝ }
+    requires { ⌜ Lent (s .m) (s .paths) (memory (now rows) (now holders) (now numbers) (now bytes)) × (length (now order) ≡ 256) × (length (now vacant) ≡ 256) × (length (now visits) ≡ 512) × Cells (s .paths) (now kept) ⌝ }
     requires { ⌜ Scratch (now words) (now sets) (now sums) × (2 ≤ s .paths) × (t .queued + 1 ≤ s .paths) × (t .next < 32768) × (t .crowded < 65536) × (t .outrun < 16777216) ⌝ }
     requires { ⌜ ((b : ℕ) → getD (now visits) b 0 < 65536) ⌝ }
     requires { ⌜ Extracting (s .m) (s .paths) (memory (now rows) (now holders) (now numbers) (now bytes)) e (queueOf (now order) (t .queued))
         (queueOf (now vacant) (s .paths - (t .queued + 1))) (now kinds) (now terms) last at (now kept) ⌝ }
     requires { ⌜ Rising (now order) (t .queued) ⌝ }
     ensures { λ _. ⌜ Lent (s .m) (s .paths) (memory (now (rows .exit)) (now (holders .exit)) (now (numbers .exit)) (now (bytes .exit)))
-        × (length (now (order .exit)) ≡ 256) × (length (now (vacant .exit)) ≡ 256) × (length (now (visits .exit)) ≡ 512) × (length (now (kept .exit)) ≡ 1024) × Scratch (now (words .exit)) (now (sets .exit)) (now (sums .exit)) ⌝ }
+        × (length (now (order .exit)) ≡ 256) × (length (now (vacant .exit)) ≡ 256) × (length (now (visits .exit)) ≡ 512) × Cells (s .paths) (now (kept .exit)) × Scratch (now (words .exit)) (now (sets .exit)) (now (sums .exit)) ⌝ }
     ensures { λ r. ⌜ (r .extractions ≡ t .extractions) × (r .queued ≤ s .paths) ⌝ }
     ensures { λ r. ⌜ ((c : Extracting (s .m) (s .paths) (memory (now (rows .entry)) (now (holders .entry)) (now (numbers .entry)) (now (bytes .entry))) e (queueOf (now (order .entry)) (t .queued))
         (queueOf (now (vacant .entry)) (s .paths - (t .queued + 1))) (now (kinds .entry)) (now (terms .entry)) last at (now (kept .entry)))

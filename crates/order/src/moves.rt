@@ -20,7 +20,7 @@ fn above(order: &[u64; 256], k: usize, e: u64) -> bool
     order[k - 1] >= e / 256 * 256
 }
 
-// Whether there are four entries just below place k and e comes before none of them, by the last of the four.
+// Whether there are four entries just below place k and e comes before none of them, as the lowest of the four tells.
 fn four_above(order: &[u64; 256], k: usize, e: u64) -> bool
     requires { ⌜ k ≤ 256 ⌝ }
     ensures { λ r. ⌜ (r ≡ true → (4 ≤ k) × (e / 256 ≤ getD (now (order .entry)) (k - 4) 0 / 256)) ⌝ }
@@ -31,7 +31,7 @@ fn four_above(order: &[u64; 256], k: usize, e: u64) -> bool
     above(order, k - 3, e)
 }
 
-// Entries above e go up by one, four at a time, the last first, while there are four. Returns the place below which none has moved.
+// Entries above e go up by one, four at a time, the highest first, while there are four. Returns the place below which none has moved.
 fn raise(order: &mut [u64; 256], queued: usize, e: u64) -> usize
     requires { ⌜ (length (now order) ≡ 256) × (queued < 256) ⌝ }
     requires { ⌜ Rising (now order) queued ⌝ }
@@ -48,7 +48,7 @@ fn raise(order: &mut [u64; 256], queued: usize, e: u64) -> usize
     k
 }
 
-// Puts an entry into its place among the `queued` entries: those above it go up by one, the last first.
+// Puts an entry into its place among the `queued` entries: those above it go up by one, the highest first.
 pub fn insert(order: &mut [u64; 256], queued: usize, e: u64)
     requires { ⌜ (length (now order) ≡ 256) × (queued < 256) ⌝ }
     requires { ⌜ Rising (now order) queued ⌝ }

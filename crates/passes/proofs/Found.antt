@@ -1,6 +1,7 @@
 -- What the pass over a block's words finds are the words of least keys: its keys are those of the entries, and a key holds the cost and the
 -- number of its word. Assumes nothing.
 use mathlib.Core.Path.{_≡_, refl, ap, _∙_}
+use mathlib.Core.Bool.{true, false≢true}
 use mathlib.Core.List.{List}
 use mathlib.Core.Option.{Option, none, some}
 use Prim.Native.Nat.{ℕ, zero, suc, _+_, _/_, _%_, _≤_, _<_}
@@ -56,7 +57,14 @@ module _ (words ds sets sums : List ℕ) (free count runs : ℕ) (e : ℕ → En
         × (chosen sets free (two .second) (two .next) ≡ answer e vs (afterFirst (settingKey e vs) bound count))
     answers = (first, second)
 
--- the second word from the bound 0 on is the first after the first word's key
+-- the second word found is the first after the first word's key, where there is a first
+pub after-some : (e : ℕ → Entry) (vs : List ℤ) (n : ℕ) (o : Option ℕ) → answer e vs o .some ≡ true
+    → answer e vs (above (settingKey e vs) n o) ≡ answer e vs (leastFrom (settingKey e vs) (keyOf (answer e vs o .cost) (answer e vs o .number) + 1) n)
+unfolding above answer settingKey
+after-some e vs n none q = absurd (false≢true q)
+after-some e vs n (some w) q = refl
+
+-- from the bound 0 on there is one, unless there are no words
 pub after-answer : (e : ℕ → Entry) (vs : List ℤ) (n : ℕ)
     → let a = answer e vs (leastFrom (settingKey e vs) 0 n) in
     answer e vs (afterFirst (settingKey e vs) 0 n) ≡ answer e vs (leastFrom (settingKey e vs) (keyOf (a .cost) (a .number) + 1) n)
@@ -69,4 +77,4 @@ after-answer e vs n = go n (leastFrom k 0 n) (least-chosen k 0 n)
     go : (m : ℕ) (o : Option ℕ) → Chosen k 0 m o → answer e vs (above k m o) ≡ answer e vs (leastFrom k (keyOf (answer e vs o .cost) (answer e vs o .number) + 1) m)
     go zero none h = refl
     go (suc m) none h = absurd (omega (arith, h 0 (omega arith)))
-    go m (some w) h = refl
+    go m (some w) h = after-some e vs m (some w) refl

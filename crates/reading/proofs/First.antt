@@ -7,13 +7,13 @@ use mathlib.Core.Logic.{_≢_}
 use Prim.Native.Nat.{ℕ, zero, suc, _+_, _-_, _*_, _^_, _≤_, _<_}
 use native.Mathlib.Decide.{ℕ-discrete}
 use native.Mathlib.Omega.{arith}
-use lib.ListN.{length, getD, set, replicate, length-replicate}
+use lib.ListN.{length, getD, set}
 use lib.IntN.{ℤ}
 use lib.Dec.{eqb, ltb}
 use lib.Seq.{getD-set-other}
 use borrow.Author.Tests.{eq-eqb, ne-eqb, lt-ltb}
 use Rattle.laws.specs.Lists.{All, Distinct}
-use Rattle.laws.proofs.Lists.{all-map, getD-zeros}
+use Rattle.laws.proofs.Lists.{all-map}
 use Rattle.laws.specs.Pairs.{Paired}
 use Rattle.laws.proofs.Sets.{set-none}
 use Rattle.polar.specs.Layers.{part}
@@ -25,7 +25,7 @@ use Rattle.reader.specs.Paths.{keyOf, firstPath}
 use Rattle.reader.proofs.Upd.{upd-same, upd-other}
 use Rattle.order.specs.Entries.{Packed, queueOf}
 use Rattle.order.proofs.Queues.{queue-length}
-use Rattle.sharing.specs.Sharing.{idAt, heldAt, one, HasIds, Counted}
+use Rattle.sharing.specs.Sharing.{idAt, heldAt, one, Rows, HasIds, Counted}
 use Rattle.heights.specs.Workspace.{spot, Parts}
 use Rattle.standing.specs.Seen.{memory}
 use Rattle.standing.specs.Standing.{cell, Row, Stands}
@@ -116,21 +116,22 @@ module _ (B : Book) where
 
 module _ (B : Book) (m N : ℕ) (ok : Valid B) (deep : B .m ≡ m) (some : 1 ≤ N) (most : N ≤ 256) (rows holders vacant : List ℕ) where
   -- row 0, once 1 was stored into zeros
-  row-stored : (old : List ℕ) → Zeros old → length old ≡ 4096 → rows ≡ set old m 1 → Row B rows 0 (firstPath B)
+  row-stored : (old : List ℕ) → Zeros old → Rows 1 old → rows ≡ set old m 1 → Row B rows 0 (firstPath B)
   row-stored old none size is =
       subst (λ (l : List ℕ). Row B l 0 (firstPath B)) (sym (is ∙ ap (λ k. set old k 1) (sym deep))) (first-row B ok old none (omega (arith, ok .high)))
 
-  pub first-stands : rows ≡ set (replicate 4096 0) m 1 → ((h i : ℕ) → h ≤ 9 → i ≤ 256 → heldAt holders h i ≡ firstHeld m h i) →
+  pub first-stands : (old : List ℕ) → Zeros old → Rows 1 old → rows ≡ set old m 1 → ((h i : ℕ) → h ≤ 9 → i ≤ 256 → heldAt holders h i ≡ firstHeld m h i) →
       ((k : ℕ) → k + 1 < N → getD vacant k 0 ≡ k + 1) → (e : ℕ) → Packed e (keyOf B (firstPath B)) 0 → (numbers : List ℤ) (bytes : List ℕ) →
       Stands B N (memory rows holders numbers bytes) (e ∷ []) (queueOf vacant (N - 1)) (arraysOf m numbers bytes) (firstPath B ∷ [])
   unfolding memory Paired All Distinct Counted Parts arraysOf
-  first-stands is held free e p numbers bytes =
+  first-stands old none size is held free e p numbers bytes =
       let count : Counting vacant (N - 1) = λ k l. free k (omega arith) in
-      let row = row-stored (replicate 4096 0) (getD-zeros 4096) (length-replicate {A = ℕ} 4096 0) is in
+      let row = row-stored old none size is in
       let range = counting-range (N - 1) vacant count in
       record {
         queue = (record { key = p .key; small = p .low; row = subst (λ (s : ℕ). Row B rows s (firstPath B)) (sym (p .slot)) row }, tt);
         apart = (all-map (λ s b q. omega (arith, p .slot, b .0)) (queueOf vacant (N - 1)) range, counting-distinct (N - 1) vacant count);
+        slots = (omega (arith, p .slot), tt);
         vacant = all-map (λ s b. omega (arith, b .1)) (queueOf vacant (N - 1)) range;
         full = omega (arith, queue-length (N - 1) vacant);
         counted = λ h i l k. held h i (omega (arith, ok .high)) (omega arith) ∙ ap (λ n. firstHeld n h i) (sym deep) ∙ first-counted B h i l;

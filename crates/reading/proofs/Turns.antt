@@ -22,7 +22,7 @@ use Rattle.reader.specs.Reader as R
 use Rattle.reader.proofs.Agree.{valid-agree}
 use Rattle.reader.proofs.Reached.{reached-fit}
 use Rattle.order.specs.Entries.{keyAt, Packed, queueOf}
-use Rattle.sharing.specs.Sharing.{heldAt}
+use Rattle.sharing.specs.Sharing.{heldAt, Rows}
 use Rattle.heights.specs.Workspace.{spot, Id}
 use Rattle.standing.specs.Seen.{Memory, memory}
 use Rattle.standing.specs.Standing.{Stands, InHand}
@@ -33,6 +33,7 @@ use Rattle.steps.specs.declared.Tally.{Tally}
 use Rattle.steps.specs.Steps.{BlockIs, committed}
 use Rattle.reading.specs.declared.Ran.{Ran}
 use Rattle.start.specs.Start.{firstHeld, InTables}
+use Rattle.start.proofs.Begun.{Zeros}
 use Rattle.reading.specs.Running.{arraysOf, Running, RanIs}
 use Rattle.extraction.specs.Extraction.{Extracting}
 use Rattle.reading.specs.Ending.{Ending}
@@ -85,18 +86,18 @@ module _ {s : Setting} {values : List ℤ} {kinds terms heights starts : List �
   -- ---- at first
 
   module _ (rows holders vacant : List ℕ) (numbers : List ℤ) (bytes : List ℕ) (e : ℕ) (order kept : List ℕ) (path₀ blocks₀ score₀ : List ℤ) where
-    pub run-first : 1 ≤ s .paths → s .paths ≤ 256 → rows ≡ set (replicate 4096 0) (s .m) 1 →
+    pub run-first : 1 ≤ s .paths → s .paths ≤ 256 → (old : List ℕ) → Zeros old → Rows 1 old → rows ≡ set old (s .m) 1 →
         ((h i : ℕ) → h ≤ 9 → i ≤ 256 → heldAt holders h i ≡ firstHeld (s .m) h i) → ((k : ℕ) → k + 1 < s .paths → getD vacant k 0 ≡ k + 1) →
         Packed e (record { score = pos 0; blocks = 0; number = 0 }) 0 → arraysOf (s .m) numbers bytes .vals (s .m) 1 ≡ values →
         Going (c .book) values (s .visits) (s .paths) (R.runOf (c .book) (s .visits) (s .paths) (arraysOf (s .m) numbers bytes))
         (memory rows holders numbers bytes) order vacant (replicate 512 0) kept
         (record { queued = 0; next = 1; extractions = 0; crowded = 0; outrun = 0 }) e path₀ blocks₀ score₀ path₀ blocks₀ score₀
-    run-first some′ most is held free p root =
+    run-first some′ most old none size is held free p root =
         let A : Arrays = arraysOf (s .m) numbers bytes in
         let k : Packed e (keyOf (c .book) (firstPath (c .book))) 0 = first-key (c .book) e p in
         going-first (c .book) values (s .visits) (s .paths) A (memory rows holders numbers bytes) order vacant kept e path₀ blocks₀ score₀ ok some′
         (ap (λ n. A .vals n 1) (c .deep) ∙ root)
-        (first-stands (c .book) (s .m) (s .paths) ok (c .deep) some′ most rows holders vacant is held free e k numbers bytes)
+        (first-stands (c .book) (s .m) (s .paths) ok (c .deep) some′ most rows holders vacant old none size is held free e k numbers bytes)
 
   -- ---- under way
 

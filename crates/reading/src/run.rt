@@ -3,14 +3,16 @@ ghost use mathlib.Core.Path.{_≡_};
 ghost use mathlib.Core.List.{List};
 ghost use Prim.Native.Nat.{ℕ, _+_, _-_, _*_, _^_, _≤_, _<_};
 ghost use lib.IntN.{pos};
-ghost use lib.ListN.{length};
+ghost use lib.ListN.{length, getD};
 ghost use Rattle.polar.specs.Layers.{part};
 ghost use Rattle.machine.specs.Queue.{Step};
 ghost use Rattle.machine.specs.Calls.{walked};
 ghost use Rattle.reader.specs.Arrays.{sumsOf};
 ghost use Rattle.reader.specs.Reader as R;
+ghost use Rattle.sharing.specs.Sharing.{Rows};
 ghost use Rattle.heights.specs.Workspace.{spot, Room, Id};
 ghost use Rattle.standing.specs.Seen.{memory, Lent};
+ghost use Rattle.words.specs.Kept.{Cells};
 ghost use Rattle.steps.specs.Steps.{committed};
 ghost use Rattle.reading.specs.Ending.{Ending};
 ghost use Rattle.reading.specs.Running.{arraysOf, received, Running, RanIs};
@@ -40,7 +42,7 @@ fn before(b: usize) -> usize
 
 // The end: the last word of the path of entry e goes into the sums of the root.
 fn finish(
-    rows: &mut [u32; 4096],
+    rows: &mut [u32],
     holders: &mut [u16; 2580],
     numbers: &[i32],
     bytes: &mut [u8],
@@ -80,7 +82,106 @@ fn finish(
     }
 }
 
-// The whole run, from any contents of the workspace.
+// The run with these tables of the paths' rows, which hold zeros, and of the words kept, which hold anything.
+fn run_with(
+    rows: &mut [u32],
+    kept: &mut [u32],
+    s: Setting,
+    values: &[i16],
+    kinds: &[u8; 512],
+    terms: &[u32; 512],
+    heights: &[u8; 512],
+    starts: &[u16; 512],
+    biases: &[i32; 512],
+    numbers: &mut [i32],
+    bytes: &mut [u8],
+    walk_path: &mut [i32],
+    walk_blocks: &mut [i32],
+    walk_score: &mut [i32],
+) -> Ran
+    requires { ⌜ Rows (s .paths) (now rows) × ((k : ℕ) → getD (now rows) k 0 ≡ 0) × Cells (s .paths) (now kept) ⌝ }
+    requires { ⌜ (1 ≤ s .visits) × (s .visits ≤ 32) × (2 ≤ s .paths) × (s .paths ≤ 256) ⌝ }
+    requires { ⌜ (length (now heights) ≡ 512) × (length (now starts) ≡ 512) × (length (now biases) ≡ 512) ⌝ }
+    requires { ⌜ Room (s .m) (s .paths) (now numbers) × Room (s .m) (s .paths) (now bytes) ⌝ }
+    requires { ⌜ (s .visits * s .blocks + 1 ≤ length (now «walk_path»)) × (s .visits * s .blocks + 1 ≤ length (now «walk_blocks»))
+        × (s .visits * s .blocks + 1 ≤ length (now «walk_score»)) ⌝ }
+    requires { ⌜ Running s (now values) (now kinds) (now terms) (now heights) (now starts) (now biases) ⌝ }
+    ensures { λ r. ⌜ ((c : Running s (now (values .entry)) (now (kinds .entry)) (now (terms .entry)) (now (heights .entry)) (now (starts .entry)) (now (biases .entry)))
+        → (let x = R.runOf (c .book) (s .visits) (s .paths) (arraysOf (s .m) (received (s .m) (now (values .entry)) (now (numbers .entry))) (now (bytes .entry))) in
+        RanIs (s .m) (s .paths) x r (now (bytes .exit))
+        × (now («walk_path» .exit) ≡ walked (λ (y : Step). pos (y .path)) (x .steps) (now («walk_path» .entry)))
+        × (now («walk_blocks» .exit) ≡ walked (λ (y : Step). pos (y .blocks)) (x .steps) (now («walk_blocks» .entry)))
+        × (now («walk_score» .exit) ≡ walked (λ (y : Step). y .score) (x .steps) (now («walk_score» .entry))))) ⌝ }
+{
+    let m = s.m;
+    let paths = s.paths;
+    let blocks = s.blocks;
+    let mut holders = [0u16; 2580];
+    let mut order = [0u64; 256];
+    let mut vacant = [0u8; 256];
+    let mut visits = [0u32; 512];
+    let mut words = [0u32; 256];
+    let mut sets = [0u32; 256];
+    let mut sums = [0u32; 128];
+    begin(rows, &mut holders, m);
+    fill_vacant(&mut vacant, paths);
+    receive(numbers, power(m), values);
+    let mut t = Tally {
+        queued: 0,
+        next: 1,
+        extractions: 0,
+        crowded: 0,
+        outrun: 0,
+    };
+    let mut e = entry(0, 0, 0, 0);
+    while blocks_of(e) as usize != blocks {
+        note(
+            walk_path,
+            walk_blocks,
+            walk_score,
+            t.extractions as usize,
+            e,
+        );
+        t.extractions = t.extractions + 1;
+        let b = blocks_of(e) as usize;
+        let last = block_at(heights, starts, biases, before(b));
+        let at = block_at(heights, starts, biases, b);
+        t = extract(
+            rows,
+            &mut holders,
+            &mut order,
+            &mut vacant,
+            &mut visits,
+            numbers,
+            bytes,
+            kinds,
+            terms,
+            s,
+            t,
+            e,
+            last,
+            at,
+            kept,
+            &mut words,
+            &mut sets,
+            &mut sums,
+        );
+        let left = t.queued - 1;
+        t.queued = left;
+        e = order[left];
+    }
+    note(
+        walk_path,
+        walk_blocks,
+        walk_score,
+        t.extractions as usize,
+        e,
+    );
+    let last = block_at(heights, starts, biases, before(blocks));
+    finish(rows, &mut holders, numbers, bytes, s, t, e, last)
+}
+
+// The whole run, from any contents of the workspace. Its tables are cleared, so few paths have small ones.
 pub fn run(
     s: Setting,
     values: &[i16],
@@ -108,72 +209,42 @@ pub fn run(
         × (now («walk_blocks» .exit) ≡ walked (λ (y : Step). pos (y .blocks)) (x .steps) (now («walk_blocks» .entry)))
         × (now («walk_score» .exit) ≡ walked (λ (y : Step). y .score) (x .steps) (now («walk_score» .entry))))) ⌝ }
 {
-    let m = s.m;
-    let paths = s.paths;
-    let blocks = s.blocks;
-    let mut rows = [0u32; 4096];
-    let mut holders = [0u16; 2580];
-    let mut order = [0u64; 256];
-    let mut vacant = [0u8; 256];
-    let mut visits = [0u32; 512];
-    let mut kept = [0u32; 1024];
-    let mut words = [0u32; 256];
-    let mut sets = [0u32; 256];
-    let mut sums = [0u32; 128];
-    begin(&mut rows, &mut holders, m);
-    fill_vacant(&mut vacant, paths);
-    receive(numbers, power(m), values);
-    let mut t = Tally {
-        queued: 0,
-        next: 1,
-        extractions: 0,
-        crowded: 0,
-        outrun: 0,
-    };
-    let mut e = entry(0, 0, 0, 0);
-    while blocks_of(e) as usize != blocks {
-        note(
+    if s.paths <= 32 {
+        let mut rows = [0u32; 512];
+        let mut kept = [0u32; 128];
+        return run_with(
+            &mut rows,
+            &mut kept,
+            s,
+            values,
+            kinds,
+            terms,
+            heights,
+            starts,
+            biases,
+            numbers,
+            bytes,
             walk_path,
             walk_blocks,
             walk_score,
-            t.extractions as usize,
-            e,
         );
-        t.extractions = t.extractions + 1;
-        let b = blocks_of(e) as usize;
-        let last = block_at(heights, starts, biases, before(b));
-        let at = block_at(heights, starts, biases, b);
-        t = extract(
-            &mut rows,
-            &mut holders,
-            &mut order,
-            &mut vacant,
-            &mut visits,
-            numbers,
-            bytes,
-            kinds,
-            terms,
-            s,
-            t,
-            e,
-            last,
-            at,
-            &mut kept,
-            &mut words,
-            &mut sets,
-            &mut sums,
-        );
-        let left = t.queued - 1;
-        t.queued = left;
-        e = order[left];
     }
-    note(
+    let mut rows = [0u32; 4096];
+    let mut kept = [0u32; 1024];
+    run_with(
+        &mut rows,
+        &mut kept,
+        s,
+        values,
+        kinds,
+        terms,
+        heights,
+        starts,
+        biases,
+        numbers,
+        bytes,
         walk_path,
         walk_blocks,
         walk_score,
-        t.extractions as usize,
-        e,
-    );
-    let last = block_at(heights, starts, biases, before(blocks));
-    finish(&mut rows, &mut holders, numbers, bytes, s, t, e, last)
+    )
 }

@@ -1,9 +1,8 @@
 -- The search's cases, one answer: where all 8 indices are free, or all but the first, the directions of the walk are those of bytes; and what is found
 -- among the words of so many settings is what is found in the block. By the number of settings. Assumes nothing.
-use mathlib.Core.Path.{_≡_, refl, sym, ap, ap₂, _∙_, subst}
-use mathlib.Core.Bool.{true, false≢true}
+use mathlib.Core.Path.{_≡_, sym, ap, ap₂, _∙_, subst}
+use mathlib.Core.Bool.{true}
 use mathlib.Core.List.{List}
-use mathlib.Core.Option.{Option, none, some}
 use Prim.Native.Nat.{ℕ, _+_, _*_, _^_, _<_}
 use native.Mathlib.Nat.{add-zero}
 use lib.IntN.{ℤ}
@@ -11,9 +10,9 @@ use lib.ListN.{getD}
 use Rattle.polar.specs.Layers.{part}
 use Rattle.outer.specs.declared.Candidate.{Candidate}
 use Rattle.outer.specs.declared.Pair.{Pair}
-use Rattle.outer.specs.Search.{Entry, settings, entry, Spans, keyOf, settingKey, leastFrom, answer, found, foundPair}
-use Rattle.passes.specs.Pass.{above, afterFirst}
-use Rattle.passes.proofs.Found.{after-answer}
+use Rattle.outer.specs.Search.{settings, entry, Spans, keyOf, settingKey, leastFrom, answer, found, foundPair}
+use Rattle.passes.specs.Pass.{afterFirst}
+use Rattle.passes.proofs.Found.{after-some, after-answer}
 use Rattle.short.specs.Short.{Octets}
 use Rattle.short.proofs.Classes.{octets-free, octets-checked}
 
@@ -67,20 +66,9 @@ module _ (kinds terms : List ℕ) (start p at j n count : ℕ) (numbers : List �
   pub after-passed : (bound : ℕ) (r s : Candidate) → r ≡ among bound
       → (let x = entry kinds terms start p n in let vs = part at n numbers in s ≡ answer x vs (afterFirst (settingKey x vs) bound count))
       → r .some ≡ true → s ≡ found kinds terms start p (2 ^ j) (part at (2 ^ j) numbers) (keyOf (r .cost) (r .number) + 1)
-  unfolding afterFirst above answer settingKey
+  unfolding afterFirst
   after-passed bound r s f g t =
-      g ∙ go (leastFrom k bound count) (ap (λ (c : Candidate). c .some) (sym f) ∙ t)
+      let x = entry kinds terms start p n in
+      let vs = part at n numbers in
+      g ∙ after-some x vs count (leastFrom (settingKey x vs) bound count) (ap (λ (c : Candidate). c .some) (sym f) ∙ t)
       ∙ ap (λ (c : Candidate). among (keyOf (c .cost) (c .number) + 1)) (sym f) ∙ found-among (keyOf (r .cost) (r .number) + 1)
-    where
-      x : ℕ → Entry
-      x = entry kinds terms start p n
-
-      vs : List ℤ
-      vs = part at n numbers
-
-      k : ℕ → ℕ
-      k = settingKey x vs
-
-      go : (o : Option ℕ) → answer x vs o .some ≡ true → answer x vs (above k count o) ≡ among (keyOf (answer x vs o .cost) (answer x vs o .number) + 1)
-      go none q = absurd (false≢true q)
-      go (some w) q = refl

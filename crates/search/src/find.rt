@@ -37,7 +37,7 @@ fn after(cost: u32, number: u32) -> u64
     key(cost, number) + 1
 }
 
-// The word of least key from a bound on and, where all words were passed over, the one of least key after it.
+// The word of least key from a bound on and, where the pass went over all words, the one of least key after it.
 fn search(
     numbers: &[i32],
     at: usize,

@@ -3,7 +3,7 @@
 use mathlib.Core.Path.{_≡_, refl, sym, _∙_}
 use mathlib.Core.Bool.{Bool, true, false, cond}
 use mathlib.Core.List.{List, [], _∷_, _++_, map}
-use Prim.Native.Nat.{ℕ, _+_, _*_, _≤_, _<_}
+use Prim.Native.Nat.{ℕ, _+_, _*_, _≤_}
 use native.Mathlib.Omega.{arith}
 use lib.ListN.{length, set}
 use lib.Dec.{eqb}
@@ -118,9 +118,9 @@ module _ (m N : ℕ) (holders holders′ : List ℕ) (ids : ℕ → ℕ) (others
 -- ---- a row's ids after a store
 
 module _ (m : ℕ) (rows : List ℕ) (s : ℕ) (ids : ℕ → ℕ) (h r : ℕ) where
-  pub has-take : HasIds m rows s ids → h ≤ m → m ≤ 9 → s < 256 → length rows ≡ 4096 → HasIds m (set rows (s * 16 + h) r) s (upd ids h r)
+  pub has-take : HasIds m rows s ids → h ≤ m → m ≤ 9 → s * 16 + 16 ≤ length rows → HasIds m (set rows (s * 16 + h) r) s (upd ids h r)
   unfolding HasIds idAt
-  has-take has high tall bs size = λ g l. go g l (eqb g h) refl
+  has-take has high tall size = λ g l. go g l (eqb g h) refl
     where
       go : (g : ℕ) → g ≤ m → (t : Bool) → eqb g h ≡ t → idAt (set rows (s * 16 + h) r) s g ≡ upd ids h r g
       go g l true e =

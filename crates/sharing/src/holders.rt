@@ -4,10 +4,10 @@ ghost use mathlib.Core.Path.{_≡_};
 ghost use mathlib.Core.Bool.{_&&_};
 ghost use Prim.Native.Nat.{ℕ, _+_, _*_, _^_, _≤_, _<_};
 ghost use lib.Dec.{ltb, leb};
-ghost use lib.ListN.{getD, set};
+ghost use lib.ListN.{length, getD, set};
 ghost use Rattle.laws.specs.Sets.{setOf};
 ghost use Rattle.reader.specs.Arrays.{ownOf};
-ghost use Rattle.sharing.specs.Sharing.{idAt, heldAt, vacantBit, Held, Sizes, Shared, OneLess, MoreBy, LessBy, Exchanged, Copied};
+ghost use Rattle.sharing.specs.Sharing.{idAt, heldAt, vacantBit, Held, HasRow, Shared, OneLess, MoreBy, LessBy, Exchanged, Copied};
 
 // 2^k where a count is 0, else 0.
 fn mark(count: u16, k: usize) -> u32
@@ -113,15 +113,15 @@ fn alone(id: usize, held: u16) -> bool
 
 // The path in a slot takes an array of a height: its own, if it has one that no other path holds, else the first free one. Returns its id.
 pub fn take(
-    rows: &mut [u32; 4096],
+    rows: &mut [u32],
     holders: &mut [u16; 2580],
     slot: usize,
     height: usize,
     most: usize,
 ) -> usize
-    requires { ⌜ Sizes (now rows) (now holders) × (slot < 256) × (height ≤ 9) × (most ≤ 256) ⌝ }
+    requires { ⌜ Held (now holders) × HasRow slot (now rows) × (height ≤ 9) × (most ≤ 256) ⌝ }
     requires { ⌜ Shared (now holders) height most (idAt (now rows) slot height) ⌝ }
-    ensures { λ r. ⌜ Sizes (now (rows .exit)) (now (holders .exit)) × (1 ≤ r) × (r ≤ most) ⌝ }
+    ensures { λ r. ⌜ Held (now (holders .exit)) × (1 ≤ r) × (r ≤ most) ⌝ }
     ensures { λ r. ⌜ now (rows .exit) ≡ set (now (rows .entry)) (slot * 16 + height) r ⌝ }
     ensures { λ r. ⌜ Exchanged height (idAt (now (rows .entry)) slot height) r (now (holders .entry)) (now (holders .exit)) ⌝ }
     ensures { λ r. ⌜ ((x : Shared (now (holders .entry)) height most (idAt (now (rows .entry)) slot height))
@@ -142,11 +142,11 @@ pub fn take(
 }
 
 // The path in slot `to` holds what the one in slot `from` holds, at the heights up to m.
-pub fn share(rows: &mut [u32; 4096], holders: &mut [u16; 2580], m: usize, from: usize, to: usize)
-    requires { ⌜ Sizes (now rows) (now holders) × (m ≤ 9) × (from < 256) × (to < 256) ⌝ }
+pub fn share(rows: &mut [u32], holders: &mut [u16; 2580], m: usize, from: usize, to: usize)
+    requires { ⌜ Held (now holders) × (m ≤ 9) × HasRow from (now rows) × HasRow to (now rows) ⌝ }
     requires { ⌜ ((h : ℕ) → h ≤ m → (let id = idAt (now rows) from h in (id ≤ 256) × (heldAt (now holders) h id < 65535))) ⌝ }
     requires { ⌜ (from ≡ to → ⊥) ⌝ }
-    ensures { λ _. ⌜ Sizes (now (rows .exit)) (now (holders .exit)) ⌝ }
+    ensures { λ _. ⌜ Held (now (holders .exit)) × (length (now (rows .exit)) ≡ length (now (rows .entry))) ⌝ }
     ensures { λ _. ⌜ Copied m from to (now (rows .entry)) (now (rows .exit)) ⌝ }
     ensures { λ _. ⌜ MoreBy (m + 1) (now (rows .entry)) from (now (holders .entry)) (now (holders .exit)) ⌝ }
 {
@@ -180,8 +180,8 @@ fn drop_one(holders: &mut [u16; 2580], height: usize, id: usize)
 }
 
 // The path in a slot lets go of what it holds at the heights up to m.
-pub fn release(rows: &[u32; 4096], holders: &mut [u16; 2580], m: usize, slot: usize)
-    requires { ⌜ Sizes (now rows) (now holders) × (m ≤ 9) × (slot < 256) ⌝ }
+pub fn release(rows: &[u32], holders: &mut [u16; 2580], m: usize, slot: usize)
+    requires { ⌜ Held (now holders) × (m ≤ 9) × HasRow slot (now rows) ⌝ }
     requires { ⌜ ((h : ℕ) → h ≤ m → (let id = idAt (now rows) slot h in (id ≤ 256) × (1 ≤ heldAt (now holders) h id))) ⌝ }
     ensures { λ _. ⌜ Held (now (holders .exit)) ⌝ }
     ensures { λ _. ⌜ LessBy (m + 1) (now (rows .entry)) slot (now (holders .entry)) (now (holders .exit)) ⌝ }

@@ -2,7 +2,7 @@
 -- for the other paths, its slot vacant. The path is taken in hand first. Assumes nothing.
 use mathlib.Core.Path.{_≡_}
 use mathlib.Core.List.{List, _∷_, _++_, map}
-use Prim.Native.Nat.{ℕ, _+_, _≤_}
+use Prim.Native.Nat.{ℕ, _+_, _≤_, _<_}
 use native.Mathlib.Omega.{arith}
 use lib.ListN.{length, length-map}
 use Rattle.laws.specs.Lists.{All}
@@ -16,7 +16,7 @@ use Rattle.sharing.proofs.Counting.{counted-held, counted-few, counted-less}
 use Rattle.standing.specs.Seen.{Memory, memory}
 use Rattle.standing.specs.Standing.{Stands}
 use Rattle.standing.proofs.Slots.{distinct-back}
-use Rattle.standing.proofs.Sizes.{stands-length}
+use Rattle.standing.proofs.Sizes.{stands-length, slot-low}
 use Rattle.standing.proofs.Places.{stands-forward}
 
 -- ---- the path in hand
@@ -40,7 +40,8 @@ module _ {B : Book} {N : ℕ} {x : Memory} {e : ℕ} {es vs : List ℕ} {A : Arr
       record {
         queue = st .queue .1;
         apart = distinct-back (map slotAt es) (slotAt e) vs (st .apart);
-        vacant = (omega arith, st .vacant);
+        slots = st .slots .1;
+        vacant = (st .slots .0, st .vacant);
         full = omega arith;
         counted = counted-less (B .m) N (x .holders) holders′ (p .ids) (idsOf ps) (x .rows) (slotAt e) (st .counted) (st .queue .0 .row .ids) top less;
         housed = st .housed .1;
@@ -52,6 +53,10 @@ module _ {B : Book} {N : ℕ} {x : Memory} {e : ℕ} {es vs : List ℕ} {A : Arr
 
 module _ {B : Book} {N : ℕ} {x : Memory} {vs : List ℕ} {A : Arrays} (xs : List ℕ) (e : ℕ) (es : List ℕ) (qs : List Path) (p : Path) (ps : List Path)
     (level : length xs ≡ length qs) (st : Stands B N x (xs ++ e ∷ es) vs A (qs ++ p ∷ ps)) where
+  -- its slot is one of the first N
+  pub stands-slot : slotAt e < N
+  stands-slot = slot-low (stands-forward xs e es qs p ps level st)
+
   -- each id of its row is one of the N, or none, and held
   pub stands-held : (h : ℕ) → h ≤ B .m → (idAt (x .rows) (slotAt e) h ≤ N) × (1 ≤ heldAt (x .holders) h (idAt (x .rows) (slotAt e) h))
   stands-held = first-held (stands-forward xs e es qs p ps level st)

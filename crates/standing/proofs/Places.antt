@@ -4,7 +4,7 @@ use mathlib.Core.Path.{_≡_, _∙_}
 use mathlib.Core.Bool.{Bool, true, false, cond}
 use mathlib.Core.List.{List, [], _∷_, _++_, map, map-append, append-assoc}
 use mathlib.Core.Logic.{_≢_}
-use Prim.Native.Nat.{ℕ, _≤_}
+use Prim.Native.Nat.{ℕ, _≤_, _<_}
 use native.Mathlib.Omega.{arith}
 use lib.ListN.{length, length-append}
 use Rattle.laws.specs.Lists.{All, Distinct}
@@ -46,6 +46,10 @@ queued B rows e es p ps h k = insert-paired keyAt (keyOf B) (EntryOf B rows) (λ
 abbrev Low : Book → ℕ → Path → Type 0
 Low B N p = (h : ℕ) → h ≤ B .m → p .ids h ≤ N
 
+-- the slot of an entry is one of the first N
+abbrev Placed : ℕ → ℕ → Type 0
+Placed N e = slotAt e < N
+
 module _ {B : Book} {N : ℕ} {x : Memory} {vs : List ℕ} {A : Arrays} where
   -- the path in hand
   pub stands-insert : {e : ℕ} {es : List ℕ} {p : Path} {ps : List Path} → Stands B N x (e ∷ es) vs A (p ∷ ps) →
@@ -55,6 +59,7 @@ module _ {B : Book} {N : ℕ} {x : Memory} {vs : List ℕ} {A : Arrays} where
       record {
         queue = queued B (x .rows) e es p ps (st .queue .0) (st .queue .1);
         apart = distinct-insert keyAt slotAt e es vs (st .apart);
+        slots = all-insert keyAt (Placed N) e es (st .slots .0) (st .slots .1);
         vacant = st .vacant;
         full = omega (arith, insert-length keyAt e es);
         counted = counted-insert (B .m) N (x .holders) (keyOf B) (λ (o : Path). o .ids) p ps (st .counted);
@@ -76,6 +81,7 @@ module _ {B : Book} {N : ℕ} {x : Memory} {vs : List ℕ} {A : Arrays} where
           all-inserted keyAt slotAt d (λ (s : ℕ). slotAt e ≢ s) es vs (apart .0 .0) (apart .0 .1),
           distinct-insert keyAt slotAt d es vs (apart .1),
         );
+        slots = (st .slots .1 .0, all-insert keyAt (Placed N) d es (st .slots .0) (st .slots .1 .1));
         vacant = st .vacant;
         full = omega (arith, insert-length keyAt d es);
         counted = λ h i l k. st .counted h i l k ∙ times-second (keyOf B) (λ (o : Path). o .ids) i h q p ps;
@@ -105,6 +111,7 @@ module _ {B : Book} {N : ℕ} {x : Memory} {vs : List ℕ} {A : Arrays} (xs : Li
       record {
         queue = paired-forward (EntryOf B (x .rows)) xs e es qs p ps l (st .queue);
         apart = rw (map-append slotAt xs es, append-assoc (map slotAt xs) (map slotAt es) vs) (distinct-forward (map slotAt xs) (slotAt e) (map slotAt es ++ vs) slots);
+        slots = all-forward (Placed N) xs e es (st .slots);
         vacant = st .vacant;
         full = omega (arith, length-append xs (e ∷ es), length-append xs es);
         counted = rw (map-append (λ (o : Path). o .ids) qs ps) (counted-forward (B .m) N (x .holders) (idsOf qs) (p .ids) (idsOf ps) ids);

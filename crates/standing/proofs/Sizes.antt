@@ -35,8 +35,13 @@ pub stands-room : {B : Book} {N : ℕ} {x : Memory} {e : ℕ} {es vs : List ℕ}
     (length ps < N) × (suc (length es + length vs) ≡ N)
 stands-room st = (omega (arith, stands-length st), omega arith)
 
--- a vacant slot is not that of the path in hand
+-- the slot of the path in hand is one of the first N
+pub slot-low : {B : Book} {N : ℕ} {x : Memory} {e : ℕ} {es vs : List ℕ} {A : Arrays} {ps : List Path} → Stands B N x (e ∷ es) vs A ps → slotAt e < N
+unfolding All
+slot-low st = st .slots .0
+
+-- a vacant slot is another, and one of the first N
 pub slots-apart : {B : Book} {N : ℕ} {x : Memory} {e t : ℕ} {es vs : List ℕ} {A : Arrays} {ps : List Path} → Stands B N x (e ∷ es) (t ∷ vs) A ps →
-    (slotAt e ≡ t → ⊥) × (t < 256)
+    (slotAt e ≡ t → ⊥) × (t < N)
 unfolding All Distinct
 slots-apart {e} {t} {es} {vs} st = (all-forward (λ (s : ℕ). slotAt e ≢ s) (map slotAt es) t vs (st .apart .0) .0, st .vacant .0)

@@ -66,6 +66,7 @@ module _ {B : Book} {N : ℕ} {x y : Memory} {e : ℕ} {es vs : List ℕ} {A : A
       record {
         queue = (first, queue-other B deep s (x .rows) (y .rows) (ids-others deep only) es ps apart (st .queue .1));
         apart = st .apart;
+        slots = st .slots;
         vacant = st .vacant;
         full = st .full;
         counted = see .counted;

@@ -32,6 +32,7 @@ module _ {B : Book} {N : ℕ} {x : Memory} {e : ℕ} {es vs : List ℕ} {A : Arr
       record {
         queue = (row-made deep has put made, queue-other B deep s (x .rows) rows′ (put-others put) es ps apart (st .queue .1));
         apart = rw (made .entry .slot) (st .apart);
+        slots = (rw (made .entry .slot) (st .slots .0), st .slots .1);
         vacant = st .vacant;
         full = st .full;
         counted = rw same (st .counted);
@@ -58,6 +59,7 @@ module _ {B : Book} {N : ℕ} {x : Memory} {e : ℕ} {es vs : List ℕ} {A : Arr
       record {
         queue = (row-made deep new put made, queue-other B deep t rows₁ rows₂ (put-others put) (e ∷ es) (p ∷ ps) apart between);
         apart = rw (made .entry .slot) all;
+        slots = (rw (made .entry .slot) (st .vacant .0), st .slots);
         vacant = st .vacant .1;
         full = omega arith;
         counted = counted-more (B .m) N (x .holders) holders′ (q .ids) (idsOf (p ∷ ps)) (x .rows) s (st .counted) has top more;

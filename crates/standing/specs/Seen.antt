@@ -6,7 +6,7 @@ use Prim.Native.Nat.{ℕ, _+_, _*_, _≤_, _<_}
 use lib.IntN.{ℤ}
 use lib.ListN.{length, getD}
 use Rattle.reader.specs.Arrays.{View}
-use Rattle.sharing.specs.Sharing.{Sizes, HasIds, Counted}
+use Rattle.sharing.specs.Sharing.{Held, Rows, HasIds, Counted}
 use Rattle.heights.specs.Workspace.{Room, Parts}
 
 -- the tables of ids and holders, and the workspace's values and sums
@@ -20,11 +20,12 @@ pub record Memory : Type 0 where
 unfoldable pub memory : List ℕ → List ℕ → List ℤ → List ℕ → Memory
 memory rows holders numbers bytes = record { rows = rows; holders = holders; numbers = numbers; bytes = bytes }
 
--- the tables and the workspace are large enough for N arrays of each height up to m
+-- the tables and the workspace are large enough for N paths, and N arrays of each height up to m
 pub record Lent (m N : ℕ) (x : Memory) : Type 0 where
   pub deep : m ≤ 9
   pub many : N ≤ 256
-  pub sizes : Sizes (x .rows) (x .holders)
+  pub rows : Rows N (x .rows)
+  pub held : Held (x .holders)
   pub numbers : Room m N (x .numbers)
   pub bytes : Room m N (x .bytes)
 

@@ -41,7 +41,8 @@ pub record EntryOf (B : Book) (rows : List ℕ) (e : ℕ) (p : Path) : Type 0 wh
 pub record Stands (B : Book) (N : ℕ) (x : Memory) (es vs : List ℕ) (A : Arrays) (ps : List Path) : Type 0 where
   pub queue : Paired (EntryOf B (x .rows)) es ps
   pub apart : Distinct (map slotAt es ++ vs)
-  pub vacant : All (λ (s : ℕ). s < 256) vs
+  pub slots : All (λ (e : ℕ). slotAt e < N) es
+  pub vacant : All (λ (s : ℕ). s < N) vs
   pub full : length es + length vs ≡ N
   pub counted : Counted (B .m) N (x .holders) (idsOf ps)
   pub housed : All (λ (p : Path). (h : ℕ) → h ≤ B .m → p .ids h ≤ N) ps

@@ -2,7 +2,7 @@
 -- others stay. Assumes nothing.
 use mathlib.Core.Path.{_≡_, sym, ap, _∙_}
 use mathlib.Core.List.{List, [], _∷_, _++_, append-nil}
-use Prim.Native.Nat.{ℕ, suc, _+_, _-_, _≤_}
+use Prim.Native.Nat.{ℕ, suc, _+_, _-_, _≤_, _<_}
 use native.Mathlib.Omega.{arith}
 use lib.ListN.{length, getD, take}
 use lib.Seq.{take-all, take-at}
@@ -16,7 +16,7 @@ use Rattle.sharing.specs.Sharing.{idAt, heldAt, LessBy}
 use Rattle.standing.specs.Seen.{Memory, memory}
 use Rattle.standing.specs.Standing.{Stands}
 use Rattle.standing.proofs.Sizes.{stands-length}
-use Rattle.standing.proofs.Leaving.{stands-held, stands-remove}
+use Rattle.standing.proofs.Leaving.{stands-slot, stands-held, stands-remove}
 use Rattle.steps.proofs.Tails.{Ending, ending, topOf, top-length, queue-last}
 
 -- ---- room for two
@@ -44,6 +44,10 @@ module _ {B : Book} {N : ℕ} {x : Memory} {e : ℕ} {vs : List ℕ} {A : Arrays
 
   apart : Stands B N x ((e ∷ topOf order 1 k) ++ getD order 0 0 ∷ []) vs A ((p ∷ last .before) ++ last .one ∷ [])
   apart = rw (tail, last .whole) at st
+
+  -- its slot is one of the first N
+  pub last-slot : slotAt (getD order 0 0) < N
+  last-slot = stands-slot (e ∷ topOf order 1 k) (getD order 0 0) [] (p ∷ last .before) (last .one) [] level apart
 
   -- each id of its row is one of the N, or none, and held
   pub last-held : (h : ℕ) → h ≤ B .m →

@@ -6,7 +6,7 @@ use mathlib.Core.Path.{_≡_, refl, sym, ap, ap₂, _∙_, subst}
 use mathlib.Core.Bool.{true}
 use mathlib.Core.List.{List, [], _∷_, map}
 use mathlib.Core.Logic.{_≢_}
-use mathlib.Core.Option.{Option, none, some}
+use mathlib.Core.Option.{Option, some}
 use Prim.Native.Nat.{ℕ, zero, suc, _+_, _-_, _^_, _≤_, _<_}
 use native.Mathlib.Omega.{arith}
 use lib.ListN.{length}
@@ -15,7 +15,7 @@ use lib.Pow.{pow-pos, pow-mono}
 use lib.IntN.{ℤ, pos, negℤ, _-ℤ_}
 use Rattle.polar.specs.Bits.{number}
 use Rattle.polar.specs.Layers.{Within}
-use Rattle.codebook.specs.Book.{Book, freeCount, kindsOf, startOf, blockAt}
+use Rattle.codebook.specs.Book.{Book, startOf, blockAt}
 use Rattle.codebook.specs.Book as K
 use Rattle.laws.specs.Lists.{All, Distinct}
 use Rattle.laws.proofs.Lists.{all-front}
@@ -30,13 +30,12 @@ use Rattle.reader.specs.Paths.{Path, scoreOf, keyOf, lastWord, ownWord, place, 
 use Rattle.reader.specs.Reader.{copyWith}
 use Rattle.reader.proofs.Arrays.{Kept, claim-kept, claim-own}
 use Rattle.reader.proofs.Descent.{place-most}
-use Rattle.reader.proofs.Found.{next-few}
 use Rattle.order.specs.Entries.{keyAt, slotAt, Packed}
 use Rattle.sharing.specs.Sharing.{idAt, heldAt, Copied, MoreBy}
 use Rattle.standing.specs.Seen.{Memory, memory, Lent, Seen, Viewed, StepSeen, IdsOnly}
 use Rattle.standing.specs.Standing.{cell, Row, Stands, withIds, PutRow, Made}
 use Rattle.standing.proofs.Slots.{distinct-forward}
-use Rattle.standing.proofs.Sizes.{slots-apart}
+use Rattle.standing.proofs.Sizes.{slot-low, slots-apart}
 use Rattle.standing.proofs.Taken.{taken-row}
 use Rattle.standing.proofs.Leaving.{stands-held, stands-few}
 use Rattle.standing.proofs.Views.{stands-seen, stands-view}
@@ -45,7 +44,7 @@ use Rattle.standing.proofs.Written.{stands-share}
 use Rattle.views.specs.Steps.{Claimable}
 use Rattle.words.specs.declared.Block.{Block}
 use Rattle.words.specs.Kept.{Keeps, OneKept, nextOf, KeptFor, Kepts}
-use Rattle.words.proofs.Kepts.{kepts-other, kepts-frame, kepts-insert}
+use Rattle.words.proofs.Kepts.{next-small, kepts-other, kepts-frame, kepts-insert}
 use Rattle.steps.specs.Steps.{Forking}
 
 -- a block has an index at least, so that no book has more than 512
@@ -87,15 +86,7 @@ module _ {m N : ℕ} {x : Memory} {e t : ℕ} {es vs : List ℕ} {last : Block} 
   fork-known k = c .is .second k (c .word) refl
 
   pub fork-few : found .known ≡ true → found .second .setting < 1073741824
-  unfolding candidateOf
-  fork-few k = go after refl
-    where
-      top : 2 ^ freeCount (kindsOf book b) ≤ 2 ^ 8
-      top = pow-mono (c .valid .blocks b (c .own .block .within) .light)
-
-      go : (o : Option Word) → after ≡ o → found .second .setting < 1073741824
-      go none q = omega (arith, ap (λ (y : Candidate). y .setting) (fork-known k ∙ ap (candidateOf book) q))
-      go (some y) q = omega (arith, top, next-few book values (path .earlier) b y (c .word) q, ap (λ (y : Candidate). y .setting) (fork-known k ∙ ap (candidateOf book) q))
+  fork-few k = next-small book values (path .earlier) b (c .word) (c .valid .blocks b (c .own .block .within) .light) (fork-known k)
 
   -- ---- the entry
 
@@ -270,7 +261,10 @@ module _ {m N : ℕ} {x : Memory} {e t : ℕ} {es vs : List ℕ} {last : Block} 
       let few = stands-few [] e es [] path (c .hand .rest) refl (c .hand .stands) h low in
       (omega (arith, held .0, l .many), omega (arith, few, l .many))
 
-  pub fork-apart : (slotAt e ≡ t → ⊥) × (t < 256)
+  pub fork-slot : slotAt e < N
+  fork-slot = slot-low (c .hand .stands)
+
+  pub fork-apart : (slotAt e ≡ t → ⊥) × (t < N)
   fork-apart = slots-apart (c .hand .stands)
 
   pub fork-place : last .place ≤ m

@@ -9,7 +9,7 @@ ghost use Rattle.reader.specs.Reader as R;
 ghost use Rattle.order.specs.Entries.{queueOf, Rising};
 ghost use Rattle.standing.specs.Seen.{memory, Lent};
 ghost use Rattle.standing.specs.Standing.{Stands};
-ghost use Rattle.words.specs.Kept.{Kepts};
+ghost use Rattle.words.specs.Kept.{Cells, Kepts};
 ghost use Rattle.steps.specs.Steps.{Forking, Copying, CopiedTo};
 use crate::Setting;
 use crate::Tally;
@@ -28,12 +28,12 @@ use words::score;
 
 // A copy of the path of entry e, with the word found, in the slot `to`; it is inserted. The next word after that one is kept for it, where it is known.
 fn fork(
-    rows: &mut [u32; 4096],
+    rows: &mut [u32],
     holders: &mut [u16; 2580],
     order: &mut [u64; 256],
     numbers: &mut [i32],
     bytes: &[u8],
-    kept: &mut [u32; 1024],
+    kept: &mut [u32],
     m: usize,
     paths: usize,
     e: u64,
@@ -44,10 +44,10 @@ fn fork(
     blocks: u32,
     number: u32,
 )
-    requires { ⌜ Lent m paths (memory (now rows) (now holders) (now numbers) (now bytes)) × (length (now order) ≡ 256) × (queued + 2 ≤ paths) × (number < 32768) × (length (now kept) ≡ 1024) ⌝ }
+    requires { ⌜ Lent m paths (memory (now rows) (now holders) (now numbers) (now bytes)) × (length (now order) ≡ 256) × (queued + 2 ≤ paths) × (number < 32768) × Cells paths (now kept) ⌝ }
     requires { ⌜ ((b : ℕ) × (blocks ≡ suc b) × (vs : List ℕ) × Forking m paths (memory (now rows) (now holders) (now numbers) (now bytes)) e to (queueOf (now order) queued) vs last found b) ⌝ }
     requires { ⌜ Rising (now order) queued ⌝ }
-    ensures { λ _. ⌜ Lent m paths (memory (now (rows .exit)) (now (holders .exit)) (now (numbers .exit)) (now (bytes .entry))) × (length (now (order .exit)) ≡ 256) × (length (now (kept .exit)) ≡ 1024) ⌝ }
+    ensures { λ _. ⌜ Lent m paths (memory (now (rows .exit)) (now (holders .exit)) (now (numbers .exit)) (now (bytes .entry))) × (length (now (order .exit)) ≡ 256) × Cells paths (now (kept .exit)) ⌝ }
     ensures { λ _. ⌜ ((b : ℕ) (vs : List ℕ) (c : Forking m paths (memory (now (rows .entry)) (now (holders .entry)) (now (numbers .entry)) (now (bytes .entry))) e to (queueOf (now (order .entry)) queued) vs last found b)
         → blocks ≡ suc b → (let k = R.copyWith (c .hand .book) paths (c .hand .arrays) (c .hand .taken) b (c .hand .rest) number (some (c .word)) in
         Stands (c .hand .book) paths (memory (now (rows .exit)) (now (holders .exit)) (now (numbers .exit)) (now (bytes .entry))) (e ∷ queueOf (now (order .exit)) (suc queued)) vs
@@ -105,7 +105,7 @@ fn tallied(t: Tally, left: usize) -> Tally
 
 // The copy, if the last block of the path of entry e has a next word: the number of paths queued then, the next number, and the count.
 pub fn copy(
-    rows: &mut [u32; 4096],
+    rows: &mut [u32],
     holders: &mut [u16; 2580],
     order: &mut [u64; 256],
     vacant: &mut [u8; 256],
@@ -118,18 +118,18 @@ pub fn copy(
     e: u64,
     blocks: u32,
     last: Block,
-    kept: &mut [u32; 1024],
+    kept: &mut [u32],
     words: &mut [u32; 256],
     sets: &mut [u32; 256],
     sums: &mut [u32; 128],
 ) -> Tally
-    requires { ⌜ Lent (s .m) (s .paths) (memory (now rows) (now holders) (now numbers) (now bytes)) × (length (now order) ≡ 256) × (length (now vacant) ≡ 256) × (length (now kept) ≡ 1024) ⌝ }
+    requires { ⌜ Lent (s .m) (s .paths) (memory (now rows) (now holders) (now numbers) (now bytes)) × (length (now order) ≡ 256) × (length (now vacant) ≡ 256) × Cells (s .paths) (now kept) ⌝ }
     requires { ⌜ Scratch (now words) (now sets) (now sums) × (2 ≤ s .paths) × (t .queued + 1 ≤ s .paths) × (t .next < 32768) × (t .crowded < 65536) ⌝ }
     requires { ⌜ ((b : ℕ) × (blocks ≡ suc b) × Copying (s .m) (s .paths) (memory (now rows) (now holders) (now numbers) (now bytes)) e (queueOf (now order) (t .queued))
         (queueOf (now vacant) (s .paths - (t .queued + 1))) (now kinds) (now terms) last (now kept) b) ⌝ }
     requires { ⌜ Rising (now order) (t .queued) ⌝ }
     ensures { λ _. ⌜ Lent (s .m) (s .paths) (memory (now (rows .exit)) (now (holders .exit)) (now (numbers .exit)) (now (bytes .entry)))
-        × (length (now (order .exit)) ≡ 256) × (length (now (vacant .exit)) ≡ 256) × (length (now (kept .exit)) ≡ 1024) × Scratch (now (words .exit)) (now (sets .exit)) (now (sums .exit)) ⌝ }
+        × (length (now (order .exit)) ≡ 256) × (length (now (vacant .exit)) ≡ 256) × Cells (s .paths) (now (kept .exit)) × Scratch (now (words .exit)) (now (sets .exit)) (now (sums .exit)) ⌝ }
     ensures { λ r. ⌜ (r .extractions ≡ t .extractions) × (r .outrun ≡ t .outrun) × (r .queued + 1 ≤ s .paths) ⌝ }
     ensures { λ r. ⌜ ((b : ℕ) (c : Copying (s .m) (s .paths) (memory (now (rows .entry)) (now (holders .entry)) (now (numbers .entry)) (now (bytes .entry))) e (queueOf (now (order .entry)) (t .queued))
         (queueOf (now (vacant .entry)) (s .paths - (t .queued + 1))) (now (kinds .entry)) (now (terms .entry)) last (now (kept .entry)) b)

@@ -6,7 +6,7 @@ ghost use lib.IntN.{ℤ};
 ghost use lib.ListN.{length};
 ghost use Rattle.machine.specs.Queue.{roomFor};
 ghost use Rattle.order.specs.Entries.{queueOf, Rising};
-ghost use Rattle.sharing.specs.Sharing.{Held, Sizes};
+ghost use Rattle.sharing.specs.Sharing.{Held, Rows};
 ghost use Rattle.standing.specs.Seen.{memory};
 ghost use Rattle.standing.specs.Standing.{Stands, InHand};
 use order::entries::slot_of;
@@ -15,7 +15,7 @@ use sharing::holders::release;
 
 // Leaves at most D - 2 of the queued paths, and returns how many; a path removed lets go of its arrays and its slot. A path is in hand beside them.
 pub fn crowd(
-    rows: &[u32; 4096],
+    rows: &[u32],
     holders: &mut [u16; 2580],
     order: &mut [u64; 256],
     vacant: &mut [u8; 256],
@@ -23,7 +23,7 @@ pub fn crowd(
     paths: usize,
     queued: usize,
 ) -> usize
-    requires { ⌜ Sizes (now rows) (now holders) × (length (now order) ≡ 256) × (length (now vacant) ≡ 256) × (m ≤ 9) ⌝ }
+    requires { ⌜ Rows paths (now rows) × Held (now holders) × (length (now order) ≡ 256) × (length (now vacant) ≡ 256) × (m ≤ 9) ⌝ }
     requires { ⌜ (2 ≤ paths) × (paths ≤ 256) × (queued + 1 ≤ paths) ⌝ }
     requires { ⌜ ((e : ℕ) × (numbers : List ℤ) × (bytes : List ℕ) × InHand m paths (memory (now rows) (now holders) numbers bytes) e (queueOf (now order) queued) (queueOf (now vacant) (paths - (queued + 1)))) ⌝ }
     requires { ⌜ Rising (now order) queued ⌝ }

@@ -64,7 +64,7 @@ module _ {m N s h j r : ℕ} {x : Memory} {rows′ holders′ : List ℕ} {other
   lower-bits k a b = subst (All Bit) (sym (lower-sums k a b)) (met k a b .1)
 
   -- the joined word in the array taken
-  pub seen-commit : s < 256 → j ≤ h → (w : List ℕ) {w′ : List ℕ} (last : List ℕ) → Joined m h r new last →
+  pub seen-commit : s < N → j ≤ h → (w : List ℕ) {w′ : List ℕ} (last : List ℕ) → Joined m h r new last →
       part (spot m r h) (2 ^ h) last ≡ joined (λ k. part (spot m (idAt rows′ s k) k) (2 ^ k) new) j (h - j) w′ → w′ ≡ w →
       Seen m N s (memory rows′ holders′ (x .numbers) last) others (putSums others h (joined (sumsOf v) j (h - j) w) v)
   seen-commit b a w {w′} last q e f =

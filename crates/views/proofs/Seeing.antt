@@ -5,7 +5,7 @@ use mathlib.Core.Bool.{Bool, true, false, cond}
 use mathlib.Core.List.{List, _∷_}
 use Prim.Native.Nat.{ℕ, _+_, _*_, _^_, _≤_, _<_}
 use native.Mathlib.Omega.{arith}
-use lib.ListN.{length, getD, set, length-map}
+use lib.ListN.{length, getD, set, length-map, length-set}
 use lib.IntN.{ℤ}
 use lib.Dec.{eqb}
 use lib.Seq.{getD-set-other}
@@ -14,26 +14,26 @@ use Rattle.codec.specs.Ties.{times}
 use Rattle.polar.specs.Layers.{part}
 use Rattle.reader.specs.Arrays.{View, valsOf, sumsOf, upd, store, ownOf, writes, putVals, putSums, takeArray}
 use Rattle.reader.proofs.Upd.{upd-self}
-use Rattle.sharing.specs.Sharing.{idAt, heldAt, Sizes, Shared, Exchanged, HasIds}
+use Rattle.sharing.specs.Sharing.{idAt, heldAt, Held, Shared, Exchanged, HasIds}
 use Rattle.sharing.proofs.Counting.{idsAt, counted-first, counted-take, has-take}
 use Rattle.heights.specs.Workspace.{spot, Room, Id, Parts}
 use Rattle.standing.specs.Seen.{Memory, memory, Lent, Seen, IdsOnly}
 
 -- what `take` did: the slot's id of height h is r now, and the holders are counted so
 pub record Took (N s h : ℕ) (rows holders rows′ holders′ : List ℕ) (r : ℕ) : Type 0 where
-  pub sizes : Sizes rows′ holders′
+  pub held : Held holders′
   pub id : Id N r
   pub stored : rows′ ≡ set rows (s * 16 + h) r
   pub exchanged : Exchanged h (idAt rows s h) r holders holders′
   pub chosen : (x : Shared holders h N (idAt rows s h)) → r ≡ ownOf (idAt rows s h) (x .others)
 
 pub took : {N r : ℕ} (s h : ℕ) (rows holders : List ℕ) {rows′ holders′ : List ℕ} →
-    (Sizes rows′ holders′ × (1 ≤ r) × (r ≤ N))
+    (Held holders′ × (1 ≤ r) × (r ≤ N))
     × ((rows′ ≡ set rows (s * 16 + h) r)
     × (Exchanged h (idAt rows s h) r holders holders′ × ((x : Shared holders h N (idAt rows s h)) → r ≡ ownOf (idAt rows s h) (x .others)))) →
     Took N s h rows holders rows′ holders′ r
 took s h rows holders e =
-    record { sizes = e .0 .0; id = record { some = e .0 .1; most = e .0 .2 }; stored = e .1 .0; exchanged = e .1 .1 .0; chosen = e .1 .1 .1 }
+    record { held = e .0 .0; id = record { some = e .0 .1; most = e .0 .2 }; stored = e .1 .0; exchanged = e .1 .1 .0; chosen = e .1 .1 .1 }
 
 -- its ids of the other heights are as they were
 pub took-other : {N s h r : ℕ} {rows holders rows′ holders′ : List ℕ} → Took N s h rows holders rows′ holders′ r → {k : ℕ} → (k ≡ h → ⊥) →
@@ -44,11 +44,11 @@ took-other {s = s} {h} {r} {rows} t {k} n = ap (λ l. getD l (s * 16 + k) 0) (t 
 -- ---- memory
 
 -- it is as large after a step
-pub lent-on : {m N : ℕ} {x : Memory} {rows′ holders′ : List ℕ} (numbers′ : List ℤ) (bytes′ : List ℕ) → Lent m N x → Sizes rows′ holders′ →
-    length numbers′ ≡ length (x .numbers) → length bytes′ ≡ length (x .bytes) → Lent m N (memory rows′ holders′ numbers′ bytes′)
+pub lent-on : {m N s h r : ℕ} {x : Memory} {rows′ holders′ : List ℕ} (numbers′ : List ℤ) (bytes′ : List ℕ) → Lent m N x →
+    Took N s h (x .rows) (x .holders) rows′ holders′ r → length numbers′ ≡ length (x .numbers) → length bytes′ ≡ length (x .bytes) → Lent m N (memory rows′ holders′ numbers′ bytes′)
 unfolding memory Room
-lent-on numbers′ bytes′ lent s a b =
-    record { deep = lent .deep; many = lent .many; sizes = s; numbers = omega (arith, lent .numbers); bytes = omega (arith, lent .bytes) }
+lent-on {s = s} {h} {r} {x} numbers′ bytes′ lent t a b =
+    record { deep = lent .deep; many = lent .many; rows = omega (arith, lent .rows, ap length (t .stored), length-set (x .rows) (s * 16 + h) r); held = t .held; numbers = omega (arith, lent .numbers); bytes = omega (arith, lent .bytes) }
 
 -- a store at one height
 pub ids-only : {m s h : ℕ} (r : ℕ) (rows : List ℕ) {rows′ : List ℕ} → h ≤ m → rows′ ≡ set rows (s * 16 + h) r → IdsOnly m s rows rows′
@@ -107,7 +107,7 @@ module _ {m N s : ℕ} {x : Memory} {others : List (ℕ → ℕ)} {v : View} (se
 
   -- ---- after it
 
-  module _ {h r : ℕ} {rows′ holders′ : List ℕ} (lent : Lent m N x) (b : s < 256) (l : h ≤ m) (t : Took N s h (x .rows) (x .holders) rows′ holders′ r) where
+  module _ {h r : ℕ} {rows′ holders′ : List ℕ} (lent : Lent m N x) (b : s < N) (l : h ≤ m) (t : Took N s h (x .rows) (x .holders) rows′ holders′ r) where
     -- the array is the one that the definition chooses
     take-writes : r ≡ writes others h v
     unfolding writes
@@ -129,7 +129,7 @@ module _ {m N s : ℕ} {x : Memory} {others : List (ℕ → ℕ)} {v : View} (se
         record {
           ids =
               subst (λ w. HasIds m w s (upd (v .ids) h (writes others h v))) (sym (t .stored ∙ ap (set (x .rows) (s * 16 + h)) e))
-              (has-take m (x .rows) s (v .ids) h (writes others h v) (seen .ids) l (lent .deep) b (lent .sizes .rows-size));
+              (has-take m (x .rows) s (v .ids) h (writes others h v) (seen .ids) l (lent .deep) (omega (arith, lent .rows)));
           low = subst (λ i. (g : ℕ) → g ≤ m → upd (v .ids) h i g ≤ N) e still-low;
           counted =
               counted-take m N (x .holders) holders′ (v .ids) others h (writes others h v) (seen .counted) l (lent .deep) (lent .many)

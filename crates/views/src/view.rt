@@ -1,12 +1,11 @@
 // What the path in a slot sees of the shared arrays, written height by height: an array is taken first, then written.
 ghost use mathlib.Core.Path.{_≡_};
 ghost use Prim.Native.Nat.{ℕ, suc, _+_, _-_, _*_, _^_, _≤_, _<_};
-ghost use lib.ListN.{length};
 ghost use Rattle.laws.specs.Lists.{All};
 ghost use Rattle.polar.specs.Bits.{Bit};
 ghost use Rattle.polar.specs.Layers.{part};
 ghost use Rattle.reader.specs.Arrays.{sumsOf, putSums, claim, descend, byQ, byP, joined};
-ghost use Rattle.sharing.specs.Sharing.{idAt};
+ghost use Rattle.sharing.specs.Sharing.{idAt, HasRow};
 ghost use Rattle.heights.specs.Workspace.{spot, Room, Id, bitsOf};
 ghost use Rattle.standing.specs.Seen.{memory, Lent, Viewed, StepSeen, IdsOnly};
 ghost use Rattle.views.specs.Steps.{Upper, Turning, Joinable, Claimable, Joined};
@@ -27,8 +26,8 @@ fn wide(x: u32) -> usize
 }
 
 // The id of a slot's array of a height.
-pub fn id_of(rows: &[u32; 4096], slot: usize, h: usize) -> usize
-    requires { ⌜ (length (now rows) ≡ 4096) × (slot < 256) × (h ≤ 9) ⌝ }
+pub fn id_of(rows: &[u32], slot: usize, h: usize) -> usize
+    requires { ⌜ HasRow slot (now rows) × (h ≤ 9) ⌝ }
     ensures { λ r. ⌜ r ≡ idAt (now (rows .entry)) slot h ⌝ }
 {
     wide(rows[slot * 16 + h])
@@ -36,7 +35,7 @@ pub fn id_of(rows: &[u32; 4096], slot: usize, h: usize) -> usize
 
 // The values of height h, by Q.
 fn lower(
-    rows: &mut [u32; 4096],
+    rows: &mut [u32],
     holders: &mut [u16; 2580],
     numbers: &mut [i32],
     bytes: &[u8],
@@ -45,7 +44,7 @@ fn lower(
     slot: usize,
     h: usize,
 )
-    requires { ⌜ Lent m most (memory (now rows) (now holders) (now numbers) (now bytes)) × (slot < 256) × (h < m) ⌝ }
+    requires { ⌜ Lent m most (memory (now rows) (now holders) (now numbers) (now bytes)) × (slot < most) × (h < m) ⌝ }
     requires { ⌜ Viewed m most slot (memory (now rows) (now holders) (now numbers) (now bytes)) (Upper (suc h)) ⌝ }
     ensures { λ _. ⌜ Lent m most (memory (now (rows .exit)) (now (holders .exit)) (now (numbers .exit)) (now (bytes .entry)))
         × IdsOnly m slot (now (rows .entry)) (now (rows .exit)) ⌝ }
@@ -59,7 +58,7 @@ fn lower(
 
 // The values of the heights below `top`, down to `low`, by Q.
 pub fn go_down(
-    rows: &mut [u32; 4096],
+    rows: &mut [u32],
     holders: &mut [u16; 2580],
     numbers: &mut [i32],
     bytes: &[u8],
@@ -69,7 +68,7 @@ pub fn go_down(
     top: usize,
     low: usize,
 )
-    requires { ⌜ Lent m most (memory (now rows) (now holders) (now numbers) (now bytes)) × (slot < 256) × (low ≤ top) × (top ≤ m) ⌝ }
+    requires { ⌜ Lent m most (memory (now rows) (now holders) (now numbers) (now bytes)) × (slot < most) × (low ≤ top) × (top ≤ m) ⌝ }
     requires { ⌜ Viewed m most slot (memory (now rows) (now holders) (now numbers) (now bytes)) (Upper top) ⌝ }
     ensures { λ _. ⌜ Lent m most (memory (now (rows .exit)) (now (holders .exit)) (now (numbers .exit)) (now (bytes .entry)))
         × IdsOnly m slot (now (rows .entry)) (now (rows .exit)) ⌝ }
@@ -86,7 +85,7 @@ pub fn go_down(
 
 // The values of height h, by P with the word in the path's sums of that height.
 pub fn turn_over(
-    rows: &mut [u32; 4096],
+    rows: &mut [u32],
     holders: &mut [u16; 2580],
     numbers: &mut [i32],
     bytes: &[u8],
@@ -95,7 +94,7 @@ pub fn turn_over(
     slot: usize,
     h: usize,
 )
-    requires { ⌜ Lent m most (memory (now rows) (now holders) (now numbers) (now bytes)) × (slot < 256) × (h < m) ⌝ }
+    requires { ⌜ Lent m most (memory (now rows) (now holders) (now numbers) (now bytes)) × (slot < most) × (h < m) ⌝ }
     requires { ⌜ Viewed m most slot (memory (now rows) (now holders) (now numbers) (now bytes)) (Turning h) ⌝ }
     ensures { λ _. ⌜ Lent m most (memory (now (rows .exit)) (now (holders .exit)) (now (numbers .exit)) (now (bytes .entry)))
         × IdsOnly m slot (now (rows .entry)) (now (rows .exit)) ⌝ }
@@ -110,7 +109,7 @@ pub fn turn_over(
 
 // The word of 2^j bits at the end of height h of array `id`, joined there with the slot's sums of the heights from j on, below h.
 fn join(
-    rows: &[u32; 4096],
+    rows: &[u32],
     bytes: &mut [u8],
     m: usize,
     most: usize,
@@ -119,7 +118,7 @@ fn join(
     h: usize,
     id: usize,
 )
-    requires { ⌜ (length (now rows) ≡ 4096) × (slot < 256) × (m ≤ 9) × (most ≤ 256) × (j ≤ h) × (h ≤ m) × Room m most (now bytes) × Id most id ⌝ }
+    requires { ⌜ HasRow slot (now rows) × (m ≤ 9) × (most ≤ 256) × (j ≤ h) × (h ≤ m) × Room m most (now bytes) × Id most id ⌝ }
     requires { ⌜ ((k : ℕ) → j ≤ k → k < h → Id most (idAt (now rows) slot k) × All Bit (part (spot m (idAt (now rows) slot k) k) (2 ^ k) (now bytes))) ⌝ }
     requires { ⌜ All Bit (part (spot m id h + (2 ^ h - 2 ^ j)) (2 ^ j) (now bytes)) ⌝ }
     ensures { λ _. ⌜ Joined m h id (now (bytes .entry)) (now (bytes .exit)) ⌝ }
@@ -138,7 +137,7 @@ fn join(
 
 // A block's word goes into the sums of height h, joined with those of the heights below.
 pub fn commit(
-    rows: &mut [u32; 4096],
+    rows: &mut [u32],
     holders: &mut [u16; 2580],
     numbers: &[i32],
     bytes: &mut [u8],
@@ -149,7 +148,7 @@ pub fn commit(
     h: usize,
     word: u32,
 )
-    requires { ⌜ Lent m most (memory (now rows) (now holders) (now numbers) (now bytes)) × (slot < 256) × (j ≤ h) × (h ≤ m) ⌝ }
+    requires { ⌜ Lent m most (memory (now rows) (now holders) (now numbers) (now bytes)) × (slot < most) × (j ≤ h) × (h ≤ m) ⌝ }
     requires { ⌜ Viewed m most slot (memory (now rows) (now holders) (now numbers) (now bytes)) (Joinable j h) ⌝ }
     ensures { λ _. ⌜ Lent m most (memory (now (rows .exit)) (now (holders .exit)) (now (numbers .entry)) (now (bytes .exit)))
         × IdsOnly m slot (now (rows .entry)) (now (rows .exit)) ⌝ }
@@ -165,7 +164,7 @@ pub fn commit(
 
 // Takes an array of height h for the word of a block of height j; where h is j, the block's own values go along.
 pub fn claim(
-    rows: &mut [u32; 4096],
+    rows: &mut [u32],
     holders: &mut [u16; 2580],
     numbers: &mut [i32],
     bytes: &[u8],
@@ -175,7 +174,7 @@ pub fn claim(
     j: usize,
     h: usize,
 )
-    requires { ⌜ Lent m most (memory (now rows) (now holders) (now numbers) (now bytes)) × (slot < 256) × (h ≤ m) ⌝ }
+    requires { ⌜ Lent m most (memory (now rows) (now holders) (now numbers) (now bytes)) × (slot < most) × (h ≤ m) ⌝ }
     requires { ⌜ Viewed m most slot (memory (now rows) (now holders) (now numbers) (now bytes)) (Claimable j h) ⌝ }
     ensures { λ _. ⌜ Lent m most (memory (now (rows .exit)) (now (holders .exit)) (now (numbers .exit)) (now (bytes .entry)))
         × IdsOnly m slot (now (rows .entry)) (now (rows .exit)) ⌝ }

@@ -1,31 +1,51 @@
 -- The words kept, when one slot's is written, and when the queue and the arrays change: a word stays its path's as long as its slot's cells do, and the
--- path sees what it saw; and pairs of entries and paths stay so where both queues change alike. Assumes nothing.
-use mathlib.Core.Path.{_≡_, sym, ap, subst}
+-- path sees what it saw; and pairs of entries and paths stay so where both queues change alike. And a next word may be kept: its setting is small.
+-- Assumes nothing.
+use mathlib.Core.Path.{_≡_, refl, sym, ap, _∙_, subst}
 use mathlib.Core.Bool.{Bool, true, false, cond}
 use mathlib.Core.List.{List, [], _∷_, map}
 use mathlib.Core.Logic.{_⊎_, inl, inr, _≢_}
-use Prim.Native.Nat.{ℕ, _+_, _-_, _*_, _/_, _%_, _≤_, _<_}
+use mathlib.Core.Option.{Option, none, some}
+use Prim.Native.Nat.{ℕ, _+_, _-_, _*_, _/_, _%_, _^_, _≤_, _<_}
 use native.Mathlib.Nat.{add-zero}
 use native.Mathlib.Omega.{arith}
 use lib.Dec.{eqb}
 use lib.IntN.{ℤ}
+use lib.Pow.{pow-mono}
 use lib.ListN.{length, getD}
 use Rattle.laws.specs.Lists.{All}
 use Rattle.laws.specs.Pairs.{Paired}
 use Rattle.laws.proofs.Tests.{lt-or}
 use Rattle.laws.proofs.Lists.{all-unmapped}
 use Rattle.laws.proofs.Pairs.{paired-with}
-use Rattle.codebook.specs.Book.{Book, blockAt}
+use Rattle.codebook.specs.Book.{Book, freeCount, blockAt, kindsOf}
+use Rattle.codec.specs.Ties.{Parities}
 use Rattle.machine.specs.Queue.{insert, ahead, staying}
 use Rattle.outer.specs.declared.Candidate.{Candidate}
-use Rattle.outer.specs.Words.{nextAfter}
+use Rattle.outer.specs.Words.{Word, nextAfter}
 use Rattle.outer.specs.Blocks.{candidateOf}
 use Rattle.reader.specs.Arrays.{Arrays}
 use Rattle.reader.specs.Paths.{Path, keyOf, ownWord, idsOf}
 use Rattle.reader.proofs.Arrays.{Sees, Kept}
+use Rattle.reader.proofs.Found.{next-few}
 use Rattle.reader.proofs.Queue.{insert-paired, ahead-paired}
 use Rattle.order.specs.Entries.{keyAt, slotAt}
 use Rattle.words.specs.Kept.{keptCell, keptAt, Keeps, OneKept, KeptFor, Kepts}
+
+-- ---- what may be kept
+
+-- a block with at most 8 free indices has few settings
+pub next-small : (B : Book) (vs : List ℤ) (x : Parities) (b : ℕ) (own : Word) {c : Candidate} → freeCount (kindsOf B b) ≤ 8 →
+    c ≡ candidateOf B (nextAfter own B vs x b) → c .setting < 1073741824
+unfolding candidateOf
+next-small B vs x b own {c} light is = go (nextAfter own B vs x b) refl
+  where
+    top : 2 ^ freeCount (kindsOf B b) ≤ 2 ^ 8
+    top = pow-mono light
+
+    go : (o : Option Word) → nextAfter own B vs x b ≡ o → c .setting < 1073741824
+    go none q = omega (arith, ap (λ (y : Candidate). y .setting) (is ∙ ap (candidateOf B) q))
+    go (some y) q = omega (arith, top, next-few B vs x b y own q, ap (λ (y : Candidate). y .setting) (is ∙ ap (candidateOf B) q))
 
 -- ---- one slot
 

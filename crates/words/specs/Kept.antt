@@ -4,7 +4,7 @@ use mathlib.Core.Path.{_≡_}
 use mathlib.Core.List.{List}
 use mathlib.Core.Logic.{_≢_}
 use mathlib.Core.Option.{Option}
-use Prim.Native.Nat.{ℕ, suc, _+_, _-_, _*_, _/_, _%_, _<_}
+use Prim.Native.Nat.{ℕ, suc, _+_, _-_, _*_, _/_, _%_, _≤_, _<_}
 use lib.Dec.{eqb}
 use lib.ListN.{length, getD}
 use Rattle.laws.specs.Pairs.{Paired}
@@ -17,6 +17,14 @@ use Rattle.reader.specs.Paths.{Path, keyOf, ownWord, viewOf}
 use Rattle.order.specs.Entries.{keyAt, slotAt}
 
 -- ---- the table
+
+-- the table has four cells for each of the first N slots
+abbrev pub Cells : ℕ → List ℕ → Type 0
+Cells N kept = N * 4 ≤ length kept
+
+-- it has them for slot s, which is one of the 256 that there may be
+abbrev pub HasCells : ℕ → List ℕ → Type 0
+HasCells s kept = (s < 256) × (s * 4 + 4 ≤ length kept)
 
 -- cell f of slot s
 unfoldable pub keptCell : List ℕ → ℕ → ℕ → ℕ

@@ -4,8 +4,7 @@ ghost use mathlib.Core.Path.{_≡_};
 ghost use mathlib.Core.Bool.{true};
 ghost use Prim.Native.Nat.{_-_, _/_, _%_, _<_};
 ghost use lib.Dec.{eqb};
-ghost use lib.ListN.{length};
-ghost use Rattle.words.specs.Kept.{keptCell, keptAt, Keeps, OneKept};
+ghost use Rattle.words.specs.Kept.{HasCells, keptCell, keptAt, Keeps, OneKept};
 ghost use Rattle.outer.specs.declared.Candidate.{Candidate};
 use outer::Candidate;
 
@@ -19,8 +18,8 @@ fn mark(word: Candidate) -> u32
 }
 
 // Keeps a word for the path in a slot.
-pub fn keep(kept: &mut [u32; 1024], slot: usize, word: Candidate)
-    requires { ⌜ (length (now kept) ≡ 1024) × (slot < 256) × (word .setting < 1073741824) ⌝ }
+pub fn keep(kept: &mut [u32], slot: usize, word: Candidate)
+    requires { ⌜ HasCells slot (now kept) × (word .setting < 1073741824) ⌝ }
     ensures { λ _. ⌜ OneKept slot (now (kept .entry)) (now (kept .exit)) × (keptAt (now (kept .exit)) slot ≡ word) ⌝ }
 {
     let at = slot * 4;
@@ -34,16 +33,16 @@ pub fn keep(kept: &mut [u32; 1024], slot: usize, word: Candidate)
 }
 
 // Keeps no word for the path in a slot.
-fn forget(kept: &mut [u32; 1024], slot: usize)
-    requires { ⌜ (length (now kept) ≡ 1024) × (slot < 256) ⌝ }
+fn forget(kept: &mut [u32], slot: usize)
+    requires { ⌜ HasCells slot (now kept) ⌝ }
     ensures { λ _. ⌜ OneKept slot (now (kept .entry)) (now (kept .exit)) × (keptCell (now (kept .exit)) slot 0 ≡ 0) ⌝ }
 {
     kept[slot * 4] = 0;
 }
 
 // Keeps a word for the path in a slot where it is known, else none.
-pub fn keep_known(kept: &mut [u32; 1024], slot: usize, word: Candidate, known: bool)
-    requires { ⌜ (length (now kept) ≡ 1024) × (slot < 256) × (known ≡ true → word .setting < 1073741824) ⌝ }
+pub fn keep_known(kept: &mut [u32], slot: usize, word: Candidate, known: bool)
+    requires { ⌜ HasCells slot (now kept) × (known ≡ true → word .setting < 1073741824) ⌝ }
     ensures { λ _. ⌜ OneKept slot (now (kept .entry)) (now (kept .exit)) × ((c : Candidate) → (known ≡ true → word ≡ c) → Keeps (now (kept .exit)) slot c) ⌝ }
 {
     if known {
@@ -54,8 +53,8 @@ pub fn keep_known(kept: &mut [u32; 1024], slot: usize, word: Candidate, known: b
 }
 
 // The word kept in a slot that keeps one.
-pub fn recall(kept: &[u32; 1024], slot: usize) -> Candidate
-    requires { ⌜ (length (now kept) ≡ 1024) × (slot < 256) × (0 < keptCell (now kept) slot 0) ⌝ }
+pub fn recall(kept: &[u32], slot: usize) -> Candidate
+    requires { ⌜ HasCells slot (now kept) × (0 < keptCell (now kept) slot 0) ⌝ }
     ensures { λ r. ⌜ r ≡ keptAt (now (kept .entry)) slot ⌝ }
 {
     let at = slot * 4;

@@ -2,7 +2,6 @@
 ghost use mathlib.Core.Path.{_≡_};
 ghost use mathlib.Core.Option.{some};
 ghost use Prim.Native.Nat.{ℕ, suc, _+_, _^_, _≤_, _<_};
-ghost use lib.ListN.{length};
 ghost use lib.IntN.{pos, negℤ, _-ℤ_};
 ghost use Rattle.polar.specs.Layers.{part, Within};
 ghost use Rattle.codebook.specs.Book.{Book};
@@ -13,10 +12,10 @@ ghost use Rattle.outer.specs.Words as W;
 ghost use Rattle.outer.specs.Words.{Word};
 ghost use Rattle.reader.specs.Paths.{Path, ownWord};
 ghost use Rattle.order.specs.Entries.{slotAt};
-ghost use Rattle.sharing.specs.Sharing.{idAt};
+ghost use Rattle.sharing.specs.Sharing.{idAt, HasRow};
 ghost use Rattle.heights.specs.Workspace.{spot, Id};
 ghost use Rattle.standing.specs.Standing.{cell, Row, PutRow};
-ghost use Rattle.words.specs.Kept.{Keeps};
+ghost use Rattle.words.specs.Kept.{HasCells, Keeps};
 use crate::kept::recall;
 use heights::arrays::spot_of;
 use order::entries::slot_of;
@@ -45,7 +44,7 @@ pub fn score(spent: u32, cost: u32, bias: i32) -> i32
 
 // Writes what a path spent, the cost and the word of its last block, and the parities before and after that block.
 pub fn put(
-    rows: &mut [u32; 4096],
+    rows: &mut [u32],
     slot: usize,
     spent: u32,
     cost: u32,
@@ -53,7 +52,7 @@ pub fn put(
     earlier: u32,
     parities: u32,
 )
-    requires { ⌜ (length (now rows) ≡ 4096) × (slot < 256) ⌝ }
+    requires { ⌜ HasRow slot (now rows) ⌝ }
     ensures { λ _. ⌜ PutRow slot (now (rows .entry)) (now (rows .exit)) spent cost word earlier parities ⌝ }
 {
     let at = slot * 16;
@@ -66,7 +65,7 @@ pub fn put(
 
 // The nearest word of the block `at`, after the parities of the path in a slot, and the next after it.
 pub fn nearest_words(
-    rows: &[u32; 4096],
+    rows: &[u32],
     numbers: &[i32],
     kinds: &[u8; 512],
     terms: &[u32; 512],
@@ -77,7 +76,7 @@ pub fn nearest_words(
     sets: &mut [u32; 256],
     sums: &mut [u32; 128],
 ) -> Pair
-    requires { ⌜ (length (now rows) ≡ 4096) × (slot < 256) × (m ≤ 9) × (at .height ≤ m) × Id 256 (idAt (now rows) slot (at .height)) ⌝ }
+    requires { ⌜ HasRow slot (now rows) × (m ≤ 9) × (at .height ≤ m) × Id 256 (idAt (now rows) slot (at .height)) ⌝ }
     requires { ⌜ Searchable (now numbers) (spot m (idAt (now rows) slot (at .height)) (at .height)) (now kinds) (at .start) (at .height) ⌝ }
     requires { ⌜ Scratch (now words) (now sets) (now sums) ⌝ }
     ensures { λ _. ⌜ Scratch (now (words .exit)) (now (sets .exit)) (now (sums .exit)) ⌝ }
@@ -108,7 +107,7 @@ pub fn nearest_words(
 
 // The next word of the last block of the path in a slot and, where that is known too, the next after it.
 pub fn next_word(
-    rows: &[u32; 4096],
+    rows: &[u32],
     numbers: &[i32],
     kinds: &[u8; 512],
     terms: &[u32; 512],
@@ -119,7 +118,7 @@ pub fn next_word(
     sets: &mut [u32; 256],
     sums: &mut [u32; 128],
 ) -> Next
-    requires { ⌜ (length (now rows) ≡ 4096) × (slot < 256) × (m ≤ 9) × (last .height ≤ m) × Id 256 (idAt (now rows) slot (last .height)) ⌝ }
+    requires { ⌜ HasRow slot (now rows) × (m ≤ 9) × (last .height ≤ m) × Id 256 (idAt (now rows) slot (last .height)) ⌝ }
     requires { ⌜ Searchable (now numbers) (spot m (idAt (now rows) slot (last .height)) (last .height)) (now kinds) (last .start) (last .height) ⌝ }
     requires { ⌜ Scratch (now words) (now sets) (now sums) × (cell (now rows) slot 11 < 4294967295) ⌝ }
     ensures { λ _. ⌜ Scratch (now (words .exit)) (now (sets .exit)) (now (sums .exit)) ⌝ }
@@ -153,19 +152,19 @@ pub fn next_word(
 
 // The same of the path of entry e: the word kept in its slot alone, if one is, else by a search.
 pub fn other_word(
-    rows: &[u32; 4096],
+    rows: &[u32],
     numbers: &[i32],
     kinds: &[u8; 512],
     terms: &[u32; 512],
     m: usize,
     e: u64,
     last: Block,
-    kept: &[u32; 1024],
+    kept: &[u32],
     words: &mut [u32; 256],
     sets: &mut [u32; 256],
     sums: &mut [u32; 128],
 ) -> Next
-    requires { ⌜ (length (now rows) ≡ 4096) × (m ≤ 9) × (last .height ≤ m) × Id 256 (idAt (now rows) (slotAt e) (last .height)) × (length (now kept) ≡ 1024) ⌝ }
+    requires { ⌜ HasRow (slotAt e) (now rows) × (m ≤ 9) × (last .height ≤ m) × Id 256 (idAt (now rows) (slotAt e) (last .height)) × HasCells (slotAt e) (now kept) ⌝ }
     requires { ⌜ Searchable (now numbers) (spot m (idAt (now rows) (slotAt e) (last .height)) (last .height)) (now kinds) (last .start) (last .height) ⌝ }
     requires { ⌜ Scratch (now words) (now sets) (now sums) × (cell (now rows) (slotAt e) 11 < 4294967295) ⌝ }
     ensures { λ _. ⌜ Scratch (now (words .exit)) (now (sets .exit)) (now (sums .exit)) ⌝ }

@@ -24,19 +24,19 @@ add-id c = search needs
 mul-id-2 : tie.Need-mul-id-2
 mul-id-2 c = search needs
 
-element-copy-out-id : tie.Need-element-copy-out-id
-element-copy-out-id c = search needs
+shared-slice-read-id : tie.Need-shared-slice-read-id
+shared-slice-read-id c = search needs
 
 -- the row's id
 has-id : (c : tie.Start) → Id 256 (getD (c .args .rows .now) (c .args .slot * 16 + c .args .at .height) 0)
 unfolding idAt
-has-id c = c .pre .0 .4
+has-id c = c .pre .0 .3
 
 cast-id : tie.Need-cast-id
-cast-id c = record { fits = omega (arith, has-id (c .before) .most) }
+cast-id c = record { fits = omega (arith, has-id (c .before .before) .most) }
 
 spot-of-requires : tie.Need-spot-of-requires
-spot-of-requires c κs = let s = c .before in (s .pre .0 .2, s .pre .0 .3, has-id s)
+spot-of-requires c κs = let s = c .before .before in (s .pre .0 .1, s .pre .0 .2, has-id s)
 
 mul-parities : tie.Need-mul-parities
 mul-parities c = search needs
@@ -47,8 +47,8 @@ add-parities c = search needs
 mul-parities-2 : tie.Need-mul-parities-2
 mul-parities-2 c = search needs
 
-element-copy-out-parities : tie.Need-element-copy-out-parities
-element-copy-out-parities c = search needs
+shared-slice-read-parities : tie.Need-shared-slice-read-parities
+shared-slice-read-parities c = search needs
 
 cast-nearest-pair : tie.Need-cast-nearest-pair
 cast-nearest-pair c = search needs
@@ -56,13 +56,13 @@ cast-nearest-pair c = search needs
 nearest-pair-requires : tie.Need-nearest-pair-requires
 unfolding idAt
 nearest-pair-requires c κs =
-    let s = c .before .before .before .before .before .before in
+    let s = c .before .before .before .before .before .before .before in
     (rw (c .before .before .before .before .spot-of .ensures) (s .pre .1 .0), s .pre .1 .1)
 
 returns : tie.Need-returns
 unfolding idAt cell
 returns c =
-    let a = c .before .before .before .before .before .before .before .args in
+    let a = c .before .before .before .before .before .before .before .before .args in
     let j = a .at .height in (
       c .nearest-pair .ensures .0,
       λ B b x o h e.
@@ -75,17 +75,4 @@ returns c =
 pub nearest-words-spec : {M : Type 1} → statement M
 nearest-words-spec =
     tie.close
-    (tie.spec
-    mul-id
-    add-id
-    mul-id-2
-    element-copy-out-id
-    cast-id
-    spot-of-requires
-    mul-parities
-    add-parities
-    mul-parities-2
-    element-copy-out-parities
-    cast-nearest-pair
-    nearest-pair-requires
-    returns)
+    (tie.spec mul-id add-id mul-id-2 shared-slice-read-id cast-id spot-of-requires mul-parities add-parities mul-parities-2 shared-slice-read-parities cast-nearest-pair nearest-pair-requires returns)

@@ -24,19 +24,19 @@ add-id c = search needs
 mul-id-2 : tie.Need-mul-id-2
 mul-id-2 c = search needs
 
-element-copy-out-id : tie.Need-element-copy-out-id
-element-copy-out-id c = search needs
+shared-slice-read-id : tie.Need-shared-slice-read-id
+shared-slice-read-id c = search needs
 
 -- the row's id
 has-id : (c : tie.Start) → Id 256 (getD (c .args .rows .now) (c .args .slot * 16 + c .args .last .height) 0)
 unfolding idAt
-has-id c = c .pre .0 .4
+has-id c = c .pre .0 .3
 
 cast-id : tie.Need-cast-id
-cast-id c = record { fits = omega (arith, has-id (c .before) .most) }
+cast-id c = record { fits = omega (arith, has-id (c .before .before) .most) }
 
 spot-of-requires : tie.Need-spot-of-requires
-spot-of-requires c κs = let s = c .before in (s .pre .0 .2, s .pre .0 .3, has-id s)
+spot-of-requires c κs = let s = c .before .before in (s .pre .0 .1, s .pre .0 .2, has-id s)
 
 mul-earlier : tie.Need-mul-earlier
 mul-earlier c = search needs
@@ -47,8 +47,8 @@ add-earlier c = search needs
 mul-earlier-2 : tie.Need-mul-earlier-2
 mul-earlier-2 c = search needs
 
-element-copy-out-earlier : tie.Need-element-copy-out-earlier
-element-copy-out-earlier c = search needs
+shared-slice-read-earlier : tie.Need-shared-slice-read-earlier
+shared-slice-read-earlier c = search needs
 
 mul-cost : tie.Need-mul-cost
 mul-cost c = search needs
@@ -59,8 +59,8 @@ add-cost c = search needs
 mul-cost-2 : tie.Need-mul-cost-2
 mul-cost-2 c = search needs
 
-element-copy-out-cost : tie.Need-element-copy-out-cost
-element-copy-out-cost c = search needs
+shared-slice-read-cost : tie.Need-shared-slice-read-cost
+shared-slice-read-cost c = search needs
 
 mul-number : tie.Need-mul-number
 mul-number c = search needs
@@ -71,8 +71,8 @@ add-number c = search needs
 mul-number-2 : tie.Need-mul-number-2
 mul-number-2 c = search needs
 
-element-copy-out-number : tie.Need-element-copy-out-number
-element-copy-out-number c = search needs
+shared-slice-read-number : tie.Need-shared-slice-read-number
+shared-slice-read-number c = search needs
 
 cast-next-after : tie.Need-cast-next-after
 cast-next-after c = search needs
@@ -80,13 +80,13 @@ cast-next-after c = search needs
 next-after-requires : tie.Need-next-after-requires
 unfolding idAt cell
 next-after-requires c κs =
-    let s = c .before .before .before .before .before .before .before .before in
+    let s = c .before .before .before .before .before .before .before .before .before in
     (rw (c .before .before .before .before .before .before .spot-of .ensures) (s .pre .1 .0), s .pre .1 .1)
 
 returns : tie.Need-returns
 unfolding idAt cell ownWord
 returns c =
-    let a = c .before .before .before .before .before .before .before .before .before .args in
+    let a = c .before .before .before .before .before .before .before .before .before .before .args in
     let j = a .last .height in (
       c .next-after .ensures .0,
       λ B b p o h r e.
@@ -97,25 +97,4 @@ returns c =
 pub next-word-spec : {M : Type 1} → statement M
 next-word-spec =
     tie.close
-    (tie.spec
-    mul-id
-    add-id
-    mul-id-2
-    element-copy-out-id
-    cast-id
-    spot-of-requires
-    mul-earlier
-    add-earlier
-    mul-earlier-2
-    element-copy-out-earlier
-    mul-cost
-    add-cost
-    mul-cost-2
-    element-copy-out-cost
-    mul-number
-    add-number
-    mul-number-2
-    element-copy-out-number
-    cast-next-after
-    next-after-requires
-    returns)
+    (tie.spec mul-id add-id mul-id-2 shared-slice-read-id cast-id spot-of-requires mul-earlier add-earlier mul-earlier-2 shared-slice-read-earlier mul-cost add-cost mul-cost-2 shared-slice-read-cost mul-number add-number mul-number-2 shared-slice-read-number cast-next-after next-after-requires returns)

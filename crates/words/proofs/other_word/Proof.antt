@@ -19,20 +19,20 @@ mul-if1 c = search needs
 mul-if1-2 : tie.Need-mul-if1-2
 mul-if1-2 c = search needs
 
-element-copy-out-if1 : tie.Need-element-copy-out-if1
-element-copy-out-if1 c = search needs
+shared-slice-read-if1 : tie.Need-shared-slice-read-if1
+shared-slice-read-if1 c = search needs
 
 recall-requires : tie.Need-recall-requires
 recall-requires c κs =
     let t = c .before .before in
-    let a = t .before .args in
-    (t .before .pre .0 .4, t .slot-of .ensures .1, omega (arith, c .if1 .taken, first-cell (a .kept .now) (t .slot-of .result)))
+    let s = t .before .before .before in
+    (rw (t .slot-of .ensures .0) (s .pre .0 .4), omega (arith, c .if1 .taken, first-cell (s .args .kept .now) (t .slot-of .result)))
 
 returns : tie.Need-returns
 unfolding Keeps
 returns c =
     let t = c .before .before .before in
-    let s = t .before in
+    let s = t .before .before .before in
     let l = s .args .kept .now in
     let f = t .slot-of .ensures .0 in
     let some : 0 < keptCell l (t .slot-of .result) 0 = omega (arith, c .before .if1 .taken, first-cell l (t .slot-of .result)) in (
@@ -44,9 +44,9 @@ next-word-requires : tie.Need-next-word-requires
 next-word-requires c κs =
     let t = c .before .before .before .before .before in
     let f = t .slot-of .ensures in
-    let s = t .before in
+    let s = t .before .before .before in
     let p = s .pre .0 in
-    rw (f .0) ((p .0, omega (arith, f .0, f .1), p .1, p .2, p .3), s .pre .1)
+    rw (f .0) ((p .0, p .1, p .2, p .3), s .pre .1)
 
 returns-2 : tie.Need-returns-2
 returns-2 c =
@@ -56,12 +56,4 @@ returns-2 c =
 pub other-word-spec : {M : Type 1} → statement M
 other-word-spec =
     tie.close
-    (tie.spec
-    slot-of-requires
-    mul-if1
-    mul-if1-2
-    element-copy-out-if1
-    recall-requires
-    returns
-    next-word-requires
-    returns-2)
+    (tie.spec slot-of-requires mul-if1 mul-if1-2 shared-slice-read-if1 recall-requires returns next-word-requires returns-2)

@@ -3,7 +3,7 @@ use mathlib.Core.Path.{refl}
 use mathlib.Core.List.{[], _∷_}
 use Prim.Native.Nat.{ℕ, _+_, _*_}
 use native.Mathlib.Omega.{arith}
-use lib.ListN.{getD}
+use lib.ListN.{getD, length-set}
 use borrow.Author.Needs.{needs}
 use Rattle.laws.proofs.Stores.{stored-none}
 use Rattle.standing.specs.Standing.{cell}
@@ -20,8 +20,8 @@ add-rows c = search needs
 mul-rows : tie.Need-mul-rows
 mul-rows c = search needs
 
-element-write-rows : tie.Need-element-write-rows
-element-write-rows c = search needs
+slice-write-rows : tie.Need-slice-write-rows
+slice-write-rows c = search needs
 
 add-rows-2 : tie.Need-add-rows-2
 add-rows-2 c = search needs
@@ -29,8 +29,8 @@ add-rows-2 c = search needs
 mul-rows-2 : tie.Need-mul-rows-2
 mul-rows-2 c = search needs
 
-element-write-rows-2 : tie.Need-element-write-rows-2
-element-write-rows-2 c = search needs
+slice-write-rows-2 : tie.Need-slice-write-rows-2
+slice-write-rows-2 c = simp length-set (omega arith)
 
 add-rows-3 : tie.Need-add-rows-3
 add-rows-3 c = search needs
@@ -38,8 +38,8 @@ add-rows-3 c = search needs
 mul-rows-3 : tie.Need-mul-rows-3
 mul-rows-3 c = search needs
 
-element-write-rows-3 : tie.Need-element-write-rows-3
-element-write-rows-3 c = search needs
+slice-write-rows-3 : tie.Need-slice-write-rows-3
+slice-write-rows-3 c = simp length-set (omega arith)
 
 add-rows-4 : tie.Need-add-rows-4
 add-rows-4 c = search needs
@@ -47,8 +47,8 @@ add-rows-4 c = search needs
 mul-rows-4 : tie.Need-mul-rows-4
 mul-rows-4 c = search needs
 
-element-write-rows-4 : tie.Need-element-write-rows-4
-element-write-rows-4 c = search needs
+slice-write-rows-4 : tie.Need-slice-write-rows-4
+slice-write-rows-4 c = simp length-set (omega arith)
 
 add-rows-5 : tie.Need-add-rows-5
 add-rows-5 c = search needs
@@ -56,8 +56,8 @@ add-rows-5 c = search needs
 mul-rows-5 : tie.Need-mul-rows-5
 mul-rows-5 c = search needs
 
-element-write-rows-5 : tie.Need-element-write-rows-5
-element-write-rows-5 c = search needs
+slice-write-rows-5 : tie.Need-slice-write-rows-5
+slice-write-rows-5 c = simp length-set (omega arith)
 
 -- the five numbers
 abbrev value : tie.Start → ℕ → ℕ
@@ -85,24 +85,10 @@ returns c =
       after = λ k h. all .after k (omega arith);
     }
 
+same-length : tie.Need-same-length
+same-length c = simp length-set refl
+
 pub put-spec : {M : Type 1} → statement M
 put-spec =
     tie.close
-    (tie.spec
-    mul-at
-    add-rows
-    mul-rows
-    element-write-rows
-    add-rows-2
-    mul-rows-2
-    element-write-rows-2
-    add-rows-3
-    mul-rows-3
-    element-write-rows-3
-    add-rows-4
-    mul-rows-4
-    element-write-rows-4
-    add-rows-5
-    mul-rows-5
-    element-write-rows-5
-    returns)
+    (tie.spec mul-at add-rows mul-rows slice-write-rows add-rows-2 mul-rows-2 slice-write-rows-2 add-rows-3 mul-rows-3 slice-write-rows-3 add-rows-4 mul-rows-4 slice-write-rows-4 add-rows-5 mul-rows-5 slice-write-rows-5 same-length returns)

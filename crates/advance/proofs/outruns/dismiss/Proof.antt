@@ -13,7 +13,7 @@ use Rattle.order.proofs.Queues.{queue-put}
 use Rattle.sharing.specs.Sharing.{Held}
 use Rattle.standing.specs.Seen.{memory}
 use Rattle.steps.specs.Steps.{Queued}
-use Rattle.advance.proofs.Dismissals.{Passed, passed-none, passed-all, next-held, passed-out, passed-in}
+use Rattle.advance.proofs.Dismissals.{Passed, passed-none, passed-all, next-slot, next-held, passed-out, passed-in}
 use Rattle.advance.proofs.outruns.dismiss.Statement.{statement}
 use Rattle.advance.proofs.outruns.dismiss.Tie as tie
 
@@ -28,13 +28,13 @@ abbrev μ-loop : tie.MeasureT-loop
 
 loop-holds : tie.Need-loop-holds Inv-loop μ-loop
 loop-holds c =
-    let a = c .args in
-    let s = c .pre .0 in
+    let a = c .before .args in
+    let s = c .before .pre .0 in
     let z : a .paths - a .queued + 0 ≡ a .paths - a .queued = omega arith in (
       omega arith,
       omega arith,
-      s .0 .held,
-      s .2,
+      s .1,
+      s .3,
       λ numbers bytes x. rw (z, sub-zero (a .queued)) (passed-none (a .order .now) (a .b) (a .queued) (x .stands)),
     )
 
@@ -54,12 +54,14 @@ release-requires : tie.Need-release-requires Inv-loop μ-loop
 unfolding memory
 release-requires c κs =
     let t = c .before .before .before .before .before .before in
-    let a = t .before .args in
+    let a = t .before .before .args in
     let y = t .loop in
-    let x = t .before .pre .1 .2 in
+    let x = t .before .before .pre .1 .2 in
     let q : a .queued - y .i ≡ suc (a .queued - (y .i + 1)) = omega arith in
-    let held = next-held (a .queued - (y .i + 1)) q (y .inv .4 (t .before .pre .1 .0) (t .before .pre .1 .1) x) in (
-      (record { rows-size = t .before .pre .0 .0 .rows-size; held = y .inv .2 }, t .before .pre .0 .3, c .before .slot-of .ensures .1),
+    let passed = y .inv .4 (t .before .before .pre .1 .0) (t .before .before .pre .1 .1) x in
+    let low = next-slot (a .queued - (y .i + 1)) q passed in
+    let held = next-held (a .queued - (y .i + 1)) q passed in (
+      (y .inv .2, t .before .before .pre .0 .4, (omega arith, omega (arith, low, c .before .slot-of .ensures .0))),
       λ h l.
           let k = held h (omega (arith, x .deep)) in
           rw (c .before .slot-of .ensures .0) (omega (arith, k .0), k .1),
@@ -90,7 +92,7 @@ loop-again : tie.Need-loop-again Inv-loop μ-loop
 unfolding memory
 loop-again c =
     let t = c .before .before .before .before in
-    let a = t .before .args in
+    let a = t .before .before .args in
     let y = t .loop in
     let e = c .before .blocks-of .ensures in
     let v = a .paths - a .queued + y .gone in
@@ -124,7 +126,7 @@ loop-again c =
 returns : tie.Need-returns Inv-loop μ-loop
 returns c =
     let t = c .before in
-    let a = t .before .args in
+    let a = t .before .before .args in
     let y = t .loop in (
       (y .inv .2, y .inv .3, omega arith),
       λ numbers bytes x. passed-all (a .queued) (omega arith) (omega arith) (y .inv .4 numbers bytes x),
@@ -133,21 +135,4 @@ returns c =
 pub dismiss-spec : {M : Type 1} → statement M
 dismiss-spec =
     tie.close
-    (tie.spec
-    Inv-loop
-    μ-loop
-    loop-holds
-    mul-e
-    element-copy-out-e
-    blocks-of-requires
-    slot-of-requires
-    release-requires
-    cast-vacant
-    sub-vacant
-    add-vacant
-    element-write-vacant
-    add-gone
-    add-i
-    loop-less
-    loop-again
-    returns)
+    (tie.spec Inv-loop μ-loop loop-holds mul-e element-copy-out-e blocks-of-requires slot-of-requires release-requires cast-vacant sub-vacant add-vacant element-write-vacant add-gone add-i loop-less loop-again returns)

@@ -38,15 +38,15 @@ visited t = rw add-one
 
 returns : tie.Need-returns
 returns c =
-    let t = c .before .before .before in
+    let t = c .before .before .before .before in
     let a = t .args in
     let s = t .pre .0 in
     let seen = visit-same (a .visits .now) (a .b) (omega arith) in
     let entries = queueOf (a .order .now) (a .t .queued) in (
       (
-        s .0 .held,
         s .1,
         s .2,
+        s .3,
         visited t,
         refl,
         refl,
@@ -83,7 +83,7 @@ add-t26 c = search needs
 
 returns-2 : tie.Need-returns-2
 returns-2 c =
-    let t = c .before .before .before .before .before .before .before .before .before .before in
+    let t = c .before .before .before .before .before .before .before .before .before .before .before in
     let a = t .args in
     let gone = c .before .before .before .dismiss in
     let left = c .before .sift in

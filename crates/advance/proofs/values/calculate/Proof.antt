@@ -4,12 +4,15 @@ use borrow.Author.Needs.{needs}
 use mathlib.Core.Path.{refl, ap, subst}
 use mathlib.Core.List.{List}
 use mathlib.Core.Logic.{⊎-elim}
-use Prim.Native.Nat.{ℕ}
+use Prim.Native.Nat.{ℕ, _<_}
 use native.Mathlib.Omega.{arith}
 use lib.ListN.{length}
 use Rattle.reader.specs.Arrays.{byP}
+use Rattle.order.specs.Entries.{slotAt}
+use Rattle.sharing.specs.Sharing.{Rows}
 use Rattle.standing.specs.Seen.{Memory, memory, Seen, StepSeen, IdsOnly}
 use Rattle.standing.specs.Standing.{cell}
+use Rattle.standing.proofs.Sizes.{slot-low}
 use Rattle.views.proofs.Seeing.{ids-on}
 use Rattle.steps.specs.Steps.{committed, Moving}
 use Rattle.steps.proofs.Commits.{own-viewed, commit-seen}
@@ -27,13 +30,21 @@ old s = memory (s .args .rows .now) (s .args .holders .now) (s .args .numbers .n
 abbrev Hand : tie.Start → List ℕ → List ℕ → Type 0
 Hand s es vs = Moving (s .args .m) (s .args .paths) (old s) (s .args .e) es vs (s .args .last) (s .args .at)
 
+-- its slot is one of the first, and has a row
+hand-slot : (s : tie.Start) → slotAt (s .args .e) < s .args .paths
+hand-slot s = slot-low (s .pre .1 .2 .hand .stands)
+
+hand-rows : (s : tie.Start) → Rows (s .args .paths) (s .args .rows .now)
+unfolding memory
+hand-rows s = s .pre .0 .rows
+
 go-down-requires : tie.Need-go-down-requires
 go-down-requires c κs =
     let t = c .before .before .before .before in
-    let s = t .before .before .before .before in
+    let s = t .before .before .before .before .before in
     let r = t .before .before .slot-of .ensures in
     let h = s .pre .1 .2 in
-    ((s .pre .0, r .1, next-heights h (r .0) .0, omega arith), first-viewed h (r .0) (t .if1 .taken))
+    ((s .pre .0, omega (arith, r .0, hand-slot s), next-heights h (r .0) .0, omega arith), first-viewed h (r .0) (t .if1 .taken))
 
 mul-word : tie.Need-mul-word
 mul-word c = search needs
@@ -44,21 +55,21 @@ add-word c = search needs
 mul-word-2 : tie.Need-mul-word-2
 mul-word-2 c = search needs
 
-element-copy-out-word : tie.Need-element-copy-out-word
-element-copy-out-word c = search needs
+slice-read-word : tie.Need-slice-read-word
+slice-read-word c = let s = c .before .before .before .before .before .before in omega (arith, c .before .before .before .slot-of .ensures .0, hand-slot s, hand-rows s)
 
 commit-requires : tie.Need-commit-requires
 commit-requires c κs =
     let t = c .before .before .before .before .before in
-    let s = t .before .before .before .before in
+    let s = t .before .before .before .before .before in
     let r = t .before .before .slot-of .ensures in
     let h = s .pre .1 .2 in
     let l = later-heights h (r .0) (t .if1 .left) in
-    ((s .pre .0, r .1, l .0, omega arith), own-viewed (h .hand) (r .0) (h .valid) (later-own h (r .0) (t .if1 .left)))
+    ((s .pre .0, omega (arith, r .0, hand-slot s), l .0, omega arith), own-viewed (h .hand) (r .0) (h .valid) (later-own h (r .0) (t .if1 .left)))
 
 -- the way to a later block: where it began, and the last word in the sums
 abbrev start : tie.After-commit → tie.Start
-start u = u .before .before .before .before .before .before .before .before .before .before
+start u = u .before .before .before .before .before .before .before .before .before .before .before
 
 abbrev chosen : tie.After-commit → tie.After-slot-of
 chosen u = u .before .before .before .before .before .before .before .before
@@ -78,17 +89,17 @@ sum-seen u c =
 
 turn-over-requires : tie.Need-turn-over-requires
 turn-over-requires c κs =
-    let u = c .before .before .before .before .before .before in
+    let u = c .before .before .before .before .before .before .before .before in
     let r = chosen u .slot-of .ensures in
     let h = start u .pre .1 .2 in
     let n = left u .if1 .left in (
-      (u .commit .ensures .0 .0, r .1, later-heights h (r .0) n .1),
+      (u .commit .ensures .0 .0, omega (arith, r .0, hand-slot (start u)), later-heights h (r .0) n .1),
       record { others = away (h .hand); view = committed (h .hand); seen = sum-seen u h; met = committed-turning h (r .0) n },
     )
 
 -- and the values are turned
 abbrev sums : tie.After-turn-over → tie.After-commit
-sums t = t .before .before .before .before .before .before .before
+sums t = t .before .before .before .before .before .before .before .before .before
 
 abbrev turned : tie.After-turn-over → Memory
 turned t = memory (t .turn-over .last .0) (t .turn-over .last .1 .0) (t .turn-over .last .1 .1 .0) (sums t .commit .last .1 .1 .1 .0)
@@ -103,13 +114,13 @@ turn-seen t c =
 
 go-down-requires-2 : tie.Need-go-down-requires-2
 go-down-requires-2 c κs =
-    let t = c .before .before .before .before .before in
+    let t = c .before .before .before .before .before .before .before in
     let u = sums t in
     let r = chosen u .slot-of .ensures in
     let h = start u .pre .1 .2 in
     let n = left u .if1 .left in
     let l = later-heights h (r .0) n in (
-      (t .turn-over .ensures .0 .0, r .1, l .2, omega arith),
+      (t .turn-over .ensures .0 .0, omega (arith, r .0, hand-slot (start u)), l .2, omega arith),
       record {
         others = away (h .hand);
         view = byP (away (h .hand)) (start u .args .last .place) (committed (h .hand));
@@ -120,7 +131,7 @@ go-down-requires-2 c κs =
 
 -- by either way, the path is at its next block: first for each way at its end, then where the ways meet
 gone-first : (t : tie.After-go-down) →
-    let s = t .before .before .before .before .before .before .before .before .before in
+    let s = t .before .before .before .before .before .before .before .before .before .before in
     Gone (s .args .m) (s .args .paths) (s .args .e) (t .before .before .before .before .before .before .before .slot-of .result) (s .args .last) (s .args .at) (old s)
     (memory (t .go-down .last .0) (t .go-down .last .1 .0) (t .go-down .last .1 .1 .0) (s .args .bytes .now))
 unfolding memory
@@ -131,13 +142,13 @@ gone-first t =
     record { lent = f .0 .0; only = f .0 .1; seen = λ c. first-seen c (r .0) i _ (f .1) }
 
 gone-later : (t : tie.After-go-down2) →
-    let u = sums (t .before .before .before .before .before .before) in
+    let u = sums (t .before .before .before .before .before .before .before .before) in
     let s = start u in
     Gone (s .args .m) (s .args .paths) (s .args .e) (chosen u .slot-of .result) (s .args .last) (s .args .at) (old s)
     (memory (t .go-down2 .last .0) (t .go-down2 .last .1 .0) (t .go-down2 .last .1 .1 .0) (u .commit .last .1 .1 .1 .0))
 unfolding memory
 gone-later t =
-    let q = t .before .before .before .before .before .before in
+    let q = t .before .before .before .before .before .before .before .before in
     let u = sums q in
     let f = t .go-down2 .ensures in
     record {
@@ -147,7 +158,7 @@ gone-later t =
     }
 
 gone : (c : tie.Joined1) →
-    let s = c .before .before .before .before in
+    let s = c .before .before .before .before .before in
     Gone (s .args .m) (s .args .paths) (s .args .e) (c .before .before .slot-of .result) (s .args .last) (s .args .at) (old s)
     (memory (c .if1 .rows) (c .if1 .holders) (c .if1 .numbers) (c .if1 .bytes))
 unfolding memory
@@ -160,56 +171,64 @@ gone c =
     let a3 : tie.After-go-down-arg3 = record { before = a2; go-down-arg3 = w .3 } in
     let a4 : tie.After-go-down-arg4 = record { before = a3; go-down-arg4 = w .4 } in
     let a5 : tie.After-go-down = record { before = a4; go-down = w .5 } in
-    rw (w .7, w .8, w .9, w .10) (gone-first a5))
+    rw (w .9, w .10, w .11, w .12) (gone-first a5))
     (λ w.
     let a0 : tie.Else1 = record { before = c .before; if1 = w .0 } in
-    let a1 : tie.After-word = record { before = a0; word = w .1 } in
+    let a1 : tie.After-slice-known4 = record { before = a0; slice-known4 = w .1 } in
     let a2 : tie.After-commit-arg = record { before = a1; commit-arg = w .2 } in
     let a3 : tie.After-commit-arg2 = record { before = a2; commit-arg2 = w .3 } in
     let a4 : tie.After-commit-arg3 = record { before = a3; commit-arg3 = w .4 } in
     let a5 : tie.After-commit-arg4 = record { before = a4; commit-arg4 = w .5 } in
     let a6 : tie.After-commit = record { before = a5; commit = w .6 } in
-    let a7 : tie.After-bytes = record { before = a6; bytes = w .7 } in
-    let a8 : tie.After-slice-known2 = record { before = a7; slice-known2 = w .8 } in
-    let a9 : tie.After-turn-over-arg = record { before = a8; turn-over-arg = w .9 } in
-    let a10 : tie.After-turn-over-arg2 = record { before = a9; turn-over-arg2 = w .10 } in
-    let a11 : tie.After-turn-over-arg3 = record { before = a10; turn-over-arg3 = w .11 } in
-    let a12 : tie.After-turn-over-arg4 = record { before = a11; turn-over-arg4 = w .12 } in
-    let a13 : tie.After-turn-over = record { before = a12; turn-over = w .13 } in
-    let a14 : tie.After-numbers2 = record { before = a13; numbers2 = w .14 } in
-    let a15 : tie.After-go-down-arg5 = record { before = a14; go-down-arg5 = w .15 } in
-    let a16 : tie.After-go-down-arg6 = record { before = a15; go-down-arg6 = w .16 } in
-    let a17 : tie.After-go-down-arg7 = record { before = a16; go-down-arg7 = w .17 } in
-    let a18 : tie.After-go-down-arg8 = record { before = a17; go-down-arg8 = w .18 } in
-    let a19 : tie.After-go-down2 = record { before = a18; go-down2 = w .19 } in
-    rw (w .21, w .22, w .23, w .24) (gone-later a19))
+    let a7 : tie.After-rows2 = record { before = a6; rows2 = w .7 } in
+    let a8 : tie.After-slice-known5 = record { before = a7; slice-known5 = w .8 } in
+    let a9 : tie.After-bytes = record { before = a8; bytes = w .9 } in
+    let a10 : tie.After-slice-known6 = record { before = a9; slice-known6 = w .10 } in
+    let a11 : tie.After-turn-over-arg = record { before = a10; turn-over-arg = w .11 } in
+    let a12 : tie.After-turn-over-arg2 = record { before = a11; turn-over-arg2 = w .12 } in
+    let a13 : tie.After-turn-over-arg3 = record { before = a12; turn-over-arg3 = w .13 } in
+    let a14 : tie.After-turn-over-arg4 = record { before = a13; turn-over-arg4 = w .14 } in
+    let a15 : tie.After-turn-over = record { before = a14; turn-over = w .15 } in
+    let a16 : tie.After-rows3 = record { before = a15; rows3 = w .16 } in
+    let a17 : tie.After-slice-known7 = record { before = a16; slice-known7 = w .17 } in
+    let a18 : tie.After-numbers2 = record { before = a17; numbers2 = w .18 } in
+    let a19 : tie.After-go-down-arg5 = record { before = a18; go-down-arg5 = w .19 } in
+    let a20 : tie.After-go-down-arg6 = record { before = a19; go-down-arg6 = w .20 } in
+    let a21 : tie.After-go-down-arg7 = record { before = a20; go-down-arg7 = w .21 } in
+    let a22 : tie.After-go-down-arg8 = record { before = a21; go-down-arg8 = w .22 } in
+    let a23 : tie.After-go-down2 = record { before = a22; go-down2 = w .23 } in
+    rw (w .27, w .28, w .29, w .30) (gone-later a23))
     (c .if1 .came)
 
 -- an array for the block's word
 claim-requires : tie.Need-claim-requires
 claim-requires c κs =
     let j = c .before .before .before .before in
-    let s = j .before .before .before .before in
+    let s = j .before .before .before .before .before in
     let r = j .before .before .slot-of .ensures in
     let h = s .pre .1 .2 in (
-      (gone j .lent, r .1, next-heights h (r .0) .1),
+      (gone j .lent, omega (arith, r .0, hand-slot s), next-heights h (r .0) .1),
       record { others = away (h .hand); view = reached (h .hand); seen = gone j .seen h; met = reached-claimable h (r .0) },
     )
 
 same-length : tie.Need-same-length
 same-length c =
-    ⊎-elim (λ w. omega (arith, ap length (w .9), w .6 .given)) (λ w. omega (arith, ap length (w .23), w .20 .given, w .14 .given)) (c .before .before .before .before .before .before .if1 .came)
+    ⊎-elim (λ w. omega (arith, ap length (w .9), w .6 .given)) (λ w. omega (arith, ap length (w .27), w .24 .given, w .16 .given, w .7 .given)) (c .before .before .before .before .before .before .before .before .if1 .came)
 
 same-length-2 : tie.Need-same-length-2
 same-length-2 c =
-    ⊎-elim (λ w. omega (arith, ap length (w .10))) (λ w. omega (arith, ap length (w .24), w .7 .given)) (c .before .before .before .before .before .before .if1 .came)
+    ⊎-elim (λ w. omega (arith, ap length (w .11), w .8 .given)) (λ w. omega (arith, ap length (w .29), w .26 .given, w .18 .given)) (c .before .before .before .before .before .before .before .before .if1 .came)
+
+same-length-3 : tie.Need-same-length-3
+same-length-3 c =
+    ⊎-elim (λ w. omega (arith, ap length (w .12))) (λ w. omega (arith, ap length (w .30), w .9 .given)) (c .before .before .before .before .before .before .before .before .if1 .came)
 
 returns : tie.Need-returns
 unfolding memory
 returns c =
-    let f = c .before .claim in
-    let j = c .before .before .before .before .before .before in
-    let s = j .before .before .before .before in
+    let f = c .before .before .before .claim in
+    let j = c .before .before .before .before .before .before .before .before in
+    let s = j .before .before .before .before .before in
     let r = j .before .before .slot-of .ensures in
     let only = ids-on (s .args .rows .now) (j .if1 .rows) (gone j .only) (f .ensures .0 .1) in (
       (f .ensures .0 .0, subst (λ (k : ℕ). IdsOnly (s .args .m) k (s .args .rows .now) (f .last .0)) (r .0) only),
@@ -219,17 +238,4 @@ returns c =
 pub calculate-spec : {M : Type 1} → statement M
 calculate-spec =
     tie.close
-    (tie.spec
-    slot-of-requires
-    go-down-requires
-    mul-word
-    add-word
-    mul-word-2
-    element-copy-out-word
-    commit-requires
-    turn-over-requires
-    go-down-requires-2
-    claim-requires
-    same-length
-    same-length-2
-    returns)
+    (tie.spec slot-of-requires go-down-requires mul-word add-word mul-word-2 slice-read-word commit-requires turn-over-requires go-down-requires-2 claim-requires same-length same-length-2 same-length-3 returns)

@@ -31,14 +31,14 @@ own s = s .pre .1 .1 .1 .0
 
 second-requires : tie.Need-second-requires
 second-requires c κs =
-    let s = c .before .before .before .before .before .before .before .before .before .before .before in
+    let s = c .before .before .before .before .before .before .before .before .before .before .before .before .before in
     let p = s .pre .0 in
     let q = s .pre .1 .0 in
     ((p .0, p .1, p .2, p .4), ((q .0, q .1, q .2, q .3, q .4), (extract-seconding (own s), s .pre .1 .1 .1 .1)))
 
 -- after the copy, for any state
 abbrev start : tie.After-second → tie.Start
-start c = c .before .before .before .before .before .before .before .before .before .before .before .before
+start c = c .before .before .before .before .before .before .before .before .before .before .before .before .before .before
 
 abbrev at-second : tie.After-second → Memory
 at-second c = let f = c .second .last in memory (f .0) (f .1 .0) (f .1 .1 .1 .1 .0) (start c .args .bytes .now)
@@ -62,7 +62,7 @@ copied c o = c .second .ensures .1 .1 .0 (extract-seconding o)
 
 third-requires : tie.Need-third-requires
 third-requires c κs =
-    let t = c .before .before .before .before .before .before .before .before .before .before in
+    let t = c .before .before .before .before .before .before .before .before .before .before .before .before .before .before in
     let a = start t .args in
     let f = t .second .ensures in (
       (f .0 .0, f .0 .1, f .1 .0 .2, f .0 .3, f .0 .4),
@@ -71,7 +71,7 @@ third-requires c κs =
 
 -- after the move, for any state; and the words kept
 abbrev seconded : tie.After-third → tie.After-second
-seconded c = c .before .before .before .before .before .before .before .before .before .before .before
+seconded c = c .before .before .before .before .before .before .before .before .before .before .before .before .before .before .before
 
 abbrev at-third : tie.After-third → Memory
 at-third c = let f = c .third .last in memory (f .0) (f .1 .0) (f .1 .1 .1 .0) (f .1 .1 .1 .1 .0)
@@ -99,7 +99,7 @@ cast-outrun : tie.Need-cast-outrun
 cast-outrun c = search needs
 
 abbrev thirded : tie.After-blocks-of → tie.After-third
-thirded c = c .before .before .before .before .before .before .before .before .before
+thirded c = c .before .before .before .before .before .before .before .before .before .before .before .before .before
 
 returns : tie.Need-returns
 unfolding memory
@@ -115,7 +115,8 @@ returns c =
         record {
           deep = l .0 .deep;
           many = l .0 .many;
-          sizes = record { rows-size = l .0 .sizes .rows-size; held = f .0 .0 };
+          rows = l .0 .rows;
+          held = f .0 .0;
           numbers = l .0 .numbers;
           bytes = l .0 .bytes;
         },
@@ -149,7 +150,7 @@ outrun-requires c κs =
     let o = own s in
     let one : suc (t .second .result .queued) ≡ t .second .result .queued + 1 = omega arith in
     let l = u .third .ensures .0 in (
-      (l .0 .sizes, l .1, t .second .ensures .0 .2, s .pre .0 .3, l .0 .deep),
+      (l .0 .rows, l .0 .held, l .1, t .second .ensures .0 .2, s .pre .0 .3, l .0 .deep),
       (
         (
           l .0 .many,
@@ -172,21 +173,22 @@ outrun-requires c κs =
 same-length : tie.Need-same-length
 same-length c =
     let u = thirded (c .before) in
-    omega (arith, u .third .kept .1 .1 .1 .0, seconded u .second .kept .1 .1 .1 .1 .0)
+    omega (arith, u .third .kept .0, seconded u .second .kept .0)
 
 same-length-2 : tie.Need-same-length-2
-same-length-2 c = thirded (c .before) .third .kept .1 .1 .1 .1 .0
+same-length-2 c =
+    let u = thirded (c .before) in
+    omega (arith, u .third .kept .1 .1 .1 .0, seconded u .second .kept .1 .1 .1 .1 .0)
+
+same-length-3 : tie.Need-same-length-3
+same-length-3 c = thirded (c .before) .third .kept .1 .1 .1 .1 .0
+
+same-length-4 : tie.Need-same-length-4
+same-length-4 c =
+    let u = thirded (c .before) in
+    omega (arith, u .third .kept .1 .1 .1 .1 .1 .1 .1 .1 .1 .1 .1 .1 .1 .0, seconded u .second .kept .1 .1 .1 .1 .1 .1 .1 .1 .1 .1 .1 .1 .0)
 
 pub extract-spec : {M : Type 1} → statement M
 extract-spec =
     tie.close
-    (tie.spec
-    second-requires
-    third-requires
-    add-x
-    blocks-of-requires
-    cast-outrun
-    outrun-requires
-    same-length
-    same-length-2
-    returns)
+    (tie.spec second-requires third-requires add-x blocks-of-requires cast-outrun outrun-requires same-length same-length-2 same-length-3 same-length-4 returns)

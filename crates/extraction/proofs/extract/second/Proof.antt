@@ -16,7 +16,7 @@ blocks-of-requires c κs = search needs
 
 returns : tie.Need-returns
 returns c =
-    let s = c .before .before .before in
+    let s = c .before .before .before .before .before in
     let a = s .args in
     let none : keyAt (a .e) .blocks ≡ 0 = omega (arith, c .before .blocks-of .ensures, c .if1 .taken) in (
       (s .pre .0 .0, s .pre .0 .1, s .pre .0 .2, s .pre .0 .3, s .pre .1 .0 .0),
@@ -33,7 +33,7 @@ returns c =
 
 -- the blocks, where there are some
 abbrev start : tie.Else1 → tie.Start
-start c = c .before .before .before
+start c = c .before .before .before .before .before
 
 some-blocks : (c : tie.Else1) → let n = c .before .blocks-of .result in (n ≡ suc (n - 1)) × (keyAt (start c .args .e) .blocks ≡ suc (n - 1))
 some-blocks c = (omega (arith, c .if1 .left), omega (arith, c .if1 .left, c .before .blocks-of .ensures))
@@ -49,18 +49,24 @@ same-length c = search needs
 
 returns-2 : tie.Need-returns-2
 returns-2 c =
-    let f = c .before .copy .ensures in
-    let t = c .before .before .before .before .before .before .before .before .before .before .before in
+    let f = c .before .before .before .before .before .copy .ensures in
+    let t = c .before .before .before .before .before .before .before .before .before .before .before .before .before .before .before in
     let a = start t .args in (
       f .0,
       (
         f .1 .0,
         (
-          λ o. second-done o (some-blocks t .1) (a .t .next) (a .t .crowded) (c .before .copy .last .1 .1 .1 .1 .1 .1 .1 .1 .1 .1 .1 .1 .1 .0) (f .1 .1 .0 _ (second-copying o (some-blocks t .1)) (some-blocks t .0)),
+          λ o. second-done o (some-blocks t .1) (a .t .next) (a .t .crowded) (c .before .before .before .before .before .copy .last .1 .1 .1 .1 .1 .1 .1 .1 .1 .1 .1 .1 .1 .0) (f .1 .1 .0 _ (second-copying o (some-blocks t .1)) (some-blocks t .0)),
           f .1 .1 .1,
         ),
       ),
     )
 
+same-length-2 : tie.Need-same-length-2
+same-length-2 c = search needs
+
+same-length-3 : tie.Need-same-length-3
+same-length-3 c = search needs
+
 pub second-spec : {M : Type 1} → statement M
-second-spec = tie.close (tie.spec blocks-of-requires returns copy-requires same-length returns-2)
+second-spec = tie.close (tie.spec blocks-of-requires returns copy-requires same-length same-length-2 same-length-3 returns-2)

@@ -20,10 +20,11 @@ use Rattle.outer.specs.Blocks.{paritySet, Bits, candidateOf}
 use Rattle.reader.specs.Arrays.{valsOf}
 use Rattle.reader.specs.Paths.{keyOf}
 use Rattle.order.specs.Entries.{keyAt, slotAt, Packed, queueOf}
-use Rattle.sharing.specs.Sharing.{idAt}
+use Rattle.sharing.specs.Sharing.{idAt, HasRow}
 use Rattle.heights.specs.Workspace.{spot}
 use Rattle.standing.specs.Seen.{Memory, memory}
 use Rattle.standing.specs.Standing.{cell, Stands, withIds, PutRow}
+use Rattle.standing.proofs.Sizes.{slot-low}
 use Rattle.extraction.specs.Extraction.{Thirding}
 use Rattle.extraction.proofs.Moves.{view, moved, third-tabled, third-parities, third-bias, third-blocks, third-low, third-spent, third-cost, third-set, third-id, third-searchable, third-second, third-total, third-packed, third-queued}
 use Rattle.extraction.proofs.Keeping.{third-few, third-kept}
@@ -45,9 +46,6 @@ add-spent c = search needs
 mul-spent-2 : tie.Need-mul-spent-2
 mul-spent-2 c = search needs
 
-element-copy-out-spent : tie.Need-element-copy-out-spent
-element-copy-out-spent c = search needs
-
 mul-spent-3 : tie.Need-mul-spent-3
 mul-spent-3 c = search needs
 
@@ -57,12 +55,9 @@ add-spent-2 c = search needs
 mul-spent-4 : tie.Need-mul-spent-4
 mul-spent-4 c = search needs
 
-element-copy-out-spent-2 : tie.Need-element-copy-out-spent-2
-element-copy-out-spent-2 c = search needs
-
 -- the memory where the call began, and a state that it stands for
 abbrev start : tie.After-calculate → tie.Start
-start c = c .before .before .before .before .before .before
+start c = c .before .before .before .before .before .before .before .before
 
 abbrev at-start : tie.Start → Memory
 at-start s = memory (s .args .rows .now) (s .args .holders .now) (s .args .numbers .now) (s .args .bytes .now)
@@ -77,7 +72,7 @@ own s = s .pre .1 .0 .1
 
 -- the memory once the values are there, and the slot
 abbrev made : tie.After-slot-of → tie.After-calculate
-made c = c .before .before .before .before
+made c = c .before .before .before .before .before .before
 
 abbrev at-made : tie.After-calculate → Memory
 at-made c = let f = c .calculate .last in memory (f .0) (f .1 .0) (f .1 .1 .0) (f .1 .1 .1 .0)
@@ -91,6 +86,23 @@ slot c = slotAt (start (made c) .args .e)
 
 slot-is : (c : tie.After-slot-of) → c .slot-of .result ≡ slot c
 slot-is c = c .slot-of .ensures .0
+
+-- its row is there
+row-there : (c : tie.After-slot-of) → HasRow (slot c) (made c .calculate .last .0)
+unfolding memory
+row-there c =
+    let l = made c .calculate .ensures .0 .0 in
+    let low = slot-low (own (start (made c)) .moving .hand .stands) in
+    (omega (arith, low, l .many), omega (arith, low, l .rows))
+
+slice-read-spent : tie.Need-slice-read-spent
+slice-read-spent c = let t = c .before in omega (arith, slot-is t, row-there t)
+
+slice-read-spent-2 : tie.Need-slice-read-spent-2
+slice-read-spent-2 c = let t = c .before .before in omega (arith, slot-is t, row-there t)
+
+slice-read-parities : tie.Need-slice-read-parities
+slice-read-parities c = let t = c .before .before .before in omega (arith, slot-is t, row-there t)
 
 -- the cells read
 abbrev cell-of : tie.After-slot-of → ℕ → ℕ
@@ -117,9 +129,6 @@ add-parities c = search needs
 mul-parities-2 : tie.Need-mul-parities-2
 mul-parities-2 c = search needs
 
-element-copy-out-parities : tie.Need-element-copy-out-parities
-element-copy-out-parities c = search needs
-
 nearest-words-requires : tie.Need-nearest-words-requires
 unfolding memory
 nearest-words-requires c κs =
@@ -129,7 +138,7 @@ nearest-words-requires c κs =
     let l = made t .calculate .ensures .0 .0 in
     let st = values-there (made t) _ o in
     rw (slot-is t) (
-      (l .sizes .rows-size, omega (arith, t .slot-of .ensures), l .deep, third-low o, third-id o st (l .many)),
+      (row-there t, l .deep, third-low o, third-id o st (l .many)),
       (third-searchable o st l, s .pre .0 .4),
     )
 
@@ -176,7 +185,7 @@ put-requires : tie.Need-put-requires
 unfolding memory
 put-requires c κs =
     let t = slotted (c .before .before) in
-    (made t .calculate .ensures .0 .0 .sizes .rows-size, t .slot-of .ensures .1)
+    rw (slot-is t) (row-there t)
 
 bias-back : (c : tie.After-calculate) → back (start c .args .at .bias) ≡ start c .args .at .bias
 unfolding memory
@@ -189,7 +198,7 @@ searched c = c .before .before .before
 score-requires : tie.Need-score-requires
 unfolding memory
 score-requires c κs =
-    let u = searched (c .before) in
+    let u = searched (c .before .before .before) in
     let t = slotted u in
     let o = own (start (made t)) in
     (omega (arith, read t 10, read t 11, third-total o (values-there (made t) _ o) (found-is u _ o)), rw (bias-back (made t)) (third-bias o))
@@ -199,7 +208,7 @@ blocks-of-requires c κs = search needs
 
 -- the place where the row is written
 abbrev written : tie.After-score → tie.After-put
-written c = c .before .before
+written c = c .before .before .before .before
 
 add-entry : tie.Need-add-entry
 unfolding memory
@@ -268,7 +277,7 @@ put-is c =
     subst (λ (s : ℕ). PutRow s rows (c .put .last .0) (getD rows (s * 16 + 10) 0 + getD rows (s * 16 + 11) 0) (w .cost) (w .number) (getD rows (s * 16 + 14) 0) (w .parities))
     (slot-is t) (c .put .ensures)
 
--- the values and the sums are as many as they were
+-- the place where the row was written, of one after the insertion
 abbrev ended : tie.After-insert → tie.After-put
 ended c = written (c .before .before .before .before .before)
 
@@ -277,7 +286,7 @@ keep-requires c κs =
     let i = c .before .before in
     let u = searched (ended i) in
     let s = start (made (slotted u)) in
-    (s .pre .0 .3, slotted u .slot-of .ensures .1, third-few (own s) (next-is u _ (own s)))
+    ((slotted u .slot-of .ensures .1, omega (arith, slot-is (slotted u), slot-low (own s .moving .hand .stands), s .pre .0 .3)), third-few (own s) (next-is u _ (own s)))
 
 -- the path's entry, for any state
 entry-is : (c : tie.After-entry) (vs : List ℕ) → let t = slotted (searched (written (c .before .before .before))) in
@@ -288,30 +297,39 @@ entry-is c vs o =
     third-packed o (values-there (made (slotted u)) vs o) (found-is u vs o) (score-is f) (packed c)
 
 same-length : tie.Need-same-length
-same-length c = made (slotted (searched (ended (c .before .before .before)))) .calculate .kept .1 .1 .0
+same-length c =
+    let p = ended (c .before .before .before .before .before) in
+    omega (arith, p .put .kept .0, made (slotted (searched p)) .calculate .kept .0)
 
 same-length-2 : tie.Need-same-length-2
-same-length-2 c = made (slotted (searched (ended (c .before .before .before)))) .calculate .kept .1 .1 .1 .0
+same-length-2 c = made (slotted (searched (ended (c .before .before .before .before .before)))) .calculate .kept .1 .1 .0
+
+same-length-3 : tie.Need-same-length-3
+same-length-3 c = made (slotted (searched (ended (c .before .before .before .before .before)))) .calculate .kept .1 .1 .1 .0
+
+same-length-4 : tie.Need-same-length-4
+same-length-4 c = c .before .before .keep .kept .0
 
 returns : tie.Need-returns
 unfolding memory
 returns c =
-    let i = c .before .before .before in
+    let i = c .before .before .before .before .before in
     let p = ended i in
     let u = searched p in
     let t = slotted u in
-    let k = rw (slot-is t) at (c .keep .ensures) in
+    let k = rw (slot-is t) at (c .before .before .keep .ensures) in
     let l = made t .calculate .ensures .0 .0 in (
       (
         record {
           deep = l .deep;
           many = l .many;
-          sizes = record { rows-size = p .put .ensures .size ∙ l .sizes .rows-size; held = l .sizes .held };
+          rows = omega (arith, l .rows, p .put .ensures .size);
+          held = l .held;
           numbers = l .numbers;
           bytes = l .bytes;
         },
         i .insert .ensures .0 .0,
-        k .0 .size ∙ start (made t) .pre .0 .3,
+        omega (arith, k .0 .size, start (made t) .pre .0 .3),
         u .nearest-words .ensures .0,
       ),
       (
@@ -326,31 +344,4 @@ returns c =
 pub third-spec : {M : Type 1} → statement M
 third-spec =
     tie.close
-    (tie.spec
-    calculate-requires
-    slot-of-requires
-    mul-spent
-    add-spent
-    mul-spent-2
-    element-copy-out-spent
-    mul-spent-3
-    add-spent-2
-    mul-spent-4
-    element-copy-out-spent-2
-    add-spent-3
-    mul-parities
-    add-parities
-    mul-parities-2
-    element-copy-out-parities
-    nearest-words-requires
-    put-requires
-    score-requires
-    blocks-of-requires
-    add-entry
-    number-of-requires
-    entry-requires
-    insert-requires
-    keep-requires
-    same-length
-    same-length-2
-    returns)
+    (tie.spec calculate-requires slot-of-requires mul-spent add-spent mul-spent-2 slice-read-spent mul-spent-3 add-spent-2 mul-spent-4 slice-read-spent-2 add-spent-3 mul-parities add-parities mul-parities-2 slice-read-parities nearest-words-requires put-requires score-requires blocks-of-requires add-entry number-of-requires entry-requires insert-requires keep-requires same-length same-length-2 same-length-3 same-length-4 returns)

@@ -15,17 +15,17 @@ abbrev μ-loop : tie.MeasureT-loop
 μ-loop rows holders₀ m slot h₀ holders h = m + 1 - h
 
 loop-holds : tie.Need-loop-holds Inv-loop μ-loop
-loop-holds c = (omega arith, c .pre .0 .0 .held, more-none _ _ _)
+loop-holds c = (omega arith, c .before .pre .0 .0, more-none _ _ _)
 
 -- the row's id at this height
 abbrev idOf : tie.At-loop Inv-loop μ-loop → ℕ
-idOf t = getD (t .before .args .rows .now) (t .before .args .slot * 16 + t .loop .h) 0
+idOf t = getD (t .before .before .args .rows .now) (t .before .before .args .slot * 16 + t .loop .h) 0
 
 -- it is an id, and held still
-here : (t : tie.At-loop Inv-loop μ-loop) → t .loop .h ≤ t .before .args .m → (idOf t ≤ 256) × (1 ≤ heldAt (t .loop .holders) (t .loop .h) (idOf t))
+here : (t : tie.At-loop Inv-loop μ-loop) → t .loop .h ≤ t .before .before .args .m → (idOf t ≤ 256) × (1 ≤ heldAt (t .loop .holders) (t .loop .h) (idOf t))
 unfolding idAt
 here t l =
-    let k = t .before .pre .1 (t .loop .h) l in
+    let k = t .before .before .pre .1 (t .loop .h) l in
     (k .0, omega (arith, k .1, t .loop .inv .2 .rest (t .loop .h) (idOf t) (omega arith) (omega arith) (k .0)))
 
 mul-drop-one : tie.Need-mul-drop-one Inv-loop μ-loop
@@ -37,8 +37,8 @@ add-drop-one c = omega arith
 mul-drop-one-2 : tie.Need-mul-drop-one-2 Inv-loop μ-loop
 mul-drop-one-2 c = omega arith
 
-element-copy-out-drop-one : tie.Need-element-copy-out-drop-one Inv-loop μ-loop
-element-copy-out-drop-one c = omega arith
+shared-slice-read-drop-one : tie.Need-shared-slice-read-drop-one Inv-loop μ-loop
+shared-slice-read-drop-one c = omega arith
 
 cast-drop-one : tie.Need-cast-drop-one Inv-loop μ-loop
 cast-drop-one c = omega (arith, here (c .before .before .before) (c .before .before .loop-test .taken))
@@ -65,7 +65,7 @@ returns : tie.Need-returns Inv-loop μ-loop
 unfolding LessBy
 returns c =
     let t = c .before in
-    let e : t .loop .h ≡ t .before .args .m + 1 = omega arith in
+    let e : t .loop .h ≡ t .before .before .args .m + 1 = omega arith in
     (t .loop .inv .1, rw e at (t .loop .inv .2))
 
 pub release-spec : {M : Type 1} → statement M
@@ -78,7 +78,7 @@ release-spec =
     mul-drop-one
     add-drop-one
     mul-drop-one-2
-    element-copy-out-drop-one
+    shared-slice-read-drop-one
     cast-drop-one
     drop-one-requires
     add-h

@@ -1,5 +1,5 @@
 -- `sharing::holders::share` meets its contract. The loop's invariant: the heights below h are copied, and counted once more. Assumes nothing.
-use mathlib.Core.Path.{_≡_, sym, _∙_}
+use mathlib.Core.Path.{_≡_, sym}
 use mathlib.Core.Logic.{_⊎_, inl, inr}
 use Prim.Native.Nat.{ℕ, _+_, _-_, _*_, _≤_, _<_}
 use native.Mathlib.Omega.{arith}
@@ -19,7 +19,7 @@ abbrev μ-loop : tie.MeasureT-loop
 μ-loop rows₀ holders₀ m from to h₀ rows holders h = m + 1 - h
 
 loop-holds : tie.Need-loop-holds Inv-loop μ-loop
-loop-holds c = (omega arith, c .pre .0 .0 .held, stored-none _ _ _, more-none _ _ _)
+loop-holds c = (omega arith, c .pre .0 .0, stored-none _ _ _, more-none _ _ _)
 
 -- the id that this turn reads
 abbrev idOf : tie.At-loop Inv-loop μ-loop → ℕ
@@ -51,8 +51,8 @@ add-id c = omega arith
 mul-id-2 : tie.Need-mul-id-2 Inv-loop μ-loop
 mul-id-2 c = omega arith
 
-element-copy-out-id : tie.Need-element-copy-out-id Inv-loop μ-loop
-element-copy-out-id c = omega arith
+slice-read-id : tie.Need-slice-read-id Inv-loop μ-loop
+slice-read-id c = omega arith
 
 mul-at : tie.Need-mul-at Inv-loop μ-loop
 mul-at c = omega arith
@@ -87,8 +87,8 @@ add-rows c = omega arith
 mul-rows-2 : tie.Need-mul-rows-2 Inv-loop μ-loop
 mul-rows-2 c = omega arith
 
-element-write-rows : tie.Need-element-write-rows Inv-loop μ-loop
-element-write-rows c = omega arith
+slice-write-rows : tie.Need-slice-write-rows Inv-loop μ-loop
+slice-write-rows c = omega arith
 
 add-h : tie.Need-add-h Inv-loop μ-loop
 add-h c = omega arith
@@ -104,9 +104,12 @@ loop-again c =
     let x = t .loop .inv in (
       omega arith,
       held-count _ _ _ _ (x .1) (omega arith) (here t l .0) (λ _ _. omega arith),
-      stored-more (idOf t) (x .2) (omega (arith, t .before .pre .0 .0 .rows-size)) (same t l),
+      stored-more (idOf t) (x .2) (omega arith) (same t l),
       more-add (x .1 .size) (omega arith) (sym (same t l)) (here t l .0) (x .3),
     )
+
+same-length : tie.Need-same-length Inv-loop μ-loop
+same-length c = c .before .loop .inv .2 .size
 
 returns : tie.Need-returns Inv-loop μ-loop
 unfolding Copied idAt
@@ -114,7 +117,7 @@ returns c =
     let t = c .before in
     let x = t .loop .inv in
     let e : t .loop .h ≡ t .before .args .m + 1 = omega arith in (
-      record { rows-size = x .2 .size ∙ t .before .pre .0 .0 .rows-size; held = x .1 },
+      (x .1, x .2 .size),
       ((λ h l. x .2 .done h (omega arith), x .2 .before, λ k l. x .2 .after k (omega arith)), rw e at (x .3)),
     )
 
@@ -128,7 +131,7 @@ share-spec =
     mul-id
     add-id
     mul-id-2
-    element-copy-out-id
+    slice-read-id
     mul-at
     cast-at
     add-at
@@ -140,8 +143,9 @@ share-spec =
     mul-rows
     add-rows
     mul-rows-2
-    element-write-rows
+    slice-write-rows
     add-h
     loop-less
     loop-again
+    same-length
     returns)

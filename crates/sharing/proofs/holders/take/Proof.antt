@@ -5,7 +5,7 @@ use mathlib.Core.Logic.{_⊎_, inl, inr}
 use Prim.Native.Nat.{ℕ, _+_, _-_, _*_, _≤_}
 use native.Mathlib.Omega.{arith}
 use borrow.Author.Needs.{needs}
-use lib.ListN.{getD, length-set}
+use lib.ListN.{getD}
 use lib.Seq.{set-getD}
 use Rattle.reader.specs.Arrays.{ownOf}
 use Rattle.reader.proofs.Own.{own-most}
@@ -24,8 +24,8 @@ add-at c = search needs
 mul-id : tie.Need-mul-id
 mul-id c = search needs
 
-element-copy-out-id : tie.Need-element-copy-out-id
-element-copy-out-id c = search needs
+slice-read-id : tie.Need-slice-read-id
+slice-read-id c = search needs
 
 -- the row's id, and how many hold it
 abbrev idOf : tie.Start → ℕ
@@ -43,19 +43,19 @@ unfolding idAt heldAt
 some t = omega (arith, held-one (t .pre .1))
 
 cast-id : tie.Need-cast-id
-cast-id c = omega (arith, low (c .before))
+cast-id c = omega (arith, low (c .before .before))
 
 mul-held : tie.Need-mul-held
 mul-held c = search needs
 
 add-held : tie.Need-add-held
-add-held c = omega (arith, low (c .before))
+add-held c = omega (arith, low (c .before .before))
 
 mul-held-2 : tie.Need-mul-held-2
-mul-held-2 c = omega (arith, low (c .before))
+mul-held-2 c = omega (arith, low (c .before .before))
 
 element-copy-out-held : tie.Need-element-copy-out-held
-element-copy-out-held c = omega (arith, low (c .before))
+element-copy-out-held c = omega (arith, low (c .before .before))
 
 alone-requires : tie.Need-alone-requires
 alone-requires c κs = search needs
@@ -63,7 +63,7 @@ alone-requires c κs = search needs
 returns : tie.Need-returns
 unfolding idAt heldAt
 returns c =
-    let t = c .before .before .before .before in
+    let t = c .before .before .before .before .before in
     let k = is-alone (idOf t) (heldOf t) (sym (c .before .alone .ensures) ∙ c .if1 .taken) in (
       (t .pre .0 .0, k .0, low t),
       (sym (set-getD _ _ _), (exchange-none _ _ _, λ x. keeps x (k .0) (k .1))),
@@ -74,7 +74,7 @@ first-free-requires c κs = search needs
 
 -- where the call began
 abbrev start : tie.After-first-free → tie.Start
-start c = c .before .before .before .before .before .before
+start c = c .before .before .before .before .before .before .before
 
 -- what first_free answers is the definition's choice, and one of the first ids
 chosen : (c : tie.After-first-free) (x : Shared (start c .args .holders .now) (start c .args .height) (start c .args .most) (idOf (start c))) →
@@ -141,8 +141,8 @@ cast-rows c = search needs
 mul-rows : tie.Need-mul-rows
 mul-rows c = search needs
 
-element-write-rows : tie.Need-element-write-rows
-element-write-rows c = search needs
+slice-write-rows : tie.Need-slice-write-rows
+slice-write-rows c = search needs
 
 -- an id that is shared is held still
 shared : (c : tie.After-first-free) → 1 ≤ idOf (start c) → 1 ≤ heldOf (start c) - 1
@@ -154,14 +154,17 @@ shared c s =
     go (inl q) = absurd (omega arith)
     go (inr l) = omega arith
 
+same-length : tie.Need-same-length
+same-length c = search needs
+
 returns-2 : tie.Need-returns-2
 unfolding idAt heldAt
 returns-2 c =
     let t = start c in
     let f = c .first-free .ensures in
     let v : heldOf t - 1 + 1 ≡ heldOf t = omega (arith, some t) in
-    let k = taken-free _ _ _ _ _ (t .pre .0 .0 .held) (omega arith) (omega (arith, low t)) (omega (arith, small c)) v (shared c) (f .3 (small c)) (f .2) in (
-      (record { rows-size = simp length-set (t .pre .0 .0 .rows-size); held = k .0 }, f .0, small c),
+    let k = taken-free _ _ _ _ _ (t .pre .0 .0) (omega arith) (omega (arith, low t)) (omega (arith, small c)) v (shared c) (f .3 (small c)) (f .2) in (
+      (k .0, f .0, small c),
       (refl, (k .1, chosen c)),
     )
 
@@ -172,7 +175,7 @@ take-spec =
     mul-at
     add-at
     mul-id
-    element-copy-out-id
+    slice-read-id
     cast-id
     mul-held
     add-held
@@ -197,5 +200,6 @@ take-spec =
     element-write-holders-3
     cast-rows
     mul-rows
-    element-write-rows
+    slice-write-rows
+    same-length
     returns-2)

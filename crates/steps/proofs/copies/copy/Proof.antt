@@ -4,17 +4,18 @@
 use mathlib.Core.Path.{_≡_, refl, sym, ap, _∙_, subst}
 use mathlib.Core.Bool.{true, false}
 use mathlib.Core.List.{_∷_}
-use Prim.Native.Nat.{ℕ, suc, _+_, _-_}
+use Prim.Native.Nat.{ℕ, suc, _+_, _-_, _<_}
 use native.Mathlib.Omega.{arith}
 use borrow.Author.Needs.{needs}
 use lib.ListN.{length, getD}
 use borrow.Author.Tests.{not-true, not-false}
 use Rattle.machine.specs.Queue.{roomFor}
 use Rattle.reader.specs.Reader as R
-use Rattle.order.specs.Entries.{queueOf, Rising}
+use Rattle.order.specs.Entries.{slotAt, queueOf, Rising}
 use Rattle.order.proofs.Queues.{queue-first, queue-length}
 use Rattle.standing.specs.Seen.{Memory, memory}
 use Rattle.standing.specs.Standing.{Stands}
+use Rattle.standing.proofs.Sizes.{slot-low}
 use Rattle.standing.proofs.Taken.{taken-row}
 use Rattle.words.specs.Kept.{Kepts}
 use Rattle.steps.specs.Steps.{Forking, Copying}
@@ -39,17 +40,19 @@ own s = s .pre .1 .1 .0 .2
 other-word-requires : tie.Need-other-word-requires
 unfolding memory
 other-word-requires c κs =
-    let s = c .before .before .before .before .before .before .before in
+    let s = c .before .before .before .before .before .before .before .before .before in
     let l = s .pre .0 .0 in
     let o = own s in
-    ((l .sizes .rows-size, l .deep, copy-low o, copy-id o (l .many), s .pre .0 .3), (copy-searchable o l, (s .pre .1 .0 .0, copy-cost o)))
+    let low = slot-low (o .hand .stands) in
+    let few : slotAt (s .args .e) < 256 = omega (arith, low, l .many) in
+    (((few, omega (arith, low, l .rows)), l .deep, copy-low o, copy-id o (l .many), (few, omega (arith, low, s .pre .0 .3))), (copy-searchable o l, (s .pre .1 .0 .0, copy-cost o)))
 
 same-length : tie.Need-same-length
 same-length c = search needs
 
 -- the word found, for any state
 abbrev start : tie.After-other-word → tie.Start
-start c = c .before .before .before .before .before .before .before .before
+start c = c .before .before .before .before .before .before .before .before .before .before
 
 found-is : (c : tie.After-other-word) (b : ℕ) (o : Copy (start c) b) → Answers o (c .other-word .result) (seen o)
 unfolding memory
@@ -83,7 +86,7 @@ unfolding memory
 crowd-requires c κs =
     let s = start (c .before .before .before .before .before .before) in
     let l = s .pre .0 .0 in (
-      (l .sizes, s .pre .0 .1, s .pre .0 .2, l .deep),
+      (l .rows, l .held, s .pre .0 .1, s .pre .0 .2, l .deep),
       ((s .pre .1 .0 .1, l .many, s .pre .1 .0 .2), ((s .args .e, s .args .numbers .now, s .args .bytes .now, own s .hand), s .pre .1 .1 .1)),
     )
 
@@ -143,7 +146,11 @@ forking : (c : tie.After-crowd) (b : ℕ) (o : Copy (start (searched c)) b) → 
 forking c b o = copy-fork o (found-is (searched c) b o) (some-there c) (count c b o) (c .crowd .ensures .0 .4) (left c b o)
 
 cast-to : tie.Need-cast-to
-cast-to c = let t = c .before in omega (arith, fork-apart (forking t _ (own (start (searched t)))) .1)
+unfolding memory
+cast-to c =
+    let t = c .before in
+    let s = start (searched t) in
+    omega (arith, fork-apart (forking t _ (own s)) .1, s .pre .0 .0 .many)
 
 fork-requires : tie.Need-fork-requires
 unfolding memory
@@ -154,7 +161,7 @@ fork-requires c κs =
     let o = own s in
     let f = t .crowd .ensures .0 in (
       (
-        record { deep = l .deep; many = l .many; sizes = record { rows-size = l .sizes .rows-size; held = f .0 }; numbers = l .numbers; bytes = l .bytes },
+        record { deep = l .deep; many = l .many; rows = l .rows; held = f .0; numbers = l .numbers; bytes = l .bytes },
         f .1,
         f .4,
         omega (arith, s .pre .1 .0 .3),
@@ -166,7 +173,7 @@ fork-requires c κs =
 tallied-requires : tie.Need-tallied-requires
 unfolding memory
 tallied-requires c κs =
-    let t = c .before .before .before .before .before .before .before .before in
+    let t = c .before .before .before .before .before .before .before .before .before .before .before .before in
     let s = start (searched t) in
     (t .crowd .ensures .0 .3, omega (arith, s .pre .1 .0 .2, s .pre .0 .0 .many), s .pre .1 .0 .3, s .pre .1 .0 .4)
 
@@ -192,9 +199,9 @@ Words c b o i =
 returns-2 : tie.Need-returns-2
 unfolding memory forking
 returns-2 c =
-    let t = c .before .before .before .before .before .before .before .before .before in
+    let t = c .before .before .before .before .before .before .before .before .before .before .before .before .before in
     let s = start (searched t) in
-    let u = c .before .before in
+    let u = c .before .before .before .before .before .before in
     let f = u .fork .ensures in
     let g = t .crowd .ensures .0 in
     let r = c .tallied .ensures in (
@@ -218,19 +225,19 @@ returns-2 c =
       ),
     )
 
+same-length-3 : tie.Need-same-length-3
+same-length-3 c = search needs
+
+same-length-4 : tie.Need-same-length-4
+same-length-4 c = search needs
+
+same-length-5 : tie.Need-same-length-5
+same-length-5 c = search needs
+
+same-length-6 : tie.Need-same-length-6
+same-length-6 c = search needs
+
 pub copy-spec : {M : Type 1} → statement M
 copy-spec =
     tie.close
-    (tie.spec
-    other-word-requires
-    same-length
-    returns
-    crowd-requires
-    add-to
-    sub-to
-    element-copy-out-to
-    cast-to
-    fork-requires
-    tallied-requires
-    same-length-2
-    returns-2)
+    (tie.spec other-word-requires same-length same-length-2 same-length-3 returns crowd-requires add-to sub-to element-copy-out-to cast-to fork-requires tallied-requires same-length-4 same-length-5 same-length-6 returns-2)

@@ -3,7 +3,7 @@
 -- contract's own state shows what the calls need. Assumes nothing.
 use mathlib.Core.Path.{_≡_, ap, ap₂, _∙_, subst}
 use mathlib.Core.List.{List}
-use Prim.Native.Nat.{ℕ, suc, _+_, _*_}
+use Prim.Native.Nat.{ℕ, suc, _+_, _*_, _<_}
 use native.Mathlib.Omega.{arith}
 use borrow.Author.Needs.{needs}
 use lib.ListN.{getD}
@@ -13,11 +13,11 @@ use Rattle.laws.proofs.Signed.{back, abs-fits}
 use Rattle.machine.specs.Queue.{Key}
 use Rattle.reader.specs.Paths.{keyOf}
 use Rattle.order.specs.Entries.{slotAt, Packed, queueOf}
-use Rattle.sharing.specs.Sharing.{Copied, MoreBy}
+use Rattle.sharing.specs.Sharing.{Rows, HasRow, Copied, MoreBy}
 use Rattle.standing.specs.Seen.{Memory, memory, Lent}
 use Rattle.standing.specs.Standing.{cell, PutRow}
 use Rattle.steps.specs.Steps.{Forking}
-use Rattle.steps.proofs.Forks.{fork-blocks, fork-total, fork-bias, made, fork-entry, Written, fork-written, fork-viewed, fork-queued, fork-kepts, fork-known, fork-few, fork-shareable, fork-apart, fork-place}
+use Rattle.steps.proofs.Forks.{fork-blocks, fork-total, fork-bias, made, fork-entry, Written, fork-written, fork-viewed, fork-queued, fork-kepts, fork-known, fork-few, fork-shareable, fork-slot, fork-apart, fork-place}
 use Rattle.steps.proofs.copies.fork.Statement.{statement}
 use Rattle.steps.proofs.copies.fork.Tie as tie
 
@@ -33,9 +33,6 @@ add-spent c = search needs
 mul-spent-2 : tie.Need-mul-spent-2
 mul-spent-2 c = search needs
 
-element-copy-out-spent : tie.Need-element-copy-out-spent
-element-copy-out-spent c = search needs
-
 mul-earlier : tie.Need-mul-earlier
 mul-earlier c = search needs
 
@@ -44,9 +41,6 @@ add-earlier c = search needs
 
 mul-earlier-2 : tie.Need-mul-earlier-2
 mul-earlier-2 c = search needs
-
-element-copy-out-earlier : tie.Need-element-copy-out-earlier
-element-copy-out-earlier c = search needs
 
 -- the memory where the call began, and a state that it stands for
 abbrev at-start : tie.Start → Memory
@@ -61,20 +55,38 @@ own : (s : tie.Start) → Fork s (s .pre .1 .0 .0) (s .pre .1 .0 .2)
 own s = s .pre .1 .0 .3
 
 -- the slot, and the cells read
-abbrev start : tie.After-earlier → tie.Start
-start c = c .before .before .before .before .before
+abbrev start : tie.After-slice-known4 → tie.Start
+start c = c .before .before .before .before .before .before .before
 
-abbrev cell-of : tie.After-earlier → ℕ → ℕ
+abbrev cell-of : tie.After-slice-known4 → ℕ → ℕ
 cell-of c f = cell (at-start (start c) .rows) (slotAt (start c .args .e)) f
 
-slot-is : (c : tie.After-earlier) → c .before .before .before .slot-of .result ≡ slotAt (start c .args .e)
+slot-is : (c : tie.After-slice-known4) → c .before .before .before .slot-of .result ≡ slotAt (start c .args .e)
 slot-is c = c .before .before .before .slot-of .ensures .0
 
-read : (c : tie.After-earlier) (f : ℕ) → getD (start c .args .rows .now) (c .before .before .before .slot-of .result * 16 + f) 0 ≡ cell-of c f
+read : (c : tie.After-slice-known4) (f : ℕ) → getD (start c .args .rows .now) (c .before .before .before .slot-of .result * 16 + f) 0 ≡ cell-of c f
 unfolding memory cell
 read c f = ap (λ (i : ℕ). getD (start c .args .rows .now) (i * 16 + f) 0) (slot-is c)
 
-bias-back : (c : tie.After-earlier) → back (start c .args .last .bias) ≡ start c .args .last .bias
+-- its row is there
+slot-low : (s : tie.Start) → (slotAt (s .args .e) < s .args .paths) × Rows (s .args .paths) (s .args .rows .now)
+unfolding memory
+slot-low s = (fork-slot (own s), s .pre .0 .0 .rows)
+
+slice-read-spent : tie.Need-slice-read-spent
+slice-read-spent c = let k = slot-low (c .before .before .before .before .before .before) in omega (arith, k .0, k .1, c .before .before .slot-of .ensures .0)
+
+slice-read-earlier : tie.Need-slice-read-earlier
+slice-read-earlier c = let k = slot-low (start c) in omega (arith, k .0, k .1, slot-is c)
+
+row-there : (c : tie.After-slice-known4) → HasRow (c .before .before .before .slot-of .result) (start c .args .rows .now)
+unfolding memory
+row-there c =
+    let s = start c in
+    let k = slot-low s in
+    (omega (arith, k .0, s .pre .0 .0 .many, slot-is c), omega (arith, k .0, k .1, slot-is c))
+
+bias-back : (c : tie.After-slice-known4) → back (start c .args .last .bias) ≡ start c .args .last .bias
 unfolding memory
 bias-back c = toZ-ofZ (abs-fits _ (omega (arith, fork-bias (own (start c)))))
 
@@ -89,7 +101,7 @@ entry-requires : tie.Need-entry-requires
 unfolding memory
 entry-requires c κs =
     let s = start (c .before) in
-    (omega (arith, ap natAbs (score-back c), c .score .ensures .1), omega (arith, s .pre .1 .0 .1, fork-blocks (own s)), s .pre .0 .3, fork-apart (own s) .1)
+    (omega (arith, ap natAbs (score-back c), c .score .ensures .1), omega (arith, s .pre .1 .0 .1, fork-blocks (own s)), s .pre .0 .3, omega (arith, fork-apart (own s) .1, s .pre .0 .0 .many))
 
 -- the score and the entry, for any state
 score-is : (c : tie.After-score) →
@@ -113,51 +125,54 @@ share-requires c κs =
     let s = start t in
     let l = s .pre .0 .0 in
     let o = own s in (
-      (l .sizes, l .deep, t .before .before .before .slot-of .ensures .1, fork-apart o .1),
+      (l .held, l .deep, row-there t, (omega (arith, fork-apart o .1, l .many), omega (arith, fork-apart o .1, l .rows))),
       (rw (slot-is t) (fork-shareable o l), rw (slot-is t) (fork-apart o .0)),
     )
 
 put-requires : tie.Need-put-requires
 unfolding memory
 put-requires c κs =
-    let t = c .before .before .before .before .before .before in
-    (c .before .share .ensures .0 .rows-size, fork-apart (own (start t)) .1)
+    let s = start (c .before .before .before .before .before .before .before .before) in
+    let l = s .pre .0 .0 in
+    let to = fork-apart (own s) .1 in
+    (omega (arith, to, l .many), omega (arith, to, l .rows, c .before .before .before .share .ensures .0 .1))
 
 -- where the cells were read, of a place after the row is written
-abbrev began : tie.After-put → tie.After-earlier
-began c = c .before .before .before .before .before .before .before
+abbrev began : tie.After-put → tie.After-slice-known4
+began c = c .before .before .before .before .before .before .before .before .before
 
 -- the memory then
 abbrev at-put : tie.After-put → Memory
-at-put c = memory (c .put .last .0) (c .before .before .share .last .1 .0) (start (began c) .args .numbers .now) (start (began c) .args .bytes .now)
+at-put c = memory (c .put .last .0) (c .before .before .before .before .share .last .1 .0) (start (began c) .args .numbers .now) (start (began c) .args .bytes .now)
 
 put-lent : (c : tie.After-put) → Lent (start (began c) .args .m) (start (began c) .args .paths) (at-put c)
 unfolding memory
 put-lent c =
     let l = start (began c) .pre .0 .0 in
-    let sizes = c .before .before .share .ensures .0 in
+    let f = c .before .before .before .before .share .ensures .0 in
     record {
       deep = l .deep;
       many = l .many;
-      sizes = record { rows-size = c .put .ensures .size ∙ sizes .rows-size; held = sizes .held };
+      rows = omega (arith, l .rows, c .put .ensures .size, f .1);
+      held = f .0;
       numbers = l .numbers;
       bytes = l .bytes;
     }
 
 -- the copy's entry, and that memory stands for the copy in front
 entry-is : (c : tie.After-put) (b : ℕ) (vs : List ℕ) (o : Fork (start (began c)) b vs) → start (began c) .args .blocks ≡ suc b →
-    let a = start (began c) .args in Packed (c .before .before .before .before .before .entry .result) (keyOf (o .hand .book) (made o (a .number))) (a .to)
-entry-is c b vs o q = packed (c .before .before .before .before .before) b vs o q
+    let a = start (began c) .args in Packed (c .before .before .before .before .before .before .before .entry .result) (keyOf (o .hand .book) (made o (a .number))) (a .to)
+entry-is c b vs o q = packed (c .before .before .before .before .before .before .before) b vs o q
 
 copied-in : (c : tie.After-put) (b : ℕ) (vs : List ℕ) (o : Fork (start (began c)) b vs) → start (began c) .args .blocks ≡ suc b →
-    Written o (start (began c) .args .number) (c .before .before .before .before .before .entry .result) (at-put c)
+    Written o (start (began c) .args .number) (c .before .before .before .before .before .before .before .entry .result) (at-put c)
 unfolding memory
 copied-in c b vs o q =
     let t = began c in
     let a = start t .args in
-    let rows = c .before .before .share .last .0 in
-    let holders = c .before .before .share .last .1 .0 in
-    let f = c .before .before .share .ensures in
+    let rows = c .before .before .before .before .share .last .0 in
+    let holders = c .before .before .before .before .share .last .1 .0 in
+    let f = c .before .before .before .before .share .ensures in
     let copied : Copied (a .m) (slotAt (a .e)) (a .to) (a .rows .now) rows =
     subst (λ (i : ℕ). Copied (a .m) i (a .to) (a .rows .now) rows) (slot-is t) (f .1 .0) in
     let more : MoreBy (a .m + 1) (a .rows .now) (slotAt (a .e)) (a .holders .now) holders =
@@ -171,7 +186,7 @@ copied-in c b vs o q =
 claim-requires : tie.Need-claim-requires
 unfolding memory
 claim-requires c κs =
-    let u = c .before .before .before in
+    let u = c .before .before .before .before .before in
     let s = start (began u) in
     let o = own s in (
       (put-lent u, fork-apart o .1, fork-place o),
@@ -180,7 +195,7 @@ claim-requires c κs =
 
 insert-requires : tie.Need-insert-requires
 insert-requires c κs =
-    let s = start (began (c .before .before .before .before .before .before)) in
+    let s = start (began (c .before .before .before .before .before .before .before .before .before .before)) in
     ((s .pre .0 .1, omega (arith, s .pre .0 .2, s .pre .0 .0 .many)), s .pre .1 .1)
 
 same-length : tie.Need-same-length
@@ -189,19 +204,19 @@ same-length c = search needs
 keep-known-requires : tie.Need-keep-known-requires
 unfolding memory
 keep-known-requires c κs =
-    let t = began (c .before .before .before .before .before .before .before .before .before) in
-    let s = start t in
-    (s .pre .0 .4, omega (arith, fork-apart (own s) .1, t .before .before .before .slot-of .ensures .1), fork-few (own s))
+    let s = start (began (c .before .before .before .before .before .before .before .before .before .before .before .before .before)) in
+    let to = fork-apart (own s) .1 in
+    ((omega (arith, to, s .pre .0 .0 .many), omega (arith, to, s .pre .0 .4)), fork-few (own s))
 
 returns : tie.Need-returns
 unfolding memory
 returns c =
-    let i = c .before .before .before in
-    let f = i .before .before .before .claim in
-    let u = i .before .before .before .before .before .before .before in
+    let i = c .before .before .before .before .before in
+    let f = i .before .before .before .before .before .claim in
+    let u = i .before .before .before .before .before .before .before .before .before .before .before in
     let s = start (began u) in
-    let g = c .keep-known .ensures in (
-      (f .ensures .0 .0, i .insert .ensures .0 .0, g .0 .size ∙ s .pre .0 .4),
+    let g = c .before .before .keep-known .ensures in (
+      (f .ensures .0 .0, i .insert .ensures .0 .0, omega (arith, g .0 .size, s .pre .0 .4)),
       (
         λ b vs o q. (
           rw (i .insert .ensures .0 .1) (fork-queued o (s .args .number) (entry-is u b vs o q) (copied-in u b vs o q) (f .ensures .0 .1) (f .ensures .1)),
@@ -211,25 +226,13 @@ returns c =
       ),
     )
 
+same-length-2 : tie.Need-same-length-2
+same-length-2 c = search needs
+
+same-length-3 : tie.Need-same-length-3
+same-length-3 c = search needs
+
 pub fork-spec : {M : Type 1} → statement M
 fork-spec =
     tie.close
-    (tie.spec
-    slot-of-requires
-    mul-spent
-    add-spent
-    mul-spent-2
-    element-copy-out-spent
-    mul-earlier
-    add-earlier
-    mul-earlier-2
-    element-copy-out-earlier
-    score-requires
-    entry-requires
-    share-requires
-    put-requires
-    claim-requires
-    insert-requires
-    keep-known-requires
-    same-length
-    returns)
+    (tie.spec slot-of-requires mul-spent add-spent mul-spent-2 slice-read-spent mul-earlier add-earlier mul-earlier-2 slice-read-earlier score-requires entry-requires share-requires put-requires claim-requires insert-requires keep-known-requires same-length same-length-2 same-length-3 returns)

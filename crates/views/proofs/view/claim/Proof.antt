@@ -16,19 +16,19 @@ use Rattle.views.proofs.view.claim.Tie as tie
 id-of-requires : tie.Need-id-of-requires
 unfolding memory
 id-of-requires c κs =
-    let p = c .before .before .pre .0 in
-    (p .0 .sizes .rows-size, p .1, omega (arith, p .0 .deep))
+    let p = c .before .before .before .pre .0 in
+    ((omega (arith, p .0 .many), omega (arith, p .0 .rows)), omega (arith, p .0 .deep))
 
 take-requires : tie.Need-take-requires
 unfolding memory
 take-requires c κs =
-    let s = c .before .before .before .before .before in
+    let s = c .before .before .before .before .before .before in
     let p = s .pre .0 in
-    ((p .0 .sizes, p .1, omega (arith, p .0 .deep), p .0 .many), seen-shared (s .pre .1 .seen) (p .2))
+    ((p .0 .held, (omega (arith, p .0 .many), omega (arith, p .0 .rows)), omega (arith, p .0 .deep), p .0 .many), seen-shared (s .pre .1 .seen) (p .2))
 
 -- where the call began
 abbrev start : tie.After-take → tie.Start
-start c = c .before .before .before .before .before .before
+start c = c .before .before .before .before .before .before .before
 
 taken : (c : tie.After-take) →
     Took (start c .args .most) (start c .args .slot) (start c .args .h) (start c .args .rows .now) (start c .args .holders .now) (c .take .last .0) (c .take .last .1 .0) (c .take .result)
@@ -37,7 +37,7 @@ taken c = let a = start c .args in took (a .slot) (a .h) (a .rows .now) (a .hold
 copy-half-requires : tie.Need-copy-half-requires
 unfolding memory Claimable
 copy-half-requires c κs =
-    let t = c .before .before .before in
+    let t = c .before .before .before .before .before in
     let s = start t in
     let p = s .pre .0 in
     let w = s .pre .1 in
@@ -49,15 +49,24 @@ copy-half-requires c κs =
 same-length : tie.Need-same-length
 same-length c = search needs
 
+same-length-2 : tie.Need-same-length-2
+same-length-2 c = search needs
+
+same-length-3 : tie.Need-same-length-3
+same-length-3 c = search needs
+
+same-length-4 : tie.Need-same-length-4
+same-length-4 c = search needs
+
 returns : tie.Need-returns
 unfolding memory StepSeen claim
 returns c =
     let f = c .before .copy-half in
-    let t = c .before .before .before .before .before in
+    let t = c .before .before .before .before .before .before .before in
     let s = start t in
     let a = s .args in
     let p = s .pre .0 in (
-      (lent-on (f .last .0) (a .bytes .now) (p .0) (taken t .sizes) (f .ensures .0) refl, ids-only (t .take .result) (a .rows .now) (p .2) (taken t .stored)),
+      (lent-on (f .last .0) (a .bytes .now) (p .0) (taken t) (f .ensures .0) refl, ids-only (t .take .result) (a .rows .now) (p .2) (taken t .stored)),
       λ others v seen met.
           let g = v .arrays .vals in
           rw (eq-eqb (a .h) (a .j) (c .before .before .before .before .if1 .taken))
@@ -69,11 +78,11 @@ returns c =
 returns-2 : tie.Need-returns-2
 unfolding memory StepSeen claim
 returns-2 c =
-    let t = c .before .before in
+    let t = c .before .before .before .before in
     let s = start t in
     let a = s .args in
     let p = s .pre .0 in (
-      (lent-on (a .numbers .now) (a .bytes .now) (p .0) (taken t .sizes) refl refl, ids-only (t .take .result) (a .rows .now) (p .2) (taken t .stored)),
+      (lent-on (a .numbers .now) (a .bytes .now) (p .0) (taken t) refl refl, ids-only (t .take .result) (a .rows .now) (p .2) (taken t .stored)),
       λ others v seen met.
           let g = v .arrays .vals in
           let i = t .before .before .before .id-of .ensures ∙ seen-id seen (p .2) in
@@ -87,11 +96,11 @@ returns-2 c =
 returns-3 : tie.Need-returns-3
 unfolding memory StepSeen claim
 returns-3 c =
-    let t = c .before in
+    let t = c .before .before .before in
     let s = start t in
     let a = s .args in
     let p = s .pre .0 in (
-      (lent-on (a .numbers .now) (a .bytes .now) (p .0) (taken t .sizes) refl refl, ids-only (t .take .result) (a .rows .now) (p .2) (taken t .stored)),
+      (lent-on (a .numbers .now) (a .bytes .now) (p .0) (taken t) refl refl, ids-only (t .take .result) (a .rows .now) (p .2) (taken t .stored)),
       λ others v seen met. rw (ne-eqb (a .h) (a .j) (c .if1 .left)) (seen-take seen (p .0) (p .1) (p .2) (taken t)),
     )
 
@@ -103,6 +112,9 @@ claim-spec =
     take-requires
     copy-half-requires
     same-length
+    same-length-2
     returns
+    same-length-3
     returns-2
+    same-length-4
     returns-3)

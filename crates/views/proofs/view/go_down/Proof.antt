@@ -13,14 +13,14 @@ use Rattle.views.proofs.view.go_down.Tie as tie
 
 abbrev Inv-loop : tie.InvT-loop
 Inv-loop rows₀ holders₀ numbers₀ bytes m most slot top low h₀ rows holders numbers h =
-    (low ≤ h) × (h ≤ top) × (length numbers ≡ length numbers₀) × Lent m most (memory rows holders numbers bytes) × IdsOnly m slot rows₀ rows
+    (low ≤ h) × (h ≤ top) × ((length rows ≡ length rows₀) × (length numbers ≡ length numbers₀)) × Lent m most (memory rows holders numbers bytes) × IdsOnly m slot rows₀ rows
     × StepSeen m most slot (memory rows₀ holders₀ numbers₀ bytes) (memory rows holders numbers bytes) (Upper top) (down top h)
 
 abbrev μ-loop : tie.MeasureT-loop
 μ-loop rows₀ holders₀ numbers₀ bytes m most slot top low h₀ rows holders numbers h = h
 
 loop-holds : tie.Need-loop-holds Inv-loop μ-loop
-loop-holds c = (omega arith, omega arith, refl, c .before .pre .0 .0, record { before = λ k b. refl; after = λ k b. refl }, turned-none _ _ _ _ _)
+loop-holds c = (omega arith, omega arith, (refl, refl), c .before .before .pre .0 .0, record { before = λ k b. refl; after = λ k b. refl }, turned-none _ _ _ _ _)
 
 sub-h : tie.Need-sub-h Inv-loop μ-loop
 sub-h c = omega arith
@@ -28,7 +28,7 @@ sub-h c = omega arith
 lower-requires : tie.Need-lower-requires Inv-loop μ-loop
 lower-requires c κs =
     let t = c .before .before .before .before in
-    let s = t .before .before in
+    let s = t .before .before .before in
     let i = t .loop .inv in
     let e : suc (t .loop .h - 1) ≡ t .loop .h = omega arith in (
       (i .3, s .pre .0 .1, omega arith),
@@ -41,16 +41,16 @@ loop-less c = omega arith
 
 loop-again : tie.Need-loop-again Inv-loop μ-loop
 loop-again c =
-    let t = c .before .before .before .before .before .before in
-    let a = t .before .before .args in
+    let t = c .before .before .before .before .before .before .before .before in
+    let a = t .before .before .before .args in
     let i = t .loop .inv in
-    let f = c .before .lower .ensures in
+    let f = c .before .before .before .lower .ensures in
     let e : suc (t .loop .h - 1) ≡ t .loop .h = omega arith in
     let x = memory (a .rows .now) (a .holders .now) (a .numbers .now) (a .bytes .now) in
     let y = memory (t .loop .rows) (t .loop .holders) (t .loop .numbers) (a .bytes .now) in (
       omega arith,
       omega arith,
-      omega arith,
+      (omega arith, omega arith),
       f .0 .0,
       ids-on (a .rows .now) (t .loop .rows) (i .4) (f .0 .1),
       turned-more (a .m) (a .most) (a .slot) x y _ (omega arith)
@@ -60,10 +60,13 @@ loop-again c =
 same-length : tie.Need-same-length Inv-loop μ-loop
 same-length c = omega arith
 
+same-length-2 : tie.Need-same-length-2 Inv-loop μ-loop
+same-length-2 c = omega arith
+
 returns : tie.Need-returns Inv-loop μ-loop
 returns c =
     let t = c .before in
-    let a = t .before .before .args in
+    let a = t .before .before .before .args in
     let i = t .loop .inv in
     let e : t .loop .h ≡ a .low = omega arith in
     ((i .3, i .4), subst (λ (n : ℕ). StepSeen (a .m) (a .most) (a .slot) (memory (a .rows .now) (a .holders .now) (a .numbers .now) (a .bytes .now)) (memory (t .loop .rows) (t .loop .holders) (t .loop .numbers) (a .bytes .now)) (Upper (a .top)) (down (a .top) n)) e (i .5))
@@ -80,4 +83,5 @@ go-down-spec =
     loop-less
     loop-again
     same-length
+    same-length-2
     returns)

@@ -13,8 +13,8 @@ add-wide c = search needs
 mul-wide-2 : tie.Need-mul-wide-2
 mul-wide-2 c = search needs
 
-element-copy-out-wide : tie.Need-element-copy-out-wide
-element-copy-out-wide c = search needs
+shared-slice-read-wide : tie.Need-shared-slice-read-wide
+shared-slice-read-wide c = search needs
 
 wide-requires : tie.Need-wide-requires
 wide-requires c κs = search needs
@@ -25,4 +25,4 @@ returns c = c .wide .ensures
 
 pub id-of-spec : {M : Type 1} → statement M
 id-of-spec =
-    tie.close (tie.spec mul-wide add-wide mul-wide-2 element-copy-out-wide wide-requires returns)
+    tie.close (tie.spec mul-wide add-wide mul-wide-2 shared-slice-read-wide wide-requires returns)

@@ -29,11 +29,11 @@ power-requires c κs = omega arith
 
 add-end : tie.Need-add-end Inv-loop μ-loop
 add-end c =
-    let s = c .before .before .before in
-    omega (arith, spot-room (s .pre .0 .5) (s .pre .0 .7) (s .args .bytes .now) (s .pre .0 .6))
+    let s = c .before .before .before .before in
+    omega (arith, spot-room (s .pre .0 .4) (s .pre .0 .6) (s .args .bytes .now) (s .pre .0 .5))
 
 loop-holds : tie.Need-loop-holds Inv-loop μ-loop
-loop-holds c = let p = c .before .before .before .pre in progress-none (p .0 .4) (p .1 .1)
+loop-holds c = let p = c .before .before .before .before .pre in progress-none (p .0 .3) (p .1 .1)
 
 power-requires-2 : tie.Need-power-requires-2 Inv-loop μ-loop
 power-requires-2 c κs = omega arith
@@ -44,16 +44,16 @@ id-of-requires c κs = search needs
 spot-of-requires-2 : tie.Need-spot-of-requires-2 Inv-loop μ-loop
 spot-of-requires-2 c κs =
     let t = c .before .before .before in
-    let p = t .before .before .before .before .pre in
+    let p = t .before .before .before .before .before .pre in
     let d = p .1 .0 (t .loop .k) (t .loop .inv .low) (c .before .before .loop-test .taken) .0 in
-    (p .0 .2, omega arith, rw (c .id-of .ensures) record { some = d .some; most = omega (arith, d .most) })
+    (p .0 .1, omega arith, rw (c .id-of .ensures) record { some = d .some; most = omega (arith, d .most) })
 
 -- where this turn began, and the call
 abbrev turn : tie.After-spot-of2 Inv-loop μ-loop → tie.At-loop Inv-loop μ-loop
 turn c = c .before .before .before .before
 
 abbrev start : tie.After-spot-of2 Inv-loop μ-loop → tie.Start Inv-loop μ-loop
-start c = turn c .before .before .before .before
+start c = turn c .before .before .before .before .before
 
 below : (c : tie.After-spot-of2 Inv-loop μ-loop) → turn c .loop .k < start c .args .h
 below c = c .before .before .before .loop-test .taken
@@ -62,7 +62,7 @@ sub-add-sums : tie.Need-sub-add-sums Inv-loop μ-loop
 sub-add-sums c = omega (arith, twice-fits (below (c .before)))
 
 add-add-sums : tie.Need-add-add-sums Inv-loop μ-loop
-add-add-sums c = let p = start (c .before) .pre .0 in omega (arith, twice-fits (below (c .before)), pow-mono (p .5), pow-mono (p .2))
+add-add-sums c = let p = start (c .before) .pre .0 in omega (arith, twice-fits (below (c .before)), pow-mono (p .4), pow-mono (p .1))
 
 sub-add-sums-2 : tie.Need-sub-add-sums-2 Inv-loop μ-loop
 sub-add-sums-2 c = omega (arith, twice-fits (below (c .before)))
@@ -83,7 +83,7 @@ add-sums-requires : tie.Need-add-sums-requires Inv-loop μ-loop
 add-sums-requires c κs =
     let t = c .before in
     let p = start t .pre .0 in
-    turn-needs (p .5) (p .7) (p .6) (below t) (own t .0) (turn t .loop .inv) (low-is t) (end-is t) (t .before .before .power2 .ensures) (own t .1)
+    turn-needs (p .4) (p .6) (p .5) (below t) (own t .0) (turn t .loop .inv) (low-is t) (end-is t) (t .before .before .power2 .ensures) (own t .1)
 
 add-k : tie.Need-add-k Inv-loop μ-loop
 add-k c = omega arith
@@ -95,7 +95,7 @@ loop-again : tie.Need-loop-again Inv-loop μ-loop
 loop-again c =
     let t = c .before .before .before .before in
     let p = start t .pre .0 in
-    progress-more (p .5) (p .7) (p .6) (below t) (own t .0) (turn t .loop .inv) (low-is t) (end-is t) (t .before .before .power2 .ensures)
+    progress-more (p .4) (p .6) (p .5) (below t) (own t .0) (turn t .loop .inv) (low-is t) (end-is t) (t .before .before .power2 .ensures)
     (c .before .before .add-sums .ensures)
 
 same-length : tie.Need-same-length Inv-loop μ-loop

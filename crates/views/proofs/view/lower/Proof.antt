@@ -21,20 +21,20 @@ add-id-of c = search needs
 id-of-requires : tie.Need-id-of-requires
 unfolding memory
 id-of-requires c κs =
-    let p = c .before .before .pre .0 in
-    (p .0 .sizes .rows-size, p .1, omega (arith, p .0 .deep))
+    let p = c .before .before .before .pre .0 in
+    ((omega (arith, p .0 .many), omega (arith, p .0 .rows)), omega (arith, p .0 .deep))
 
 take-requires : tie.Need-take-requires
 unfolding memory
 take-requires c κs =
-    let s = c .before .before .before .before .before in
+    let s = c .before .before .before .before .before .before in
     let p = s .pre .0 in
     let l : s .args .h ≤ s .args .m = omega arith in
-    ((p .0 .sizes, p .1, omega (arith, p .0 .deep), p .0 .many), seen-shared (s .pre .1 .seen) l)
+    ((p .0 .held, (omega (arith, p .0 .many), omega (arith, p .0 .rows)), omega (arith, p .0 .deep), p .0 .many), seen-shared (s .pre .1 .seen) l)
 
 -- where the call began
 abbrev start : tie.After-take → tie.Start
-start c = c .before .before .before .before .before .before
+start c = c .before .before .before .before .before .before .before
 
 taken : (c : tie.After-take) →
     Took (start c .args .most) (start c .args .slot) (start c .args .h) (start c .args .rows .now) (start c .args .holders .now) (c .take .last .0) (c .take .last .1 .0) (c .take .result)
@@ -49,27 +49,30 @@ above c =
 first-half-requires : tie.Need-first-half-requires
 unfolding memory
 first-half-requires c κs =
-    let s = start (c .before) in
+    let s = start (c .before .before .before) in
     let p = s .pre .0 in
     let w = s .pre .1 in (
-      (p .0 .deep, p .2, p .0 .many, p .0 .numbers, rw (above (c .before)) (seen-some (w .seen) (p .2) (w .met .has)), taken (c .before) .id),
-      rw (above (c .before), seen-vals (w .seen) (p .2) (w .met .has)) (w .met .range),
+      (p .0 .deep, p .2, p .0 .many, p .0 .numbers, rw (above (c .before .before .before)) (seen-some (w .seen) (p .2) (w .met .has)), taken (c .before .before .before) .id),
+      rw (above (c .before .before .before), seen-vals (w .seen) (p .2) (w .met .has)) (w .met .range),
     )
 
 same-length : tie.Need-same-length
 same-length c = search needs
 
+same-length-2 : tie.Need-same-length-2
+same-length-2 c = search needs
+
 returns : tie.Need-returns
 unfolding memory StepSeen
 returns c =
     let f = c .before .first-half in
-    let t = c .before .before .before in
+    let t = c .before .before .before .before .before in
     let s = start t in
     let a = s .args in
     let p = s .pre .0 in
     let h = a .h in
     let l : h ≤ a .m = omega arith in (
-      (lent-on (f .last .0) (a .bytes .now) (p .0) (taken t .sizes) (f .ensures .0) refl, ids-only (t .take .result) (a .rows .now) l (taken t .stored)),
+      (lent-on (f .last .0) (a .bytes .now) (p .0) (taken t) (f .ensures .0) refl, ids-only (t .take .result) (a .rows .now) l (taken t .stored)),
       λ others v seen met.
           let g = v .arrays .vals in
           seen-put seen (p .0) (p .1) l (taken t) (f .last .0) _
@@ -80,4 +83,4 @@ returns c =
 pub lower-spec : {M : Type 1} → statement M
 lower-spec =
     tie.close
-    (tie.spec add-id-of id-of-requires take-requires first-half-requires same-length returns)
+    (tie.spec add-id-of id-of-requires take-requires first-half-requires same-length same-length-2 returns)

@@ -21,26 +21,26 @@ add-id-of c = search needs
 id-of-requires : tie.Need-id-of-requires
 unfolding memory
 id-of-requires c κs =
-    let p = c .before .before .pre .0 in
-    (p .0 .sizes .rows-size, p .1, omega (arith, p .0 .deep))
+    let p = c .before .before .before .pre .0 in
+    ((omega (arith, p .0 .many), omega (arith, p .0 .rows)), omega (arith, p .0 .deep))
 
 id-of-requires-2 : tie.Need-id-of-requires-2
 unfolding memory
 id-of-requires-2 c κs =
-    let p = c .before .before .before .before .pre .0 in
-    (p .0 .sizes .rows-size, p .1, omega (arith, p .0 .deep))
+    let p = c .before .before .before .before .before .pre .0 in
+    ((omega (arith, p .0 .many), omega (arith, p .0 .rows)), omega (arith, p .0 .deep))
 
 take-requires : tie.Need-take-requires
 unfolding memory
 take-requires c κs =
-    let s = c .before .before .before .before .before .before .before in
+    let s = c .before .before .before .before .before .before .before .before in
     let p = s .pre .0 in
     let l : s .args .h ≤ s .args .m = omega arith in
-    ((p .0 .sizes, p .1, omega (arith, p .0 .deep), p .0 .many), seen-shared (s .pre .1 .seen) l)
+    ((p .0 .held, (omega (arith, p .0 .many), omega (arith, p .0 .rows)), omega (arith, p .0 .deep), p .0 .many), seen-shared (s .pre .1 .seen) l)
 
 -- where the call began
 abbrev start : tie.After-take → tie.Start
-start c = c .before .before .before .before .before .before .before .before
+start c = c .before .before .before .before .before .before .before .before .before
 
 taken : (c : tie.After-take) →
     Took (start c .args .most) (start c .args .slot) (start c .args .h) (start c .args .rows .now) (start c .args .holders .now) (c .take .last .0) (c .take .last .1 .0) (c .take .result)
@@ -55,7 +55,7 @@ above c =
 second-half-requires : tie.Need-second-half-requires
 unfolding memory
 second-half-requires c κs =
-    let t = c .before in
+    let t = c .before .before .before in
     let s = start t in
     let p = s .pre .0 in
     let w = s .pre .1 in
@@ -70,17 +70,20 @@ second-half-requires c κs =
 same-length : tie.Need-same-length
 same-length c = search needs
 
+same-length-2 : tie.Need-same-length-2
+same-length-2 c = search needs
+
 returns : tie.Need-returns
 unfolding memory StepSeen
 returns c =
     let f = c .before .second-half in
-    let t = c .before .before .before in
+    let t = c .before .before .before .before .before in
     let s = start t in
     let a = s .args in
     let p = s .pre .0 in
     let h = a .h in
     let l : h ≤ a .m = omega arith in (
-      (lent-on (f .last .0) (a .bytes .now) (p .0) (taken t .sizes) (f .ensures .0) refl, ids-only (t .take .result) (a .rows .now) l (taken t .stored)),
+      (lent-on (f .last .0) (a .bytes .now) (p .0) (taken t) (f .ensures .0) refl, ids-only (t .take .result) (a .rows .now) l (taken t .stored)),
       λ others v seen met.
           let g = v .arrays .vals in
           let b = v .arrays .sums in
@@ -100,4 +103,5 @@ turn-over-spec =
     take-requires
     second-half-requires
     same-length
+    same-length-2
     returns)

@@ -15,8 +15,8 @@ mul-kept c = search needs
 mul-kept-2 : tie.Need-mul-kept-2
 mul-kept-2 c = search needs
 
-element-write-kept : tie.Need-element-write-kept
-element-write-kept c = search needs
+slice-write-kept : tie.Need-slice-write-kept
+slice-write-kept c = search needs
 
 returns : tie.Need-returns
 returns c =
@@ -27,5 +27,8 @@ returns c =
       first-cell _ (a .slot) ∙ getD-set-same l at 0 0 (omega arith),
     )
 
+same-length : tie.Need-same-length
+same-length c = search needs
+
 pub forget-spec : {M : Type 1} → statement M
-forget-spec = tie.close (tie.spec mul-kept mul-kept-2 element-write-kept returns)
+forget-spec = tie.close (tie.spec mul-kept mul-kept-2 slice-write-kept same-length returns)

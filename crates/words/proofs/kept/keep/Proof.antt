@@ -4,7 +4,7 @@ use mathlib.Core.List.{[], _∷_}
 use Prim.Native.Nat.{ℕ, _+_, _-_, _*_, _/_, _%_}
 use native.Mathlib.Omega.{arith}
 use lib.Dec.{eqb}
-use lib.ListN.{getD}
+use lib.ListN.{getD, length-set}
 use Rattle.laws.proofs.Stores.{stored-none}
 use Rattle.words.specs.Kept.{keptCell, keptAt}
 use Rattle.words.proofs.Cells.{store-next, store-read}
@@ -22,8 +22,8 @@ mark-requires c κs = search needs
 mul-kept : tie.Need-mul-kept
 mul-kept c = search needs
 
-element-write-kept : tie.Need-element-write-kept
-element-write-kept c = search needs
+slice-write-kept : tie.Need-slice-write-kept
+slice-write-kept c = search needs
 
 add-kept : tie.Need-add-kept
 add-kept c = search needs
@@ -31,8 +31,8 @@ add-kept c = search needs
 mul-kept-2 : tie.Need-mul-kept-2
 mul-kept-2 c = search needs
 
-element-write-kept-2 : tie.Need-element-write-kept-2
-element-write-kept-2 c = search needs
+slice-write-kept-2 : tie.Need-slice-write-kept-2
+slice-write-kept-2 c = simp length-set (omega arith)
 
 add-kept-2 : tie.Need-add-kept-2
 add-kept-2 c = search needs
@@ -40,8 +40,8 @@ add-kept-2 c = search needs
 mul-kept-3 : tie.Need-mul-kept-3
 mul-kept-3 c = search needs
 
-element-write-kept-3 : tie.Need-element-write-kept-3
-element-write-kept-3 c = search needs
+slice-write-kept-3 : tie.Need-slice-write-kept-3
+slice-write-kept-3 c = simp length-set (omega arith)
 
 add-kept-3 : tie.Need-add-kept-3
 add-kept-3 c = search needs
@@ -49,14 +49,14 @@ add-kept-3 c = search needs
 mul-kept-4 : tie.Need-mul-kept-4
 mul-kept-4 c = search needs
 
-element-write-kept-4 : tie.Need-element-write-kept-4
-element-write-kept-4 c = search needs
+slice-write-kept-4 : tie.Need-slice-write-kept-4
+slice-write-kept-4 c = simp length-set (omega arith)
 
 returns : tie.Need-returns
 unfolding keptCell keptAt
 returns c =
     let m = c .mark in
-    let a = c .before .args in
+    let a = c .before .before .args in
     let at = a .slot * 4 in
     let value : ℕ → ℕ = λ k. getD (m .result ∷ a .word .parities ∷ a .word .cost ∷ a .word .number ∷ []) k 0 in
     let none = stored-none (a .kept .now) at value in
@@ -74,21 +74,10 @@ returns c =
       λ i. record { some = some-is i; setting = setting-is i; parities = parities-is i; cost = cost-is i; number = number-is i },
     )
 
+same-length : tie.Need-same-length
+same-length c = simp length-set refl
+
 pub keep-spec : {M : Type 1} → statement M
 keep-spec =
     tie.close
-    (tie.spec
-    mul-at
-    mark-requires
-    mul-kept
-    element-write-kept
-    add-kept
-    mul-kept-2
-    element-write-kept-2
-    add-kept-2
-    mul-kept-3
-    element-write-kept-3
-    add-kept-3
-    mul-kept-4
-    element-write-kept-4
-    returns)
+    (tie.spec mul-at mark-requires mul-kept slice-write-kept add-kept mul-kept-2 slice-write-kept-2 add-kept-2 mul-kept-3 slice-write-kept-3 add-kept-3 mul-kept-4 slice-write-kept-4 same-length returns)

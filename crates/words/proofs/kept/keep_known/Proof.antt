@@ -7,18 +7,28 @@ use Rattle.words.proofs.kept.keep_known.Statement.{statement}
 use Rattle.words.proofs.kept.keep_known.Tie as tie
 
 keep-requires : tie.Need-keep-requires
-keep-requires c κs = let s = c .before .before in (s .pre .0, s .pre .1, s .pre .2 (c .before .if1 .taken))
+keep-requires c κs = let s = c .before .before .before in (s .pre .0, s .pre .1 (c .before .if1 .taken))
 
 forget-requires : tie.Need-forget-requires
 forget-requires c κs = search needs
 
 returns : tie.Need-returns
 unfolding Keeps
-returns c = (c .keep .ensures .0, λ y h some. c .keep .ensures .1 ∙ h (c .before .before .if1 .taken))
+returns c =
+    let k = c .before .before .keep .ensures in
+    (k .0, λ y h some. k .1 ∙ h (c .before .before .before .before .if1 .taken))
 
 returns-2 : tie.Need-returns-2
 unfolding Keeps
-returns-2 c = (c .forget .ensures .0, λ y h some. absurd (omega (arith, c .forget .ensures .1)))
+returns-2 c =
+    let k = c .before .before .forget .ensures in
+    (k .0, λ y h some. absurd (omega (arith, k .1)))
+
+same-length : tie.Need-same-length
+same-length c = search needs
+
+same-length-2 : tie.Need-same-length-2
+same-length-2 c = search needs
 
 pub keep-known-spec : {M : Type 1} → statement M
-keep-known-spec = tie.close (tie.spec keep-requires forget-requires returns returns-2)
+keep-known-spec = tie.close (tie.spec keep-requires forget-requires same-length returns same-length-2 returns-2)

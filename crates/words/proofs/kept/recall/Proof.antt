@@ -17,11 +17,11 @@ mul-at c = search needs
 mul-marked : tie.Need-mul-marked
 mul-marked c = search needs
 
-element-copy-out-marked : tie.Need-element-copy-out-marked
-element-copy-out-marked c = search needs
+shared-slice-read-marked : tie.Need-shared-slice-read-marked
+shared-slice-read-marked c = search needs
 
 sub-setting : tie.Need-sub-setting
-sub-setting c = let s = c .before in omega (arith, s .pre .2, first-cell (s .args .kept .now) (s .args .slot))
+sub-setting c = let s = c .before in omega (arith, s .pre .1, first-cell (s .args .kept .now) (s .args .slot))
 
 add-parities : tie.Need-add-parities
 add-parities c = search needs
@@ -29,8 +29,8 @@ add-parities c = search needs
 mul-parities : tie.Need-mul-parities
 mul-parities c = search needs
 
-element-copy-out-parities : tie.Need-element-copy-out-parities
-element-copy-out-parities c = search needs
+shared-slice-read-parities : tie.Need-shared-slice-read-parities
+shared-slice-read-parities c = search needs
 
 add-cost : tie.Need-add-cost
 add-cost c = search needs
@@ -38,8 +38,8 @@ add-cost c = search needs
 mul-cost : tie.Need-mul-cost
 mul-cost c = search needs
 
-element-copy-out-cost : tie.Need-element-copy-out-cost
-element-copy-out-cost c = search needs
+shared-slice-read-cost : tie.Need-shared-slice-read-cost
+shared-slice-read-cost c = search needs
 
 add-number : tie.Need-add-number
 add-number c = search needs
@@ -47,8 +47,8 @@ add-number c = search needs
 mul-number : tie.Need-mul-number
 mul-number c = search needs
 
-element-copy-out-number : tie.Need-element-copy-out-number
-element-copy-out-number c = search needs
+shared-slice-read-number : tie.Need-shared-slice-read-number
+shared-slice-read-number c = search needs
 
 returns : tie.Need-returns
 unfolding keptCell keptAt
@@ -73,19 +73,4 @@ returns-2 c =
 pub recall-spec : {M : Type 1} → statement M
 recall-spec =
     tie.close
-    (tie.spec
-    mul-at
-    mul-marked
-    element-copy-out-marked
-    sub-setting
-    add-parities
-    mul-parities
-    element-copy-out-parities
-    add-cost
-    mul-cost
-    element-copy-out-cost
-    add-number
-    mul-number
-    element-copy-out-number
-    returns
-    returns-2)
+    (tie.spec mul-at mul-marked shared-slice-read-marked sub-setting add-parities mul-parities shared-slice-read-parities add-cost mul-cost shared-slice-read-cost add-number mul-number shared-slice-read-number returns returns-2)
