@@ -23,8 +23,7 @@ ghost use Rattle.polar.specs.Layers.{part};
 ghost use Rattle.codebook.specs.declared.Outcome.the-variants.{Refused as NotDone};
 ghost use Rattle.machine.specs.Queue.{Step};
 ghost use Rattle.machine.specs.Machine as M;
-ghost use Rattle.machine.specs.Calls.{finalOf, noCounts, walked};
-ghost use Rattle.attempts.specs.Given.{given, lent};
+ghost use Rattle.machine.specs.Calls.{given, lent, finalOf, noCounts, walked};
 ghost use Rattle.attempts.specs.Attempt.{answerOf, attempted, Holding, Ready};
 
 // The answer where no run is made.

@@ -19,7 +19,7 @@ ghost use mathlib.Core.Path.{_≡_};
 ghost use Rattle.codebook.specs.Refusals.{outcomeNumber};
 ghost use Rattle.codec.specs.Record.{statusOf};
 ghost use Rattle.codec.specs.Calls.{encodeCall, testCall, readDataCall};
-ghost use Rattle.attempts.specs.Given.{given, lent};
+ghost use Rattle.machine.specs.Calls.{given, lent};
 ghost use Rattle.slices.specs.Slices.{plainAnswered, hookAnswered};
 ghost use Rattle.capi.specs.Answers.{lengthMismatch, loadAnswer, testedNumber, makeRecordWrote, recordFrom, readRecordAnswer};
 

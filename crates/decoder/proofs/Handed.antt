@@ -27,10 +27,9 @@ use Rattle.codec.proofs.Fill.{free-bits}
 use Rattle.machine.specs.declared.Counts.{Counts}
 use Rattle.machine.specs.declared.Decoded.{Decoded}
 use Rattle.machine.specs.declared.HookDecoded.{HookDecoded}
-use Rattle.machine.specs.Calls.{Input, Lent, Called, barred, afterRun, isDone, plainCall, hookCall}
+use Rattle.machine.specs.Calls.{Input, Lent, lent, Called, barred, afterRun, isDone, plainCall, hookCall}
 use Rattle.runs.proofs.Final.{run-exact}
 use Rattle.attempts.specs.Attempt.{fitsFor, Attempted, ranOf, noRun, unbarred, attemptWith, attempted, Holding, readAs}
-use Rattle.attempts.specs.Given.{lent}
 use Rattle.attempts.proofs.Attempts.{alike, Yields}
 use Rattle.attempts.proofs.Unbarred.{nothing-bars, asked-holds}
 use Rattle.decoder.specs.WholeRun.{WholeRun}

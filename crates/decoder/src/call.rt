@@ -7,8 +7,7 @@ use machine::Decoded;
 use machine::HookDecoded;
 ghost use mathlib.Core.Path.{_≡_};
 ghost use mathlib.Core.Bool.{true, false};
-ghost use Rattle.machine.specs.Calls.{plainCall, hookCall};
-ghost use Rattle.attempts.specs.Given.{given, lent};
+ghost use Rattle.machine.specs.Calls.{given, lent, plainCall, hookCall};
 ghost use Rattle.attempts.specs.Attempt.{fitsFor};
 ghost use Rattle.decoder.specs.WholeRun.{WholeRun};
 

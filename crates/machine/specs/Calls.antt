@@ -48,6 +48,22 @@ pub record Lent : Type 0 where
   pub walkBlocks : List ℤ
   pub walkScore : List ℤ
 
+-- both put together from a call's parameters
+abbrev pub given : List ℕ → ℕ → ℕ → ℕ → List ℤ → Input
+given book L D T values = record { book = book; L = L; D = D; T = T; values = values }
+
+abbrev pub lent : List ℕ → List ℕ → List ℤ → List ℕ → List ℤ → List ℤ → List ℤ → Lent
+lent word bits numbers bytes walkPath walkBlocks walkScore =
+    record {
+      word = word;
+      bits = bits;
+      numbers = numbers;
+      bytes = bytes;
+      walkPath = walkPath;
+      walkBlocks = walkBlocks;
+      walkScore = walkScore;
+    }
+
 -- L 1 to 32, D 2 to 256, T 0 to 1,048,576
 unfoldable pub settingsOk : Input → Bool
 settingsOk c = leb 1 (c .L) && leb (c .L) 32 && leb 2 (c .D) && leb (c .D) 256 && leb (c .T) 1048576

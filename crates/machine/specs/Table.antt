@@ -16,7 +16,7 @@ use Rattle.codec.specs.declared.Tested.the-variants.{InCode, NotInCode, Refused
 use Rattle.codec.specs.Record.{noRecord}
 use Rattle.machine.specs.declared.Counts.{Counts}
 use Rattle.machine.specs.Queue.{Step}
-use Rattle.machine.specs.Calls.{Input, Lent, noCounts}
+use Rattle.machine.specs.Calls.{Input, Lent, given, noCounts}
 use Rattle.machine.specs.Rows.{Row, isQ, isP, transforms, loads, ranks, encodes, tests, readsData, makes, reads, makesIn, readsIn, walks, decodes, refuses, leaves, hooks, Seen, shape}
 
 -- ---- books, command by command, with small operands
@@ -94,10 +94,6 @@ hookValues =
     pos 44 ∷ pos 746 ∷ pos 719 ∷ pos 282 ∷ pos 563 ∷ pos 978 ∷ pos 606 ∷ negℤ (pos 12) ∷ negℤ (pos 64) ∷ pos 938 ∷ pos 1087 ∷ pos 1300
     ∷ pos 1343 ∷ pos 943 ∷ pos 202 ∷ pos 1320 ∷ []
 
--- what a call is given
-unfoldable pub input : List ℕ → ℕ → ℕ → ℕ → List ℤ → Input
-input book L D T ys = record { book = book; L = L; D = D; T = T; values = ys }
-
 -- buffers of these lengths, filled with sevens: word, data, workspace numbers and bytes, walk
 unfoldable pub room : ℕ → ℕ → ℕ → ℕ → ℕ → Lent
 room n k numbers bytes walk =
@@ -126,7 +122,7 @@ repeatRoom = room 64 32 640 512 18
 
 -- the (16,10) hook at these settings
 unfoldable pub hookRun : ℕ → ℕ → ℕ → Input
-hookRun L D T = input hookBook L D T hookValues
+hookRun L D T = given hookBook L D T hookValues
 
 -- values that say a word plainly: 100 for a 0, -100 for a 1
 unfoldable pub plainly : List ℕ → List ℤ
@@ -191,19 +187,19 @@ markedRuns =
     ∷ walks (hookRun 4 2 100)
     (step 0 0 (pos 0) [] [] ∷ step 0 1 (pos 47) [] [] ∷ step 1 1 (negℤ (pos 9)) (0 ∷ []) [] ∷ step 1 2 (negℤ (pos 4)) (2 ∷ []) []
     ∷ step 1 3 (negℤ (pos 20)) [] [] ∷ [])
-    ∷ decodes (input hookBook 4 8 0 (replicate 16 (pos 0))) hookRoom (gave (counts 4 0 0 0) (replicate 16 0) (replicate 10 0))
-    ∷ decodes (input hookBook 4 8 0 (replicate 16 (pos 2047))) hookRoom (gave (counts 4 0 0 0) (replicate 16 0) (replicate 10 0))
-    ∷ decodes (input hookBook 4 8 0 (replicate 15 (pos 2047) ++ pos 2048 ∷ [])) hookRoom (keptBack 9 noCounts hookRoom)
+    ∷ decodes (given hookBook 4 8 0 (replicate 16 (pos 0))) hookRoom (gave (counts 4 0 0 0) (replicate 16 0) (replicate 10 0))
+    ∷ decodes (given hookBook 4 8 0 (replicate 16 (pos 2047))) hookRoom (gave (counts 4 0 0 0) (replicate 16 0) (replicate 10 0))
+    ∷ decodes (given hookBook 4 8 0 (replicate 15 (pos 2047) ++ pos 2048 ∷ [])) hookRoom (keptBack 9 noCounts hookRoom)
     ∷ decodes (hookRun 4 1 100) hookRoom (keptBack 8 noCounts hookRoom)
-    ∷ decodes (input [] 4 8 100 hookValues) hookRoom (keptBack 1 noCounts hookRoom)
+    ∷ decodes (given [] 4 8 100 hookValues) hookRoom (keptBack 1 noCounts hookRoom)
     ∷ []
 
 -- the order of equals, with every value 0: more blocks first, then the lower number; the words of a block, equals by the smaller number
 unfoldable pub queueRows : List Row
 queueRows =
-    walks (input (flatBook 0 0 0 0) 2 8 0 (replicate 4 (pos 0)))
+    walks (given (flatBook 0 0 0 0) 2 8 0 (replicate 4 (pos 0)))
     (step 0 0 (pos 0) [] [] ∷ step 0 1 (pos 0) [] [] ∷ step 0 2 (pos 0) [] [] ∷ step 0 3 (pos 0) [] [] ∷ step 0 4 (pos 0) [] [] ∷ [])
-    ∷ walks (input (flatBook 0 10 20 30) 2 8 0 (replicate 4 (pos 0)))
+    ∷ walks (given (flatBook 0 10 20 30) 2 8 0 (replicate 4 (pos 0)))
     (step 0 0 (pos 0) [] [] ∷ step 0 1 (pos 0) [] [] ∷ step 1 1 (pos 0) [] [] ∷ step 0 2 (negℤ (pos 10)) [] []
     ∷ step 1 2 (negℤ (pos 10)) [] (2 ∷ 3 ∷ []) ∷ step 0 3 (negℤ (pos 20)) [] [] ∷ step 1 3 (negℤ (pos 20)) [] (4 ∷ 5 ∷ []) ∷ step 0 4 (negℤ (pos 30)) [] [] ∷ [])
     ∷ ranks oneBlock (replicate 4 (pos 0)) (0 ∷ 1 ∷ 2 ∷ 3 ∷ 4 ∷ [])
@@ -351,21 +347,21 @@ recordRows =
 -- 8 before 7 before 9; each lent length exact or at least as asked; what a run leaves in each buffer, past the stated size too
 unfoldable pub lentRows : List Row
 lentRows =
-    refuses (input (flatBook 0 0 0 0) 2 8 0 (replicate 4 (pos 0))) flatRoom 0
-    ∷ refuses (input (flatBook 0 0 0 0) 2 8 0 (replicate 4 (pos 0))) (room 5 4 320 64 9) 7
-    ∷ refuses (input (flatBook 0 0 0 0) 2 8 0 (replicate 4 (pos 0))) (room 4 3 320 64 9) 7
-    ∷ refuses (input (flatBook 0 0 0 0) 2 8 0 (replicate 4 (pos 0))) (room 4 4 319 64 9) 7
-    ∷ refuses (input (flatBook 0 0 0 0) 2 8 0 (replicate 4 (pos 0))) (room 4 4 320 63 9) 7
-    ∷ refuses (input (flatBook 0 0 0 0) 2 8 0 (replicate 4 (pos 0))) (room 4 4 320 64 8) 7
-    ∷ refuses (input (flatBook 0 0 0 0) 2 8 0 (replicate 5 (pos 0))) flatRoom 7
-    ∷ refuses (input (flatBook 0 0 0 0) 2 8 0 (replicate 4 (negℤ (pos 2048)))) flatRoom 9
-    ∷ refuses (input (flatBook 0 0 0 0) 2 8 0 (replicate 4 (negℤ (pos 2047)))) flatRoom 0
-    ∷ refuses (input (flatBook 0 0 0 0) 2 8 0 (replicate 4 (pos 2048))) (room 4 3 320 64 9) 7
-    ∷ refuses (input (flatBook 0 0 0 0) 33 8 0 (replicate 4 (pos 2048))) (room 4 3 320 64 9) 8
-    ∷ refuses (input (flatBook 0 0 0 0) 0 8 0 (replicate 4 (pos 0))) flatRoom 8
-    ∷ refuses (input (flatBook 0 0 0 0) 2 257 0 (replicate 4 (pos 0))) flatRoom 8
-    ∷ refuses (input (flatBook 0 0 0 0) 2 8 1048577 (replicate 4 (pos 0))) flatRoom 8
-    ∷ refuses (input (flatBook 0 0 0 0) 2 8 1048576 (replicate 4 (pos 0))) flatRoom 0
+    refuses (given (flatBook 0 0 0 0) 2 8 0 (replicate 4 (pos 0))) flatRoom 0
+    ∷ refuses (given (flatBook 0 0 0 0) 2 8 0 (replicate 4 (pos 0))) (room 5 4 320 64 9) 7
+    ∷ refuses (given (flatBook 0 0 0 0) 2 8 0 (replicate 4 (pos 0))) (room 4 3 320 64 9) 7
+    ∷ refuses (given (flatBook 0 0 0 0) 2 8 0 (replicate 4 (pos 0))) (room 4 4 319 64 9) 7
+    ∷ refuses (given (flatBook 0 0 0 0) 2 8 0 (replicate 4 (pos 0))) (room 4 4 320 63 9) 7
+    ∷ refuses (given (flatBook 0 0 0 0) 2 8 0 (replicate 4 (pos 0))) (room 4 4 320 64 8) 7
+    ∷ refuses (given (flatBook 0 0 0 0) 2 8 0 (replicate 5 (pos 0))) flatRoom 7
+    ∷ refuses (given (flatBook 0 0 0 0) 2 8 0 (replicate 4 (negℤ (pos 2048)))) flatRoom 9
+    ∷ refuses (given (flatBook 0 0 0 0) 2 8 0 (replicate 4 (negℤ (pos 2047)))) flatRoom 0
+    ∷ refuses (given (flatBook 0 0 0 0) 2 8 0 (replicate 4 (pos 2048))) (room 4 3 320 64 9) 7
+    ∷ refuses (given (flatBook 0 0 0 0) 33 8 0 (replicate 4 (pos 2048))) (room 4 3 320 64 9) 8
+    ∷ refuses (given (flatBook 0 0 0 0) 0 8 0 (replicate 4 (pos 0))) flatRoom 8
+    ∷ refuses (given (flatBook 0 0 0 0) 2 257 0 (replicate 4 (pos 0))) flatRoom 8
+    ∷ refuses (given (flatBook 0 0 0 0) 2 8 1048577 (replicate 4 (pos 0))) flatRoom 8
+    ∷ refuses (given (flatBook 0 0 0 0) 2 8 1048576 (replicate 4 (pos 0))) flatRoom 0
     ∷ leaves (hookRun 1 8 401) (room 16 10 513 258 14)
     (record {
       word = replicate 16 7;
@@ -382,9 +378,9 @@ lentRows =
 -- the hook call: the record of the word; 10; 11 for status 5; k not 32 is 7, after 8
 unfoldable pub hookRows : List Row
 hookRows =
-    hooks (input recordBook 1 4 0 (plainly heldWord)) recordRoom (gave (counts 17 0 15 0) heldWord heldBits) held
-    ∷ hooks (input repeatBook 1 4 49 (pos 50 ∷ drop 1 (plainly heldWord) ++ plainly heldWord)) repeatRoom (keptBack 10 (counts 18 0 15 50) repeatRoom) noRecord
-    ∷ hooks (input recordBook 1 4 0 (plainly (toBits 32 0b0111_0000_1011_1100_1011_1100_1011_1100))) recordRoom (keptBack 11 (counts 17 0 15 0) recordRoom) noRecord
+    hooks (given recordBook 1 4 0 (plainly heldWord)) recordRoom (gave (counts 17 0 15 0) heldWord heldBits) held
+    ∷ hooks (given repeatBook 1 4 49 (pos 50 ∷ drop 1 (plainly heldWord) ++ plainly heldWord)) repeatRoom (keptBack 10 (counts 18 0 15 50) repeatRoom) noRecord
+    ∷ hooks (given recordBook 1 4 0 (plainly (toBits 32 0b0111_0000_1011_1100_1011_1100_1011_1100))) recordRoom (keptBack 11 (counts 17 0 15 0) recordRoom) noRecord
     ∷ hooks (hookRun 4 8 100) hookRoom (keptBack 7 noCounts hookRoom) noRecord
     ∷ hooks (hookRun 4 1 100) hookRoom (keptBack 8 noCounts hookRoom) noRecord
     ∷ []

@@ -10,9 +10,8 @@ use Rattle.codebook.specs.declared.Refusal.{Refusal}
 use Rattle.codebook.specs.declared.Outcome.the-variants.{Done, Refused}
 use Rattle.codebook.specs.declared.Shape.{Shape}
 use Rattle.codebook.specs.Loading.{Load, refused, loaded, load, shapeOf}
-use Rattle.machine.specs.Calls.{Input, settingsOk, walkNeeded}
+use Rattle.machine.specs.Calls.{Input, given, settingsOk, walkNeeded}
 use Rattle.checks.specs.Checks.{settingsFit}
-use Rattle.attempts.specs.Given.{given}
 use Rattle.screen.specs.Screen.{fewWith, few}
 
 -- the values are not looked at

@@ -40,9 +40,8 @@ use denote.Triple.Walked.{says, Stays, stay-none, stay-none-slice, gave-slice, w
 use denote.Exit.{yes}
 use denote.Signature.{plain}
 use Rattle.machine.specs.declared.Counts.{Counts}
-use Rattle.machine.specs.Calls.{Input, Lent}
+use Rattle.machine.specs.Calls.{Input, Lent, given, lent}
 use Rattle.machine.proofs.Counts.Laws as C′
-use Rattle.attempts.specs.Given.{given, lent}
 use Rattle.screen.specs.declared.StepRecord.{StepRecord}
 use Rattle.screen.specs.Records.{copied}
 use Rattle.screen.specs.Screen.{Fitting}

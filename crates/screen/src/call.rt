@@ -9,7 +9,7 @@ use machine::HookDecoded;
 ghost use mathlib.Core.Path.{_≡_};
 ghost use mathlib.Core.Bool.{true, false};
 ghost use lib.ListN.{length};
-ghost use Rattle.attempts.specs.Given.{given, lent};
+ghost use Rattle.machine.specs.Calls.{given, lent};
 ghost use Rattle.screen.specs.Screen.{plainWithin, hookWithin, recordsAfter, WholeScreen};
 
 // The plain decoding call.

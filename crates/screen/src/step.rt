@@ -10,7 +10,7 @@ ghost use mathlib.Core.Bool.{cond};
 ghost use Prim.Native.Nat.{_≤_};
 ghost use lib.Dec.{ltb};
 ghost use lib.ListN.{length};
-ghost use Rattle.attempts.specs.Given.{given, lent};
+ghost use Rattle.machine.specs.Calls.{given, lent};
 ghost use Rattle.screen.specs.Records.{blank, recordAt};
 ghost use Rattle.screen.specs.Screen.{plainStep, WholeStep};
 

@@ -13,8 +13,7 @@ use machine::Decoded;
 use machine::HookDecoded;
 ghost use mathlib.Core.Path.{_≡_};
 ghost use mathlib.Core.List.{[]};
-ghost use Rattle.machine.specs.Calls.{noCounts};
-ghost use Rattle.attempts.specs.Given.{given, lent};
+ghost use Rattle.machine.specs.Calls.{given, lent, noCounts};
 ghost use Rattle.screen.specs.Screen.{few, plainWithin, hookWithin, Fitting};
 
 // Whether so many records are too few, where neither the book nor a setting is at fault before.

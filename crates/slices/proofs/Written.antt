@@ -14,8 +14,7 @@ use Rattle.codebook.specs.declared.Refusal.the-variants.{Mismatch, BadSetting}
 use Rattle.codebook.specs.Refusals.{refusalNumber, outcomeNumber}
 use Rattle.codebook.specs.Book.{Book}
 use Rattle.codebook.specs.Loading.{Load, load, refused, loaded}
-use Rattle.machine.specs.Calls.{Input, Lent, settingsOk, plainCall, hookCall}
-use Rattle.attempts.specs.Given.{given}
+use Rattle.machine.specs.Calls.{Input, Lent, given, settingsOk, plainCall, hookCall}
 use Rattle.slices.specs.Slices.{countsSlice, recordSlice, Answered, mismatchWith, mismatchNumber, mismatch, plainAnswered, hookAnswered}
 
 -- ---- a choice by a length

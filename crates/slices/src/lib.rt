@@ -14,7 +14,7 @@ use machine::Counts;
 ghost use mathlib.Core.Path.{_≡_};
 ghost use mathlib.Core.List.{[]};
 ghost use lib.ListN.{length};
-ghost use Rattle.attempts.specs.Given.{given, lent};
+ghost use Rattle.machine.specs.Calls.{given, lent};
 ghost use Rattle.slices.specs.Slices.{countsSlice, recordSlice, mismatchNumber, plainAnswered, hookAnswered};
 
 // The number where counts or record have a wrong length.

@@ -5,8 +5,7 @@ use mathlib.Core.List.{[]}
 use Prim.Native.Nat.{ℕ}
 use lib.ListN.{length}
 use Rattle.codebook.specs.Refusals.{outcomeNumber}
-use Rattle.machine.specs.Calls.{Input, Lent}
-use Rattle.attempts.specs.Given.{given, lent}
+use Rattle.machine.specs.Calls.{Input, Lent, given, lent}
 use Rattle.slices.specs.Slices.{countsSlice, recordSlice, mismatchNumber, mismatch, hookAnswered}
 use Rattle.slices.proofs.Written.{mismatch-values, hook-written, hook-left}
 use borrow.Author.Needs.{needs}

@@ -2,8 +2,7 @@
 use mathlib.Core.Path.{sym, ap, _∙_}
 use mathlib.Core.List.{[]}
 use Rattle.codebook.specs.Refusals.{outcomeNumber}
-use Rattle.machine.specs.Calls.{Input, Lent}
-use Rattle.attempts.specs.Given.{given, lent}
+use Rattle.machine.specs.Calls.{Input, Lent, given, lent}
 use Rattle.slices.specs.Slices.{countsSlice, mismatch}
 use Rattle.slices.proofs.Written.{mismatch-values, plain-written, plain-left}
 use borrow.Author.Needs.{needs}

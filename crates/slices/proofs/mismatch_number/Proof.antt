@@ -4,7 +4,7 @@ use mathlib.Core.List.{[]}
 use Rattle.codec.proofs.Told.{shape-refused, shape-known}
 use Rattle.checks.proofs.Admitted.{none-made, these-made}
 use Rattle.checks.proofs.Fitting.{settings-fit}
-use Rattle.attempts.specs.Given.{given}
+use Rattle.machine.specs.Calls.{given}
 use Rattle.slices.proofs.Written.{mismatch-book, mismatch-setting, mismatch-length}
 use borrow.Author.Needs.{needs}
 use Rattle.slices.proofs.mismatch_number.Statement.{statement}

@@ -10,9 +10,8 @@ use lib.ListN.{length, length-replicate}
 use borrow.Author.Needs.{needs}
 use Rattle.codebook.specs.Progress.{tables}
 use Rattle.codec.proofs.Told.{Known, known-small, sizes-refused, sizes-known}
-use Rattle.machine.specs.Calls.{Input, Lent, barred}
+use Rattle.machine.specs.Calls.{Input, Lent, given, lent, barred}
 use Rattle.machine.specs.Machine.{runOf}
-use Rattle.attempts.specs.Given.{given, lent}
 use Rattle.attempts.specs.Attempt.{fitsFor, Ready}
 use Rattle.attempts.proofs.Attempts.{yields-refused, yields-barred, yields-ran, yields-lent}
 use Rattle.attempts.proofs.Judged.{ready-small, ready-free}

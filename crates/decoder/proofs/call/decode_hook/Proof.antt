@@ -5,8 +5,7 @@ use Prim.Native.Nat.{ℕ, _≤_}
 use native.Mathlib.Omega.{arith}
 use lib.ListN.{length}
 use borrow.Author.Needs.{needs}
-use Rattle.machine.specs.Calls.{Input, Lent}
-use Rattle.attempts.specs.Given.{given, lent}
+use Rattle.machine.specs.Calls.{Input, Lent, given, lent}
 use Rattle.decoder.proofs.Handed.{read-fits, hook-fits, hook-done}
 use Rattle.decoder.proofs.call.decode_hook.Statement.{statement}
 use Rattle.decoder.proofs.call.decode_hook.Tie as tie

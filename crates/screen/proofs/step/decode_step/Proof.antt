@@ -1,8 +1,7 @@
 -- `screen::step::decode_step` meets its contract: answer, buffers and demand 3 are the decoding call's, and the record is entry i of the walk it left.
 -- Assumes nothing.
 use borrow.Author.Needs.{needs}
-use Rattle.machine.specs.Calls.{Input, Lent}
-use Rattle.attempts.specs.Given.{given, lent}
+use Rattle.machine.specs.Calls.{Input, Lent, given, lent}
 use Rattle.screen.proofs.Stepped.{step-fits, step-says}
 use Rattle.screen.proofs.step.decode_step.Statement.{statement}
 use Rattle.screen.proofs.step.decode_step.Tie as tie

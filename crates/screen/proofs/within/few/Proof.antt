@@ -6,10 +6,9 @@ use Prim.Native.Nat.{_*_, _≤_}
 use native.Mathlib.Nat.{mul-le-mul-right}
 use native.Mathlib.Omega.{arith}
 use borrow.Author.Needs.{needs}
-use Rattle.machine.specs.Calls.{Input}
+use Rattle.machine.specs.Calls.{Input, given}
 use Rattle.checks.specs.Checks.{settingsFit}
 use Rattle.checks.proofs.Admitted.{none-made, these-made, in-ranges}
-use Rattle.attempts.specs.Given.{given}
 use Rattle.screen.proofs.Few.{few-refused, few-unset, few-told}
 use Rattle.screen.proofs.within.few.Statement.{statement}
 use Rattle.screen.proofs.within.few.Tie as tie
