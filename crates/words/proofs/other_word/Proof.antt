@@ -26,7 +26,8 @@ recall-requires : tie.Need-recall-requires
 recall-requires c κs =
     let t = c .before .before in
     let s = t .before .before .before in
-    (rw (t .slot-of .ensures .0) (s .pre .0 .4), omega (arith, c .if1 .taken, first-cell (s .args .kept .now) (t .slot-of .result)))
+    let has = s .pre .0 .4 in
+    ((omega (arith, t .slot-of .ensures), omega (arith, t .slot-of .ensures .0, has)), omega (arith, c .if1 .taken, first-cell (s .args .kept .now) (t .slot-of .result)))
 
 returns : tie.Need-returns
 unfolding Keeps

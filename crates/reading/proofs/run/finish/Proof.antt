@@ -119,7 +119,7 @@ id-of-requires : tie.Need-id-of-requires
 unfolding memory
 id-of-requires c κs =
     let u = c .before .before .before .before .before .before .before .before in
-    (row-there u, omega (arith, start u .pre .0 .0 .deep))
+    ((omega (arith, row-there u), omega (arith, row-there u)), omega (arith, start u .pre .0 .0 .deep))
 
 same-length : tie.Need-same-length
 same-length c = search needs

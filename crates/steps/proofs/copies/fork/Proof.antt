@@ -204,9 +204,11 @@ same-length c = search needs
 keep-known-requires : tie.Need-keep-known-requires
 unfolding memory
 keep-known-requires c κs =
-    let s = start (began (c .before .before .before .before .before .before .before .before .before .before .before .before .before)) in
+    let t = began (c .before .before .before .before .before .before .before .before .before .before .before .before .before) in
+    let s = start t in
     let to = fork-apart (own s) .1 in
-    ((omega (arith, to, s .pre .0 .0 .many), omega (arith, to, s .pre .0 .4)), fork-few (own s))
+    let from = fork-slot (own s) in
+    ((omega (arith, to, from, slot-is t, s .pre .0 .0 .many), omega (arith, to, from, slot-is t, s .pre .0 .4)), fork-few (own s))
 
 returns : tie.Need-returns
 unfolding memory
