@@ -36,7 +36,7 @@ pub record EntryOf (B : Book) (rows : List ℕ) (e : ℕ) (p : Path) : Type 0 wh
   pub small : e < 36028797018963968
   pub row : Row B rows (slotAt e) p
 
--- Memory stands for the reader's arrays A and paths ps, each with its entry in es; the slots vs are vacant, and there are N in all. (A path that
+-- Memory stands for the reader's arrays A and paths ps, each with its entry in es; the slots vs are vacant. There are N slots in all, each below N. (A path that
 -- was taken from the queue is the first of ps while its extraction lasts.)
 pub record Stands (B : Book) (N : ℕ) (x : Memory) (es vs : List ℕ) (A : Arrays) (ps : List Path) : Type 0 where
   pub queue : Paired (EntryOf B (x .rows)) es ps
