@@ -9,7 +9,7 @@ use lib.ListN.{length, getD}
 use Rattle.laws.proofs.Lists.{length-none}
 use Rattle.laws.specs.Pairs.{Paired}
 use Rattle.codebook.specs.Book.{Book}
-use Rattle.machine.specs.Queue.{Key, ahead, behind}
+use Rattle.queue.specs.Queue.{Key, ahead, behind}
 use Rattle.reader.specs.Arrays.{Arrays}
 use Rattle.reader.specs.Paths.{Path, keyOf}
 use Rattle.order.specs.Entries.{keyAt, slotAt, queueOf}

@@ -9,7 +9,7 @@ use lib.ListN.{length, getD}
 use borrow.Author.Tests.{lt-ltb, le-ltb, le-leb, lt-leb, eq-eqb, ne-eqb}
 use Rattle.laws.specs.Lists.{keep}
 use Rattle.laws.proofs.Tests.{lt-or}
-use Rattle.machine.specs.Queue.{Key, ahead, behind, staying, outrunBy}
+use Rattle.queue.specs.Queue.{Key, ahead, behind, staying, outrunBy}
 
 module _ {A : Type 0} (key : A → Key) (b : ℕ) where
   -- ---- one path more

@@ -4,7 +4,7 @@ ghost use mathlib.Core.List.{List};
 ghost use Prim.Native.Nat.{ℕ, _+_, _-_, _≤_, _<_};
 ghost use lib.IntN.{ℤ};
 ghost use lib.ListN.{length, getD};
-ghost use Rattle.machine.specs.Queue.{ahead, behind, staying, outrunBy, visit};
+ghost use Rattle.queue.specs.Queue.{ahead, behind, staying, outrunBy, visit};
 ghost use Rattle.reader.specs.Paths.{keyOf};
 ghost use Rattle.order.specs.Entries.{keyAt, queueOf, Rising};
 ghost use Rattle.sharing.specs.Sharing.{Held, Rows};

@@ -17,7 +17,7 @@ use Rattle.codebook.specs.Book.{Book}
 use Rattle.codebook.specs.Loading.{load, refused, loaded}
 use Rattle.machine.specs.declared.Decoded.{Decoded}
 use Rattle.machine.specs.Machine.{Run, runOf}
-use Rattle.machine.specs.Queue.{Step, Final}
+use Rattle.queue.specs.Queue.{Step, Final}
 use Rattle.machine.specs.Calls.{Input, Lent, barred, finalOf, noCounts, numbersNeeded, bytesNeeded, walked, afterRun, isDone}
 use Rattle.attempts.specs.Attempt.{fitsFor, answerOf, ranOf, noRun, unbarred, attemptWith, attempted, Holding}
 

@@ -19,7 +19,7 @@ use Rattle.codebook.specs.declared.Sizes.{Sizes}
 use Rattle.codebook.specs.Book.{Kind, freeCount}
 use Rattle.codebook.proofs.Placing.{free-le}
 use Rattle.machine.specs.declared.Counts.{Counts}
-use Rattle.machine.specs.Queue.{Final}
+use Rattle.queue.specs.Queue.{Final}
 use Rattle.machine.specs.Machine as M
 use Rattle.machine.specs.Calls.{finalOf, countsOf}
 use Rattle.runs.specs.Runs.{Exact}

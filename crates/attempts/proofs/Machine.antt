@@ -9,7 +9,7 @@ use lib.IntN.{ℤ}
 use lib.ListN.{length, drop, replicate}
 use lib.Seq.{drop-length}
 use Rattle.polar.specs.Layers.{part}
-use Rattle.machine.specs.Queue.{Step, Final}
+use Rattle.queue.specs.Queue.{Step, Final}
 use Rattle.machine.specs.Machine as M
 use Rattle.machine.specs.Calls.{finalOf, countsOf}
 use Rattle.reader.specs.Reader as R

@@ -1,5 +1,5 @@
 -- What loading and the tests give the run of a call: a loaded book stands in its tables, and a call is admitted exactly where
--- nothing bars it. By the laws of codec/proofs/Told, checks/proofs/Fitting and Admitted. Assumes nothing.
+-- nothing bars it. By the laws of coding/proofs/Told, checks/proofs/Fitting and Admitted. Assumes nothing.
 use mathlib.Core.Path.{_≡_, refl, ap, _∙_}
 use mathlib.Core.Bool.{Bool, true, false, not, _&&_}
 use mathlib.Core.List.{List, [], _∷_, map}
@@ -22,7 +22,7 @@ use Rattle.codebook.specs.Loading.{load, loaded}
 use Rattle.codebook.specs.Tables.{tablesOf, overlaid, Filled, sizesOf}
 use Rattle.codebook.specs.Tables as C
 use Rattle.codebook.proofs.Loaded.{loaded-valid}
-use Rattle.codec.proofs.Told.{Known, load-tabled}
+use Rattle.coding.proofs.Told.{Known, load-tabled}
 use Rattle.machine.specs.Calls.{Input, Lent, settingsOk, lentOk, valuesOk, barred}
 use Rattle.checks.specs.declared.Settings.{Settings}
 use Rattle.checks.specs.declared.Checked.{Checked}

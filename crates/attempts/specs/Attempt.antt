@@ -21,7 +21,7 @@ use Rattle.codec.specs.declared.RecordRead.{RecordRead}
 use Rattle.codec.specs.Record.{readRecord}
 use Rattle.codec.specs.Calls.{holds32, notRead, recordRead}
 use Rattle.machine.specs.declared.Decoded.{Decoded}
-use Rattle.machine.specs.Queue.{Final}
+use Rattle.queue.specs.Queue.{Final}
 use Rattle.machine.specs.Machine.{Run, runOf}
 use Rattle.machine.specs.Calls.{Input, Lent, barred, finalOf, countsOf, noCounts, afterRun, isDone}
 use Rattle.reading.specs.Running.{InTables}

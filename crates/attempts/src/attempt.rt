@@ -1,5 +1,5 @@
 // What both decoding calls share: the book is loaded, the call is admitted or refused, the run is made, and its word judged by the limit. Word and data
-// are found, not yet handed out. Relies on ran.rt and the crates codebook, codec and checks; specs/Attempt.antt says what is found.
+// are found, not yet handed out. Relies on ran.rt and the crates codebook, coding and checks; specs/Attempt.antt says what is found.
 use crate::ran::run_cleared;
 use checks::Checked;
 use checks::Lengths;
@@ -7,7 +7,7 @@ use checks::admission::admit;
 use codebook::Outcome;
 use codebook::Refusal;
 use codebook::Sizes;
-use codec::call::data_of;
+use coding::data_of;
 use loading::load_tables;
 use machine::Counts;
 use machine::Decoded;
@@ -21,7 +21,7 @@ ghost use lib.IntN.{pos};
 ghost use lib.ListN.{length, drop, replicate};
 ghost use Rattle.polar.specs.Layers.{part};
 ghost use Rattle.codebook.specs.declared.Outcome.the-variants.{Refused as NotDone};
-ghost use Rattle.machine.specs.Queue.{Step};
+ghost use Rattle.queue.specs.Queue.{Step};
 ghost use Rattle.machine.specs.Machine as M;
 ghost use Rattle.machine.specs.Calls.{given, lent, finalOf, noCounts, walked};
 ghost use Rattle.attempts.specs.Attempt.{answerOf, attempted, Holding, Ready};

@@ -11,7 +11,7 @@ ghost use mathlib.Core.Path.{_≡_};
 ghost use Prim.Native.Nat.{_+_, _*_, _^_, _≤_};
 ghost use lib.IntN.{pos};
 ghost use lib.ListN.{length, replicate};
-ghost use Rattle.machine.specs.Queue.{Step};
+ghost use Rattle.queue.specs.Queue.{Step};
 ghost use Rattle.machine.specs.Machine as M;
 ghost use Rattle.machine.specs.Calls.{finalOf, countsOf, walked};
 ghost use Rattle.heights.specs.Workspace.{Room};

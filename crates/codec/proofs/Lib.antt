@@ -5,7 +5,5 @@ pub mod Record
 pub mod Answers
 pub mod Calls
 pub mod Ties
-pub mod Parts
 pub mod TieSets
 pub mod Turns
-pub mod Told

@@ -1,4 +1,4 @@
--- What one turn of the loops of src/filling.rt does: by the code of its index, which says the index's kind, a bit is filled, tested or read.
+-- What one turn of the loops of the crate filling does: by the code of its index, which says the index's kind, a bit is filled, tested or read.
 -- Assumes nothing.
 use mathlib.Core.Path.{_≡_, refl, sym, ap, ap₂, _∙_, subst}
 use mathlib.Core.Bool.{true, false, cond, _&&_}

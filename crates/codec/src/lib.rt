@@ -1,10 +1,5 @@
-// The types of encoding, testing and reading, and of hook records.
+// The types of encoding, testing and reading, and of hook records; no code. The crates filling, hooks and coding have it.
 // specs/Record.antt gives document 01's number for each status; specs/Calls.antt says what each call answers.
-pub mod call;
-pub mod fields;
-pub mod filling;
-pub mod hook;
-
 use codebook::Outcome;
 use codebook::Refusal;
 
@@ -42,10 +37,3 @@ pub struct RecordRead {
     pub outcome: Outcome,
     pub hook: HookRecord,
 }
-
-pub use call::encode;
-pub use call::make_record;
-pub use call::read_data;
-pub use call::read_record;
-pub use call::test;
-pub use hook::status_number;

@@ -12,7 +12,7 @@ use Rattle.codebook.specs.Loading.{Load, refused, loaded, load}
 use Rattle.codec.specs.Calls.{notRead}
 use Rattle.machine.specs.declared.Decoded.{Decoded}
 use Rattle.machine.specs.declared.HookDecoded.{HookDecoded}
-use Rattle.machine.specs.Queue.{Final}
+use Rattle.queue.specs.Queue.{Final}
 use Rattle.machine.specs.Machine.{Run, runOf}
 use Rattle.machine.specs.Calls.{Input, Lent, Called, barred, finalOf, countsOf, afterRun, isDone}
 use Rattle.machine.specs.Calls.{plainRan, plainRefused, plainChecked, plainWith, plainCall}

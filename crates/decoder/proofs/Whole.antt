@@ -12,7 +12,7 @@ use lib.IntN.{ℤ, pos}
 use Rattle.codebook.specs.Book.{Book}
 use Rattle.codebook.specs.Loading.{loaded, load}
 use Rattle.machine.specs.declared.Counts.{Counts}
-use Rattle.machine.specs.Queue.{Step}
+use Rattle.queue.specs.Queue.{Step}
 use Rattle.machine.specs.Calls.{Input, Lent, numbersNeeded, barred, finalOf, countsOf, walked, afterRun}
 use Rattle.heights.specs.Workspace.{Room}
 use Rattle.reader.proofs.Agree.{agree}

@@ -9,7 +9,7 @@ use lib.IntN.{pos}
 use Rattle.codebook.specs.Book.{Book}
 use Rattle.codebook.specs.Loading.{load, loaded}
 use Rattle.machine.specs.declared.Counts.{Counts}
-use Rattle.machine.specs.Queue.{Step, Final}
+use Rattle.queue.specs.Queue.{Step, Final}
 use Rattle.machine.specs.Machine as M
 use Rattle.machine.specs.Calls.{Input, Lent, numbersNeeded, bytesNeeded, barred, finalOf, countsOf, walked}
 use Rattle.reader.specs.Arrays.{Arrays}

@@ -1,10 +1,10 @@
 // What a call does with what its attempt found: word and data are handed out on success alone, and the record is read of the data. Relies on the crates
-// codec and checks.
+// hooks and checks.
 use checks::buffers::hand_out;
 use codebook::Outcome;
 use codec::RecordRead;
-use codec::hook::not_read;
-use codec::hook::record_of;
+use hooks::not_read;
+use hooks::record_of;
 ghost use mathlib.Core.Path.{_≡_};
 ghost use mathlib.Core.Bool.{true, cond};
 ghost use Prim.Native.Nat.{_≤_};

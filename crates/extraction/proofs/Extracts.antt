@@ -6,7 +6,7 @@ use Prim.Native.Nat.{ℕ, suc, _+_, _<_}
 use native.Mathlib.Omega.{arith}
 use lib.ListN.{length, getD, length-map, length-set}
 use Rattle.codebook.specs.Book.{Book}
-use Rattle.machine.specs.Queue.{insert, staying, outrunBy, numbers, visit}
+use Rattle.queue.specs.Queue.{insert, staying, outrunBy, numbers, visit}
 use Rattle.reader.specs.Arrays.{Arrays}
 use Rattle.reader.specs.Paths.{Path, keyOf, idsOf}
 use Rattle.reader.specs.Reader.{Cut, copy, Moved, move, Extracted, extract}

@@ -14,7 +14,7 @@ use Rattle.laws.specs.Lists.{All, Distinct}
 use Rattle.laws.proofs.Lists.{all-front}
 use Rattle.codebook.specs.Book.{Book, blockAt}
 use Rattle.codec.specs.Ties.{Parities}
-use Rattle.machine.specs.Queue.{insert}
+use Rattle.queue.specs.Queue.{insert}
 use Rattle.outer.specs.declared.Candidate.{Candidate}
 use Rattle.outer.specs.Words.{Word, nearer, nearestWith, nextAfter}
 use Rattle.outer.specs.Blocks.{candidateOf}

@@ -11,7 +11,7 @@ use Rattle.laws.specs.Lists.{All}
 use Rattle.polar.specs.Bits.{number}
 use Rattle.polar.specs.Layers.{part, Within}
 use Rattle.codebook.specs.Book.{Book, blockAt}
-use Rattle.machine.specs.Queue.{Key, insert}
+use Rattle.queue.specs.Queue.{Key, insert}
 use Rattle.outer.specs.declared.Candidate.{Candidate}
 use Rattle.outer.specs.Search.{Searchable}
 use Rattle.outer.specs.Words.{Word, nearest, nextAfter}

@@ -3,7 +3,7 @@ ghost use mathlib.Core.Path.{_≡_};
 ghost use mathlib.Core.List.{List};
 ghost use Prim.Native.Nat.{ℕ, suc, _+_, _-_, _≤_, _<_};
 ghost use lib.ListN.{length, getD};
-ghost use Rattle.machine.specs.Queue as Q;
+ghost use Rattle.queue.specs.Queue as Q;
 ghost use Rattle.outer.specs.Search.{Scratch};
 ghost use Rattle.reader.specs.Reader as R;
 ghost use Rattle.reader.specs.Paths.{keyOf};

@@ -11,7 +11,7 @@ use Rattle.codebook.specs.Loading.{listed, width, bigEndian, signed, command, s
 use Rattle.codec.specs.Code.{parity, fill, freeBits, obeys, obeysAll, encode, inCode, readData}
 use Rattle.codec.specs.Record.{statusNumber, statusOf, noRecord, recordFits, recordBits, fieldAt, recordWith, readRecord}
 use Rattle.codec.specs.Calls.{areBits, wordFits, dataFits, holdsRecord, kept, wrote, encodeWith, encodeCall, testWith, testCall, readDataWith, readDataCall, makeRecordWith, makeRecordCall, notRead, recordRead, readRecordWith, readRecordCall}
-use Rattle.machine.specs.Queue.{before, insert, ahead, behind, staying, outrunBy, numbers, roomFor, crowdedOut, visit}
+use Rattle.queue.specs.Queue.{before, insert, ahead, behind, staying, outrunBy, numbers, roomFor, crowdedOut, visit}
 use Rattle.machine.specs.Choice.{choose, firstOf}
 use Rattle.machine.specs.Words.{rank, nearer, setting, nearestWith, nearest, nextAfter}
 use Rattle.machine.specs.Machine.{keyOf, scoreOf, path, emptyPath, copyWith, copyOf, cut, advanceWith, advance, extract, after, stopped, run, runOf}

@@ -24,7 +24,7 @@ use Rattle.codec.specs.Calls.{wordFits, dataFits, holds32, notRead, recordRead}
 use Rattle.machine.specs.declared.Counts.{Counts}
 use Rattle.machine.specs.declared.Decoded.{Decoded}
 use Rattle.machine.specs.declared.HookDecoded.{HookDecoded}
-use Rattle.machine.specs.Queue.{Step, Final}
+use Rattle.queue.specs.Queue.{Step, Final}
 use Rattle.machine.specs.Machine.{Path, Run, runOf}
 
 -- ---- input and refusals

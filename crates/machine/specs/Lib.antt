@@ -1,4 +1,3 @@
-pub mod Queue
 pub mod Choice
 pub mod Words
 pub mod Machine

@@ -8,7 +8,7 @@ use lib.IntN.{ℤ, pos, _-ℤ_}
 use lib.Dec.{eqb}
 use Rattle.polar.specs.Value.{R}
 use Rattle.codebook.specs.Book.{Book, blockAt}
-use Rattle.machine.specs.Queue.{Key, insert, staying, outrunBy, numbers, roomFor, crowdedOut, visit, Step}
+use Rattle.queue.specs.Queue.{Key, insert, staying, outrunBy, numbers, roomFor, crowdedOut, visit, Step}
 use Rattle.machine.specs.Words.{Ranked, nearest, nextAfter}
 
 -- ---- paths

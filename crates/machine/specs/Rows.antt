@@ -18,7 +18,7 @@ use Rattle.codec.specs.Calls.{encodeCall, testCall, readDataCall, makeRecordCal
 use Rattle.machine.specs.declared.Counts.{Counts}
 use Rattle.machine.specs.declared.Decoded.{Decoded}
 use Rattle.machine.specs.declared.HookDecoded.{HookDecoded}
-use Rattle.machine.specs.Queue.{Step}
+use Rattle.queue.specs.Queue.{Step}
 use Rattle.machine.specs.Words.{Ranked, nearest, nextAfter}
 use Rattle.machine.specs.Machine.{runOf}
 use Rattle.machine.specs.Calls.{Input, Lent, Called, plainCall, hookCall}

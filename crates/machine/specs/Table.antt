@@ -15,7 +15,7 @@ use Rattle.codec.specs.declared.HookRecord.{HookRecord}
 use Rattle.codec.specs.declared.Tested.the-variants.{InCode, NotInCode, Refused}
 use Rattle.codec.specs.Record.{noRecord}
 use Rattle.machine.specs.declared.Counts.{Counts}
-use Rattle.machine.specs.Queue.{Step}
+use Rattle.queue.specs.Queue.{Step}
 use Rattle.machine.specs.Calls.{Input, Lent, given, noCounts}
 use Rattle.machine.specs.Rows.{Row, isQ, isP, transforms, loads, ranks, encodes, tests, readsData, makes, reads, makesIn, readsIn, walks, decodes, refuses, leaves, hooks, Seen, shape}
 

@@ -10,7 +10,7 @@ use lib.Signed.{ltZ}
 use lib.Dec.{ltb, eqb}
 use borrow.Author.Tests.{lt-ltb, le-ltb, eq-eqb, ne-eqb}
 use Rattle.laws.proofs.Tests.{lt-or}
-use Rattle.machine.specs.Queue.{before}
+use Rattle.queue.specs.Queue.{before}
 use Rattle.order.specs.Entries.{keyAt, slotAt, Packed}
 
 -- ---- the order

@@ -15,7 +15,7 @@ use borrow.Author.Tests.{leb-false, lt-ltb, le-ltb}
 use Rattle.laws.specs.Lists.{keep}
 use Rattle.laws.proofs.Tests.{and-left, and-right, lt-or}
 use Rattle.laws.proofs.Stores.{Stored, stored-more}
-use Rattle.machine.specs.Queue.{insert, ahead}
+use Rattle.queue.specs.Queue.{insert, ahead}
 use Rattle.order.specs.Entries.{keyAt, queueOf, Rising, Moved}
 use Rattle.order.proofs.Digits.{before-entries}
 

@@ -6,7 +6,7 @@ use mathlib.Core.List.{List, [], _∷_}
 use Prim.Native.Nat.{ℕ, zero, suc, _-_, _/_, _%_, _≤_, _<_}
 use lib.ListN.{length, getD}
 use lib.IntN.{pos, _-ℤ_}
-use Rattle.machine.specs.Queue.{Key}
+use Rattle.queue.specs.Queue.{Key}
 
 -- the key of an entry, and its slot
 unfoldable pub keyAt : ℕ → Key

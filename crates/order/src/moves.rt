@@ -1,11 +1,11 @@
 // The moves of the queue: a path inserted, the last ones cut off, those with few blocks removed. Entries move within the array; nothing else is
-// touched. Relies on entries.rt; machine/specs/Queue says what each move is, specs/Entries.antt which queue an array holds.
+// touched. Relies on entries.rt; queue/specs/Queue says what each move is, specs/Entries.antt which queue an array holds.
 ghost use mathlib.Core.Path.{_≡_};
 ghost use mathlib.Core.Bool.{true, _&&_};
 ghost use Prim.Native.Nat.{suc, _-_, _/_, _≤_, _<_};
 ghost use lib.ListN.{length, getD, take};
 ghost use lib.Dec.{ltb, leb};
-ghost use Rattle.machine.specs.Queue as Q;
+ghost use Rattle.queue.specs.Queue as Q;
 ghost use Rattle.order.specs.Entries.{keyAt, queueOf, Rising, Moved};
 use crate::entries::blocks_of;
 

@@ -10,7 +10,7 @@ use lib.IntN.{ℤ}
 use Rattle.laws.specs.Lists.{All}
 use Rattle.codebook.specs.Book.{Book}
 use Rattle.codebook.specs.Limits.{Valid}
-use Rattle.machine.specs.Queue.{insert, roomFor, visit, Step}
+use Rattle.queue.specs.Queue.{insert, roomFor, visit, Step}
 use Rattle.runs.specs.Runs.{entries}
 use Rattle.runs.proofs.Order.{insert-length, staying-length}
 use Rattle.runs.proofs.Ends.{run-steps, run-entries}

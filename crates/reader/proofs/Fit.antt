@@ -27,7 +27,7 @@ use Rattle.codec.proofs.Ties.{parities-bits}
 use Rattle.outer.specs.Blocks.{Bits}
 use Rattle.outer.specs.Words.{Word}
 use Rattle.outer.proofs.Blocks.{Placed, placed}
-use Rattle.machine.specs.Queue.{roomFor}
+use Rattle.queue.specs.Queue.{roomFor}
 use Rattle.machine.specs.Machine as M
 use Rattle.reader.specs.Arrays.{Arrays, View, valsOf, sumsOf, turn}
 use Rattle.reader.specs.Paths.{Path, place, idsOf, viewOf}

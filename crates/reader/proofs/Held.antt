@@ -14,7 +14,7 @@ use Rattle.laws.specs.Lists.{All}
 use Rattle.laws.proofs.Tests.{cond-case}
 use Rattle.laws.proofs.Lists.{all-take}
 use Rattle.codebook.specs.Book.{Book, blockAt}
-use Rattle.machine.specs.Queue.{roomFor}
+use Rattle.queue.specs.Queue.{roomFor}
 use Rattle.runs.proofs.Order.{all-insert, all-staying}
 use Rattle.reader.specs.Arrays.{Arrays, View, upd, among, writes, putVals, putSums, claim, descend}
 use Rattle.outer.specs.Words.{Word}

@@ -14,7 +14,7 @@ use Rattle.laws.proofs.Tests.{cond-case}
 use Rattle.laws.specs.Pairs.{Paired}
 use Rattle.codebook.specs.Book.{Book}
 use Rattle.codebook.specs.Limits.{Valid}
-use Rattle.machine.specs.Queue.{insert, Step}
+use Rattle.queue.specs.Queue.{insert, Step}
 use Rattle.machine.specs.Machine as M
 use Rattle.runs.specs.Runs as MS
 use Rattle.reader.specs.Arrays.{Arrays}

@@ -7,7 +7,7 @@ use Prim.Native.Nat.{ℕ}
 use lib.Dec.{leb, ltb}
 use Rattle.laws.specs.Pairs.{Paired}
 use Rattle.laws.proofs.Pairs.{paired-keep, paired-map}
-use Rattle.machine.specs.Queue.{Key, before, insert, ahead, behind, numbers}
+use Rattle.queue.specs.Queue.{Key, before, insert, ahead, behind, numbers}
 
 module _ {A B : Type 0} (key : A → Key) (key′ : B → Key) (P : A → B → Type 0) (same : (x : A) (y : B) → P x y → key x ≡ key′ y) where
   pub insert-paired : (x : A) (y : B) (xs : List A) (ys : List B) → P x y → Paired P xs ys → Paired P (insert key x xs) (insert key′ y ys)

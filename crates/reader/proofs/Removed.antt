@@ -18,7 +18,7 @@ use Rattle.laws.proofs.Removes.{In, Removes, removes-none, removes-cut, removes
 use Rattle.laws.proofs.Pairs.{paired-all}
 use Rattle.codebook.specs.Book.{Book}
 use Rattle.codebook.specs.Limits.{Valid}
-use Rattle.machine.specs.Queue.{Key, before, insert, ahead, behind, staying, outrunBy, numbers, roomFor, crowdedOut, visit}
+use Rattle.queue.specs.Queue.{Key, before, insert, ahead, behind, staying, outrunBy, numbers, roomFor, crowdedOut, visit}
 use Rattle.machine.specs.Machine as M
 use Rattle.runs.specs.Runs.{Numbered}
 use Rattle.runs.proofs.Order.{all-insert}

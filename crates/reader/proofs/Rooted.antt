@@ -14,7 +14,7 @@ use Rattle.laws.proofs.Tests.{cond-case, lt-or}
 use Rattle.laws.proofs.Lists.{all-take}
 use Rattle.codebook.specs.Book.{Book, startOf, blockAt}
 use Rattle.codebook.specs.Limits.{Valid}
-use Rattle.machine.specs.Queue.{insert, roomFor, visit}
+use Rattle.queue.specs.Queue.{insert, roomFor, visit}
 use Rattle.runs.proofs.Order.{all-insert, all-staying}
 use Rattle.outer.specs.Words.{Word}
 use Rattle.outer.proofs.Blocks.{Placed, placed}

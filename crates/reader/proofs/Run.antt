@@ -19,7 +19,7 @@ use Rattle.polar.proofs.Value.{R-costs}
 use Rattle.codebook.specs.Book.{Book, startOf}
 use Rattle.codebook.specs.Limits.{Valid}
 use Rattle.codec.specs.Code.{freeBits, readData}
-use Rattle.machine.specs.Queue.{Step, Final}
+use Rattle.queue.specs.Queue.{Step, Final}
 use Rattle.machine.specs.Machine as M
 use Rattle.machine.specs.Calls.{finalOf}
 use Rattle.reader.specs.Arrays.{Arrays, View, sumsOf}

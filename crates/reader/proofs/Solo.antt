@@ -18,7 +18,7 @@ use Rattle.laws.proofs.Lists.{all-map, all-both, all-take, all-keep, all-mapped
 use Rattle.polar.specs.Node.{rest, child}
 use Rattle.polar.proofs.Node.{rest-less}
 use Rattle.codebook.specs.Book.{Book, blockAt}
-use Rattle.machine.specs.Queue.{before, insert, ahead, staying, roomFor, visit}
+use Rattle.queue.specs.Queue.{before, insert, ahead, staying, roomFor, visit}
 use Rattle.runs.proofs.Order.{all-insert}
 use Rattle.reader.specs.Arrays.{Arrays, View, valsOf, sumsOf, upd, writes, putVals, putSums, claim, turn, descend}
 use Rattle.outer.specs.Words.{Word}

@@ -21,7 +21,7 @@ use Rattle.polar.proofs.Value.{costs-same, Same}
 use Rattle.polar.proofs.Node.{node-same}
 use Rattle.codebook.specs.Book.{Book, startOf, blockAt}
 use Rattle.codebook.specs.Limits.{Valid}
-use Rattle.machine.specs.Queue.{Key, insert, ahead, behind, staying, outrunBy, numbers, roomFor, crowdedOut, visit, Step}
+use Rattle.queue.specs.Queue.{Key, insert, ahead, behind, staying, outrunBy, numbers, roomFor, crowdedOut, visit, Step}
 use Rattle.machine.specs.Words as MW
 use Rattle.machine.specs.Words.{Ranked, rank}
 use Rattle.machine.specs.Machine as M

@@ -5,7 +5,7 @@ use lib.IntN.{ℤ, pos, negℤ, _-ℤ_}
 use Rattle.polar.specs.Bits.{number}
 use Rattle.polar.specs.Transform.{transform}
 use Rattle.codebook.specs.Book.{Book, startOf, blockAt}
-use Rattle.machine.specs.Queue.{Key}
+use Rattle.queue.specs.Queue.{Key}
 use Rattle.reader.specs.Arrays.{Arrays, View, upd, turn}
 use Rattle.codec.specs.Ties.{Parities, fillBlock}
 use Rattle.outer.specs.Words.{Word}

@@ -7,7 +7,7 @@ use lib.ListN.{length, replicate}
 use lib.Dec.{eqb}
 use Rattle.codebook.specs.Book.{Book, startOf, blockAt}
 use Rattle.codec.specs.Code.{readData}
-use Rattle.machine.specs.Queue.{insert, staying, outrunBy, numbers, roomFor, crowdedOut, visit, Step, Final}
+use Rattle.queue.specs.Queue.{insert, staying, outrunBy, numbers, roomFor, crowdedOut, visit, Step, Final}
 use Rattle.reader.specs.Arrays.{Arrays, View, valsOf, sumsOf, putSums, claim, descend, joined}
 use Rattle.outer.specs.Words.{Word, nearest, nextAfter}
 use Rattle.reader.specs.Paths.{Path, scoreOf, keyOf, firstPath, lastWord, ownWord, place, idsOf, viewOf}

@@ -14,7 +14,7 @@ use Rattle.laws.proofs.Tests.{lt-or}
 use Rattle.codebook.specs.Book.{Book}
 use Rattle.codebook.specs.Limits.{Valid}
 use Rattle.codebook.proofs.Blocks.{start-some}
-use Rattle.machine.specs.Queue.{insert, outrunBy, numbers, crowdedOut, visit}
+use Rattle.queue.specs.Queue.{insert, outrunBy, numbers, crowdedOut, visit}
 use Rattle.runs.proofs.Order.{insert-length, outrun-length}
 use Rattle.outer.specs.Words.{Word}
 use Rattle.reader.specs.Arrays.{Arrays}

@@ -16,7 +16,7 @@ use Rattle.laws.proofs.Lists.{length-snoc, getD-zeros}
 use Rattle.laws.specs.Pairs.{Paired}
 use Rattle.codebook.specs.Book.{Book}
 use Rattle.codebook.specs.Limits.{Valid}
-use Rattle.machine.specs.Queue.{Step, Final}
+use Rattle.queue.specs.Queue.{Step, Final}
 use Rattle.reader.specs.Arrays.{Arrays}
 use Rattle.reader.specs.Paths.{Path, scoreOf, keyOf, firstPath}
 use Rattle.reader.specs.Reader as R

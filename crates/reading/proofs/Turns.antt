@@ -12,7 +12,7 @@ use Rattle.polar.specs.Layers.{part}
 use Rattle.codebook.specs.Book.{Book, blockAt}
 use Rattle.codebook.specs.Limits.{BlockOk, Valid}
 use Rattle.codec.specs.Code.{readData}
-use Rattle.machine.specs.Queue.{Final}
+use Rattle.queue.specs.Queue.{Final}
 use Rattle.machine.specs.Machine as M
 use Rattle.machine.specs.Calls.{finalOf}
 use Rattle.reader.specs.Arrays.{Arrays, sumsOf}

@@ -15,7 +15,7 @@ use borrow.Author.Tests.{eqb-false}
 use Rattle.laws.specs.Lists.{All}
 use Rattle.laws.proofs.Lists.{all-take, getD-zeros}
 use Rattle.codebook.specs.Book.{Book}
-use Rattle.machine.specs.Queue.{insert, ahead, behind, staying, outrunBy, numbers, roomFor, visit, Step}
+use Rattle.queue.specs.Queue.{insert, ahead, behind, staying, outrunBy, numbers, roomFor, visit, Step}
 use Rattle.runs.proofs.Order.{all-insert, all-staying}
 use Rattle.outer.specs.Words.{Word}
 use Rattle.reader.specs.Arrays.{Arrays, View}

@@ -9,7 +9,7 @@ use lib.IntN.{ℤ, pos}
 use lib.ListN.{length, set, drop, length-map}
 use Rattle.laws.specs.Lists.{over, sum}
 use Rattle.laws.proofs.Lists.{over-last}
-use Rattle.machine.specs.Queue.{Key, Step}
+use Rattle.queue.specs.Queue.{Key, Step}
 use Rattle.machine.specs.Calls.{walked}
 
 -- ---- one buffer

@@ -8,7 +8,7 @@ use lib.IntN.{ℤ}
 use Rattle.laws.specs.Lists.{All, sum}
 use Rattle.polar.specs.Layers.{part, overAt, Within}
 use Rattle.codebook.specs.Book.{Book}
-use Rattle.machine.specs.Queue.{Step, Final}
+use Rattle.queue.specs.Queue.{Step, Final}
 use Rattle.reader.specs.Arrays.{Arrays}
 use Rattle.reader.specs.Reader.{Run}
 use Rattle.heights.specs.Workspace.{spot, Id}

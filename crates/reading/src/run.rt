@@ -5,7 +5,7 @@ ghost use Prim.Native.Nat.{ℕ, _+_, _-_, _*_, _^_, _≤_, _<_};
 ghost use lib.IntN.{pos};
 ghost use lib.ListN.{length, getD};
 ghost use Rattle.polar.specs.Layers.{part};
-ghost use Rattle.machine.specs.Queue.{Step};
+ghost use Rattle.queue.specs.Queue.{Step};
 ghost use Rattle.machine.specs.Calls.{walked};
 ghost use Rattle.reader.specs.Arrays.{sumsOf};
 ghost use Rattle.reader.specs.Reader as R;

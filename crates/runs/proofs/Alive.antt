@@ -8,7 +8,7 @@ use lib.ListN.{length, take, length-take}
 use lib.IntN.{ℤ}
 use Rattle.laws.specs.Lists.{All}
 use Rattle.codebook.specs.Book.{Book}
-use Rattle.machine.specs.Queue.{insert, roomFor, visit}
+use Rattle.queue.specs.Queue.{insert, roomFor, visit}
 use Rattle.machine.specs.Machine.{Path, keyOf, copyOf, cut, advance, extract}
 use Rattle.runs.specs.Runs.{stateOf, firstState, statesOf, Ordered, Alive}
 use Rattle.runs.proofs.Order.{insert-length, insert-ordered, take-ordered, staying-ordered, staying-length}

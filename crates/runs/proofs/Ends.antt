@@ -17,7 +17,7 @@ use Rattle.laws.specs.Lists.{All, May, NonEmpty, keep, sum}
 use Rattle.laws.proofs.Tests.{cond-case, neqb→ne}
 use Rattle.laws.proofs.Lists.{all-map, all-set, all-at, all-keep, all-replicate, getD-zeros, sum-bump, sum-le}
 use Rattle.codebook.specs.Book.{Book}
-use Rattle.machine.specs.Queue.{before, insert, ahead, staying, visit, Step}
+use Rattle.queue.specs.Queue.{before, insert, ahead, staying, visit, Step}
 use Rattle.machine.specs.Machine.{Path, keyOf, Run, emptyPath, copyOf, advance, extract, run, runOf, after, stopped}
 use Rattle.runs.specs.Runs.{Ended, entries}
 use Rattle.runs.proofs.Order.{all-insert}

@@ -27,7 +27,7 @@ use Rattle.codec.specs.Record.{readRecord}
 use Rattle.codec.specs.Calls.{holds32, notRead, recordRead}
 use Rattle.machine.specs.declared.Decoded.{Decoded}
 use Rattle.machine.specs.declared.HookDecoded.{HookDecoded}
-use Rattle.machine.specs.Queue.{Step}
+use Rattle.queue.specs.Queue.{Step}
 use Rattle.machine.specs.Machine.{runOf}
 use Rattle.machine.specs.Calls.{Input, Lent, Called, settingsOk, lentOk, valuesOk, barred, countsOf, afterRun, isDone}
 use Rattle.machine.specs.Calls.{plainRan, plainRefused, plainChecked, plainWith, plainCall}

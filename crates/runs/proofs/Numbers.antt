@@ -15,7 +15,7 @@ use Rattle.laws.specs.Lists.{All, May, Distinct, keep}
 use Rattle.laws.proofs.Tests.{cond-case}
 use Rattle.laws.proofs.Lists.{all-map, all-mapped, all-take, all-keep}
 use Rattle.codebook.specs.Book.{Book}
-use Rattle.machine.specs.Queue.{before, insert, ahead, staying, numbers, roomFor}
+use Rattle.queue.specs.Queue.{before, insert, ahead, staying, numbers, roomFor}
 use Rattle.machine.specs.Machine.{Path, State, keyOf, emptyPath, copyOf, cut, advance, extract}
 use Rattle.runs.specs.Runs.{stateOf, firstState, statesOf, Numbered}
 use Rattle.runs.proofs.Order.{all-insert, all-staying}

@@ -14,7 +14,7 @@ use Rattle.laws.specs.Lists.{All, keep}
 use Rattle.laws.proofs.Tests.{cond-case, and-left, and-right, and-in, or-left, or-right, or-case}
 use Rattle.laws.proofs.Lists.{all-map, all-take, all-keep, keep-length}
 use Rattle.laws.proofs.Integers.{ltZ-irrefl, ltZ-trans, ltZ-total}
-use Rattle.machine.specs.Queue.{Key, before, insert, ahead, behind, staying, outrunBy}
+use Rattle.queue.specs.Queue.{Key, before, insert, ahead, behind, staying, outrunBy}
 use Rattle.runs.specs.Runs.{Ordered}
 
 -- ---- the order of keys

@@ -14,7 +14,7 @@ use Rattle.laws.specs.Lists.{All, May}
 use Rattle.laws.proofs.Tests.{cond-case}
 use Rattle.laws.proofs.Lists.{all-take}
 use Rattle.codebook.specs.Book.{Book}
-use Rattle.machine.specs.Queue.{roomFor}
+use Rattle.queue.specs.Queue.{roomFor}
 use Rattle.machine.specs.Choice.{choose, firstOf}
 use Rattle.machine.specs.Words.{Ranked, nearer, nearestWith, nearest}
 use Rattle.machine.specs.Machine.{Path, keyOf, path, copyWith, copyOf, cut, advanceWith, advance, extract}

@@ -21,7 +21,7 @@ use Rattle.codec.specs.Record.{readRecord}
 use Rattle.machine.specs.declared.Counts.{Counts}
 use Rattle.machine.specs.declared.Decoded.{Decoded}
 use Rattle.machine.specs.declared.HookDecoded.{HookDecoded}
-use Rattle.machine.specs.Queue.{Final}
+use Rattle.queue.specs.Queue.{Final}
 use Rattle.machine.specs.Machine.{runOf}
 use Rattle.codec.specs.Calls.{holds32}
 use Rattle.machine.specs.Calls.{Input, Lent, barred, finalOf}

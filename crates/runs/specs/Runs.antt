@@ -12,7 +12,7 @@ use Rattle.polar.specs.Bits.{Bit}
 use Rattle.polar.specs.Soft.{discrepancy}
 use Rattle.codebook.specs.Book.{Book}
 use Rattle.codec.specs.Code.{inCode, readData}
-use Rattle.machine.specs.Queue.{Key, before, numbers, Step, Final}
+use Rattle.queue.specs.Queue.{Key, before, numbers, Step, Final}
 use Rattle.machine.specs.Machine.{Path, State, Run, keyOf, emptyPath, extract}
 
 -- ---- the states before the extractions

@@ -8,7 +8,7 @@ use native.Mathlib.Omega.{arith}
 use lib.IntN.{ℤ, pos}
 use lib.ListN.{length, set, getD, drop, take, length-set, length-map, List·getD-append, List·getD-map}
 use lib.Seq.{paste, paste-zero, paste-suc, take-length}
-use Rattle.machine.specs.Queue.{Step}
+use Rattle.queue.specs.Queue.{Step}
 use Rattle.machine.specs.Calls.{walked}
 use Rattle.screen.specs.declared.StepRecord.{StepRecord}
 use Rattle.screen.specs.Records.{recordOf, blank, nthRecord, recorded, recordAt, copied}

@@ -14,7 +14,7 @@ use Rattle.codebook.specs.declared.Refusal.{Refusal}
 use Rattle.codebook.specs.Book.{Book}
 use Rattle.codebook.specs.Loading.{Load, refused, loaded, load}
 use Rattle.machine.specs.declared.Counts.{Counts}
-use Rattle.machine.specs.Queue.{Step}
+use Rattle.queue.specs.Queue.{Step}
 use Rattle.machine.specs.Calls.{Input, Lent, settingsOk, walkNeeded, barred, countsOf, noCounts, walked, afterRun}
 use Rattle.runs.proofs.Ends.{run-steps}
 use Rattle.checks.proofs.Fitting.{settings-tell, settings-fit}

@@ -12,7 +12,7 @@ use lib.ListN.{length, getD, drop, take, length-map, List·getD-eq-default}
 use lib.Seq.{getD-take, getD-drop}
 use borrow.Author.Tests.{ltb-true, ltb-false, lt-ltb, le-ltb}
 use Rattle.machine.specs.declared.Decoded.{Decoded}
-use Rattle.machine.specs.Queue.{Step}
+use Rattle.queue.specs.Queue.{Step}
 use Rattle.machine.specs.Calls.{Input, Lent, plainCall}
 use Rattle.attempts.specs.Attempt.{fitsFor}
 use Rattle.decoder.specs.WholeRun.{WholeRun}

@@ -3,7 +3,7 @@ use mathlib.Core.List.{List, _++_, map}
 use Prim.Native.Nat.{ℕ, zero, suc}
 use lib.ListN.{length, set, getD, drop}
 use lib.IntN.{ℤ, pos}
-use Rattle.machine.specs.Queue.{Step}
+use Rattle.queue.specs.Queue.{Step}
 use Rattle.screen.specs.declared.StepRecord.{StepRecord}
 
 -- the record of one extraction

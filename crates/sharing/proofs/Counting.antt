@@ -10,7 +10,7 @@ use lib.Dec.{eqb}
 use lib.Seq.{getD-set-same, getD-set-other}
 use borrow.Author.Tests.{eqb-true, eqb-false}
 use Rattle.codec.specs.Ties.{times}
-use Rattle.machine.specs.Queue.{Key, before, insert}
+use Rattle.queue.specs.Queue.{Key, before, insert}
 use Rattle.reader.specs.Arrays.{upd}
 use Rattle.reader.proofs.Upd.{upd-same, upd-other}
 use Rattle.sharing.specs.Sharing.{idAt, heldAt, one, MoreBy, LessBy, Exchanged, HasIds, Counted}

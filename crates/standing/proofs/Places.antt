@@ -11,7 +11,7 @@ use Rattle.laws.specs.Lists.{All, Distinct}
 use Rattle.laws.specs.Pairs.{Paired}
 use Rattle.codebook.specs.Book.{Book}
 use Rattle.codec.specs.Ties.{times}
-use Rattle.machine.specs.Queue.{Key, before, insert}
+use Rattle.queue.specs.Queue.{Key, before, insert}
 use Rattle.runs.proofs.Order.{all-insert, insert-length}
 use Rattle.reader.specs.Arrays.{Arrays}
 use Rattle.reader.specs.Paths.{Path, keyOf, idsOf}

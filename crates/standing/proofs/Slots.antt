@@ -5,7 +5,7 @@ use mathlib.Core.List.{List, [], _∷_, _++_, map}
 use mathlib.Core.Logic.{_≢_}
 use Rattle.laws.specs.Lists.{All, Distinct}
 use Rattle.laws.proofs.Tests.{cond-case}
-use Rattle.machine.specs.Queue.{Key, before, insert}
+use Rattle.queue.specs.Queue.{Key, before, insert}
 
 module _ {A : Type 0} where
   pub all-forward : (P : A → Type 0) (xs : List A) (x : A) (ys : List A) → All P (xs ++ x ∷ ys) → All P (x ∷ xs ++ ys)

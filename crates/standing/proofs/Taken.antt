@@ -4,7 +4,7 @@ use mathlib.Core.List.{List, _∷_}
 use Prim.Native.Nat.{ℕ}
 use Rattle.laws.specs.Pairs.{Paired}
 use Rattle.codebook.specs.Book.{Book}
-use Rattle.machine.specs.Queue.{Key}
+use Rattle.queue.specs.Queue.{Key}
 use Rattle.reader.specs.Arrays.{Arrays}
 use Rattle.reader.specs.Paths.{Path, keyOf}
 use Rattle.order.specs.Entries.{keyAt, slotAt}

@@ -7,7 +7,7 @@ use native.Mathlib.Omega.{arith}
 use lib.ListN.{length, getD, take}
 use lib.Seq.{take-all, take-at}
 use Rattle.codebook.specs.Book.{Book}
-use Rattle.machine.specs.Queue.{roomFor}
+use Rattle.queue.specs.Queue.{roomFor}
 use Rattle.reader.specs.Arrays.{Arrays}
 use Rattle.reader.specs.Paths.{Path}
 use Rattle.order.specs.Entries.{slotAt, queueOf}

@@ -19,7 +19,7 @@ use Rattle.codebook.specs.Book.{Book, startOf, blockAt}
 use Rattle.codebook.specs.Book as K
 use Rattle.laws.specs.Lists.{All, Distinct}
 use Rattle.laws.proofs.Lists.{all-front}
-use Rattle.machine.specs.Queue.{roomFor, insert}
+use Rattle.queue.specs.Queue.{roomFor, insert}
 use Rattle.outer.specs.declared.Candidate.{Candidate}
 use Rattle.outer.specs.declared.Next.{Next}
 use Rattle.outer.specs.Words.{Word, nextAfter}

@@ -15,7 +15,7 @@ use Rattle.laws.specs.Pairs.{Paired}
 use Rattle.laws.proofs.Pairs.{paired-take}
 use Rattle.polar.specs.Layers.{part, Within}
 use Rattle.codebook.specs.Book.{Book, blockAt}
-use Rattle.machine.specs.Queue.{numbers, roomFor, crowdedOut}
+use Rattle.queue.specs.Queue.{numbers, roomFor, crowdedOut}
 use Rattle.runs.proofs.Order.{insert-length}
 use Rattle.outer.specs.declared.Candidate.{Candidate}
 use Rattle.outer.specs.declared.Next.{Next}

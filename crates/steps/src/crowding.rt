@@ -4,7 +4,7 @@ ghost use mathlib.Core.List.{List, _∷_};
 ghost use Prim.Native.Nat.{ℕ, _+_, _-_, _≤_};
 ghost use lib.IntN.{ℤ};
 ghost use lib.ListN.{length};
-ghost use Rattle.machine.specs.Queue.{roomFor};
+ghost use Rattle.queue.specs.Queue.{roomFor};
 ghost use Rattle.order.specs.Entries.{queueOf, Rising};
 ghost use Rattle.sharing.specs.Sharing.{Held, Rows};
 ghost use Rattle.standing.specs.Seen.{memory};

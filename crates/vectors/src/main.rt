@@ -1,18 +1,18 @@
 // Replays recorded cases of every call but load: reads a stream of operations on standard input (reference/README.md has its format) and prints what
-// each case answers and leaves in the lent buffers. The output is held to what the independent reference printed. Relies on the crates codec, decoder
+// each case answers and leaves in the lent buffers. The output is held to what the independent reference printed. Relies on the crates coding, decoder
 // and text.
 mod answers;
 mod buffers;
-mod coding;
+mod codewords;
 mod decoding;
 mod lines;
 mod records;
 mod stream;
 
 use crate::buffers::lend_bytes;
-use crate::coding::encode_case;
-use crate::coding::read_case;
-use crate::coding::test_case;
+use crate::codewords::encode_case;
+use crate::codewords::read_case;
+use crate::codewords::test_case;
 use crate::decoding::decode_case;
 use crate::records::make_case;
 use crate::records::record_case;

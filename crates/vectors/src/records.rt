@@ -1,4 +1,4 @@
-// The cases of making and reading a record. Each reads its fields from the stream. Relies on stream.rt, buffers.rt, lines.rt and the crate codec.
+// The cases of making and reading a record. Each reads its fields from the stream. Relies on stream.rt, buffers.rt, lines.rt and the crates coding and hooks.
 use crate::buffers::fill_bytes;
 use crate::buffers::lend_bytes;
 use crate::buffers::sum_bytes;
@@ -13,7 +13,7 @@ use crate::stream::two;
 use codebook::outcome_number;
 use codec::HookRecord;
 use codec::Status;
-use codec::status_number;
+use hooks::status_number;
 
 // The status with this number; the stream has none above 4.
 fn status_of(number: u32) -> Status {
@@ -29,7 +29,7 @@ fn status_of(number: u32) -> Status {
 // N make A DATA, the checksum of data
 fn make_into(case: u64, book: &[u8], h: HookRecord, data: &mut [u8]) {
     fill_bytes(data);
-    let answer = outcome_number(codec::make_record(book, h, data));
+    let answer = outcome_number(coding::make_record(book, h, data));
     begin(case, b" make");
     print_number(answer as u64);
     print_bits(answer, data);
@@ -63,7 +63,7 @@ pub fn print_record(h: HookRecord) {
 
 // N record A plant carcass side status, the checksum of data
 fn record_of(case: u64, book: &[u8], data: &[u8]) {
-    let r = codec::read_record(book, data);
+    let r = coding::read_record(book, data);
     let outcome = r.outcome;
     let hook = r.hook;
     begin(case, b" record");

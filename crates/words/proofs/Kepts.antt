@@ -20,7 +20,7 @@ use Rattle.laws.proofs.Lists.{all-unmapped}
 use Rattle.laws.proofs.Pairs.{paired-with}
 use Rattle.codebook.specs.Book.{Book, freeCount, blockAt, kindsOf}
 use Rattle.codec.specs.Ties.{Parities}
-use Rattle.machine.specs.Queue.{insert, ahead, staying}
+use Rattle.queue.specs.Queue.{insert, ahead, staying}
 use Rattle.outer.specs.declared.Candidate.{Candidate}
 use Rattle.outer.specs.Words.{Word, nextAfter}
 use Rattle.outer.specs.Blocks.{candidateOf}

@@ -2,7 +2,7 @@
 use mathlib.Core.Path.{sym, ap}
 use native.Mathlib.Omega.{arith}
 use Rattle.codec.specs.Record.{statusOf}
-use Rattle.codec.proofs.Parts.{status-none}
+use Rattle.hooks.proofs.Parts.{status-none}
 use Rattle.capi.specs.Answers.{recordFrom}
 use Rattle.capi.proofs.record_from.Statement.{statement}
 use Rattle.capi.proofs.record_from.Tie as tie

@@ -1,7 +1,7 @@
 -- `slices::mismatch_number` meets its contract: by loading's outcome and the check of the settings. Assumes nothing.
 use mathlib.Core.Path.{sym, _∙_}
 use mathlib.Core.List.{[]}
-use Rattle.codec.proofs.Told.{shape-refused, shape-known}
+use Rattle.coding.proofs.Told.{shape-refused, shape-known}
 use Rattle.checks.proofs.Admitted.{none-made, these-made}
 use Rattle.checks.proofs.Fitting.{settings-fit}
 use Rattle.machine.specs.Calls.{given}

@@ -6,7 +6,7 @@ use native.Mathlib.Numerals.{add-one}
 use native.Mathlib.Omega.{arith}
 use borrow.Author.Needs.{needs}
 use lib.ListN.{length, getD, set}
-use Rattle.machine.specs.Queue.{ahead, visit}
+use Rattle.queue.specs.Queue.{ahead, visit}
 use Rattle.runs.proofs.Ends.{visit-same}
 use Rattle.reader.specs.Paths.{keyOf}
 use Rattle.order.specs.Entries.{keyAt, queueOf}

@@ -9,7 +9,7 @@ use lib.IntN.{ℤ, pos}
 use lib.ListN.{length, length-replicate}
 use borrow.Author.Needs.{needs}
 use Rattle.codebook.specs.Progress.{tables}
-use Rattle.codec.proofs.Told.{Known, known-small, sizes-refused, sizes-known}
+use Rattle.coding.proofs.Told.{Known, known-small, sizes-refused, sizes-known}
 use Rattle.machine.specs.Calls.{Input, Lent, given, lent, barred}
 use Rattle.machine.specs.Machine.{runOf}
 use Rattle.attempts.specs.Attempt.{fitsFor, Ready}

@@ -14,7 +14,7 @@ use Rattle.polar.specs.Transform.{transform}
 use Rattle.polar.specs.Layers.{part}
 use Rattle.codebook.specs.Book.{freeCount}
 use Rattle.codec.specs.Code.{freeBits, readData}
-use Rattle.codec.proofs.Told.{zeros-part}
+use Rattle.coding.proofs.Told.{zeros-part}
 use Rattle.machine.specs.Machine as M
 use Rattle.attempts.specs.Attempt.{Ready}
 use Rattle.attempts.proofs.Judged.{lent-length, written-part, part-cleared, ready-small, ready-free, ready-size, ready-running, numbers-room, bytes-room, found, exact, above, within}

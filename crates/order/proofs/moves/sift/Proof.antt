@@ -4,7 +4,7 @@ use mathlib.Core.Path.{_≡_, ap, _∙_}
 use mathlib.Core.Logic.{⊎-elim}
 use Prim.Native.Nat.{_-_, _≤_}
 use native.Mathlib.Omega.{arith}
-use Rattle.machine.specs.Queue.{ahead}
+use Rattle.queue.specs.Queue.{ahead}
 use Rattle.order.specs.Entries.{keyAt, queueOf}
 use Rattle.order.proofs.Queues.{Sifted, sifted-none, sifted-in, sifted-out, sifted-rising}
 use Rattle.order.proofs.moves.sift.Statement.{statement}

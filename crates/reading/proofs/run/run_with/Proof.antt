@@ -9,7 +9,7 @@ use Prim.Native.Nat.{ℕ, _+_, _-_, _*_, _≤_, _<_}
 use native.Mathlib.Omega.{arith}
 use lib.IntN.{ℤ, pos}
 use lib.ListN.{length, getD, replicate, length-set, length-replicate}
-use Rattle.machine.specs.Queue.{Step, Final}
+use Rattle.queue.specs.Queue.{Step, Final}
 use Rattle.machine.specs.Calls.{walked}
 use Rattle.outer.specs.Search.{Scratch}
 use Rattle.reader.specs.Arrays.{Arrays}

@@ -9,7 +9,7 @@ use native.Mathlib.Omega.{arith}
 use borrow.Author.Needs.{needs}
 use lib.ListN.{length, getD}
 use borrow.Author.Tests.{not-true, not-false}
-use Rattle.machine.specs.Queue.{roomFor}
+use Rattle.queue.specs.Queue.{roomFor}
 use Rattle.reader.specs.Reader as R
 use Rattle.order.specs.Entries.{slotAt, queueOf, Rising}
 use Rattle.order.proofs.Queues.{queue-first, queue-length}

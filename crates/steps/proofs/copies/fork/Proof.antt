@@ -10,7 +10,7 @@ use lib.ListN.{getD}
 use lib.IntN.{ℤ, pos, negℤ, natAbs, _-ℤ_}
 use mir.Facts.{toZ-ofZ}
 use Rattle.laws.proofs.Signed.{back, abs-fits}
-use Rattle.machine.specs.Queue.{Key}
+use Rattle.queue.specs.Queue.{Key}
 use Rattle.reader.specs.Paths.{keyOf}
 use Rattle.order.specs.Entries.{slotAt, Packed, queueOf}
 use Rattle.sharing.specs.Sharing.{Rows, HasRow, Copied, MoreBy}

@@ -7,7 +7,7 @@ use native.Mathlib.Omega.{arith}
 use borrow.Author.Needs.{needs}
 use lib.ListN.{length, set, length-set}
 use lib.Seq.{length-take-le}
-use Rattle.machine.specs.Queue.{roomFor}
+use Rattle.queue.specs.Queue.{roomFor}
 use Rattle.order.specs.Entries.{queueOf}
 use Rattle.order.proofs.Queues.{queue-length, queue-put}
 use Rattle.standing.specs.Seen.{memory}
