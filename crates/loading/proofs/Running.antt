@@ -33,7 +33,7 @@ use Rattle.codebook.specs.Progress.{readAt, byteOf, isEnd, verdict, Sized, Hold
 use Rattle.codebook.proofs.Fuel.{fuel-enough}
 use Rattle.codebook.proofs.Blocks.{start-some}
 use Rattle.codebook.proofs.Loaded.{total-begun}
-use Rattle.loading.proofs.Growing.{counts-none}
+use Rattle.obeying.proofs.Growing.{counts-none}
 
 -- ---- commands and their bytes
 

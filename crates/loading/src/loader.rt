@@ -1,7 +1,5 @@
-// A code book is loaded: its bytes are read once, command by command, and the first faulty one decides. Relies on commands.rt and obeying.rt;
-// codebook/specs/Loading says what loading is, codebook/specs/Tables what the tables hold.
-use crate::commands::read_command;
-use crate::obeying::obey;
+// A code book is loaded: its bytes are read once, command by command, and the first faulty one decides. Relies on the crates commands, obeying and
+// codebook; codebook/specs/Loading says what loading is, codebook/specs/Tables what the tables hold.
 use codebook::Outcome;
 use codebook::Progress;
 use codebook::Read;
@@ -9,6 +7,8 @@ use codebook::Refusal;
 use codebook::Shape;
 use codebook::Sizes;
 use codebook::Step;
+use commands::read_command;
+use obeying::obey;
 ghost use mathlib.Core.Path.{_≡_};
 ghost use mathlib.Core.Bool.{cond};
 ghost use Prim.Native.Nat.{_<_};

@@ -1,0 +1,4 @@
+pub mod Range
+pub mod Over
+pub mod Growing
+pub mod Verdicts
