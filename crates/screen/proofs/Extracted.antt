@@ -21,7 +21,8 @@ use Rattle.checks.proofs.Fitting.{settings-tell, settings-fit}
 use Rattle.attempts.specs.Attempt.{fitsFor, Attempted, ranOf, answerOf, noRun, unbarred, attemptWith, attempted}
 use Rattle.attempts.proofs.Unbarred.{nothing-bars}
 use Rattle.decoder.proofs.Whole.{Left}
-use Rattle.screen.specs.Screen.{stepsUnbarred, stepsWith, stepsOf, fewWith, few, Fitting}
+use Rattle.room.specs.Room.{fewWith, few}
+use Rattle.screen.specs.Screen.{stepsUnbarred, stepsWith, stepsOf, Fitting}
 
 -- so many extractions are counted, and the walk's buffers hold these
 pub record Extracted (steps : List Step) (l : Lent) (count : ℕ) (after : Lent) : Type 0 where

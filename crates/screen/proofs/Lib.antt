@@ -1,5 +1,3 @@
-pub mod Copied
-pub mod Few
 pub mod Extracted
 pub mod Shown
 pub mod Stepped

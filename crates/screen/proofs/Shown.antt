@@ -22,10 +22,11 @@ use Rattle.attempts.specs.Attempt.{fitsFor}
 use Rattle.decoder.specs.WholeRun.{machineRun, WholeRun}
 use Rattle.decoder.proofs.Handing.{plainOf, hookOfAttempt, handed, plain-handed, hook-handed}
 use Rattle.decoder.proofs.Whole.{Left, whole-run}
-use Rattle.screen.specs.declared.StepRecord.{StepRecord}
-use Rattle.screen.specs.Records.{recorded, copied}
-use Rattle.screen.specs.Screen.{stepsUnbarred, stepsWith, stepsOf, few, plainWithin, hookWithin, Fitting, recordsAfter, WholeScreen}
-use Rattle.screen.proofs.Copied.{copied-recorded}
+use Rattle.room.specs.Room.{few}
+use Rattle.steprecords.specs.declared.StepRecord.{StepRecord}
+use Rattle.steprecords.specs.Records.{recorded, copied}
+use Rattle.screen.specs.Screen.{stepsUnbarred, stepsWith, stepsOf, plainWithin, hookWithin, Fitting, recordsAfter, WholeScreen}
+use Rattle.steprecords.proofs.Copied.{copied-recorded}
 use Rattle.screen.proofs.Extracted.{left-extracted, left-fits}
 
 -- ---- what the covered call leaves: nothing is done where the records are too few, else what the attempt does

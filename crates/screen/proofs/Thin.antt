@@ -42,14 +42,14 @@ use denote.Signature.{plain}
 use Rattle.machine.specs.declared.Counts.{Counts}
 use Rattle.machine.specs.Calls.{Input, Lent, given, lent}
 use Rattle.machine.proofs.Counts.Laws as C′
-use Rattle.screen.specs.declared.StepRecord.{StepRecord}
-use Rattle.screen.specs.Records.{copied}
+use Rattle.steprecords.specs.declared.StepRecord.{StepRecord}
+use Rattle.steprecords.specs.Records.{copied}
 use Rattle.screen.specs.Screen.{Fitting}
-use Rattle.screen.proofs.StepRecord as T
-use Rattle.screen.proofs.StepRecord.Laws as T′
+use Rattle.steprecords.proofs.StepRecord as T
+use Rattle.steprecords.proofs.StepRecord.Laws as T′
 use Rattle.screen.proofs.Lent.{relends, back-shared, under}
-use Rattle.screen.proofs.records.copy_steps as copies
-use Rattle.screen.proofs.records.copy_steps.Symbol.{name as #copy-steps}
+use Rattle.steprecords.proofs.copy_steps as copies
+use Rattle.steprecords.proofs.copy_steps.Symbol.{name as #copy-steps}
 
 -- ---- the code
 

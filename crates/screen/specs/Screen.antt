@@ -2,12 +2,11 @@
 -- call takes the walk as a lent slice of step records". At least L x V + 1 records, else 7 in 7's place. And the plain call with one record of its walk, in
 -- plain parameters. Assumes nothing.
 use mathlib.Core.Path.{_≡_}
-use mathlib.Core.Bool.{Bool, false, cond, _&&_}
+use mathlib.Core.Bool.{Bool, false, cond}
 use mathlib.Core.List.{List, []}
 use mathlib.Core.Option.{Option, none, some}
 use Prim.Native.Nat.{ℕ, _≤_}
 use lib.ListN.{length}
-use lib.Dec.{ltb}
 use Rattle.codebook.specs.declared.Refusal.{Refusal}
 use Rattle.codebook.specs.declared.Refusal.the-variants.{Mismatch}
 use Rattle.codebook.specs.Book.{Book}
@@ -17,12 +16,13 @@ use Rattle.machine.specs.declared.Decoded.{Decoded}
 use Rattle.machine.specs.declared.HookDecoded.{HookDecoded}
 use Rattle.queue.specs.Queue.{Step}
 use Rattle.machine.specs.Machine.{runOf}
-use Rattle.machine.specs.Calls.{Input, Lent, Called, settingsOk, walkNeeded, barred, plainCall, plainRefused, hookCall, hookRefused}
+use Rattle.machine.specs.Calls.{Input, Lent, Called, barred, plainCall, plainRefused, hookCall, hookRefused}
 use Rattle.attempts.specs.Attempt.{fitsFor}
 use Rattle.decoder.specs.WholeRun.{readerRun, Agreed}
-use Rattle.screen.specs.declared.StepRecord.{StepRecord}
+use Rattle.room.specs.Room.{few}
+use Rattle.steprecords.specs.declared.StepRecord.{StepRecord}
+use Rattle.steprecords.specs.Records.{nthRecord, recorded}
 use Rattle.screen.specs.declared.step.StepDecoded.{StepDecoded}
-use Rattle.screen.specs.Records.{nthRecord, recorded}
 
 -- ---- the records of a run
 
@@ -41,15 +41,6 @@ unfoldable pub stepsOf : Bool → Input → Lent → List Step
 stepsOf hook c l = stepsWith hook (load (c .book)) c l
 
 -- ---- the calls
-
--- whether so many records are too few, by what loading comes to
-unfoldable pub fewWith : Load → Input → ℕ → Bool
-fewWith (refused r) c room = false
-fewWith (loaded B) c room = settingsOk c && ltb room (walkNeeded B c)
-
--- whether so many records are too few, where neither the book nor a setting is at fault before
-unfoldable pub few : Input → ℕ → Bool
-few c room = fewWith (load (c .book)) c room
 
 -- the plain call with room for so many records: 7 where they are too few, else the call
 unfoldable pub plainWithin : Input → Lent → ℕ → Called Decoded

@@ -1,11 +1,11 @@
-// The screen's calls: the walk goes to the number buffers and to a lent slice of step records. Relies on within.rt and records.rt; specs/Screen.antt says what
-// each call answers and leaves.
-use crate::StepRecord;
-use crate::records::copy_steps;
+// The screen's calls: the walk goes to the number buffers and to a lent slice of step records. Relies on within.rt and the crate steprecords; specs/Screen.antt
+// says what each call answers and leaves.
 use crate::within::decode_hook_within;
 use crate::within::decode_within;
 use machine::Decoded;
 use machine::HookDecoded;
+use steprecords::StepRecord;
+use steprecords::copy_steps;
 ghost use mathlib.Core.Path.{_≡_};
 ghost use mathlib.Core.Bool.{true, false};
 ghost use lib.ListN.{length};

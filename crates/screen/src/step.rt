@@ -1,17 +1,12 @@
-// The plain decoding call with one record of its walk, in plain parameters: no slice of structs. Relies on records.rt and the crate decoder; specs/Screen.antt
-// says what it answers and leaves.
-use crate::StepRecord;
-use crate::records::first_record;
+// The plain decoding call with one record of its walk, in plain parameters: no slice of structs. Relies on the crates steprecords and decoder;
+// specs/Screen.antt says what it answers and leaves.
 use codebook::Outcome;
 use decoder::decode;
 use machine::Counts;
+use steprecords::StepRecord;
+use steprecords::record_at;
 ghost use mathlib.Core.Path.{_≡_};
-ghost use mathlib.Core.Bool.{cond};
-ghost use Prim.Native.Nat.{_≤_};
-ghost use lib.Dec.{ltb};
-ghost use lib.ListN.{length};
 ghost use Rattle.machine.specs.Calls.{given, lent};
-ghost use Rattle.screen.specs.Records.{blank, recordAt};
 ghost use Rattle.screen.specs.Screen.{plainStep, WholeStep};
 
 // What the plain decoding call answers (machine's Decoded), and one record.
@@ -19,22 +14,6 @@ pub struct StepDecoded {
     pub outcome: Outcome,
     pub counts: Counts,
     pub step: StepRecord,
-}
-
-// Entry i of the first n of the walk's buffers as a record, zeros where i is n or more.
-fn record_at(paths: &[i32], blocks: &[i32], scores: &[i32], n: usize, i: usize) -> StepRecord
-    requires { ⌜ (n ≤ length (now paths)) × (n ≤ length (now blocks)) × (n ≤ length (now scores)) ⌝ }
-    ensures { λ r. ⌜ r ≡ cond (ltb i n) (recordAt (now (paths .entry)) (now (blocks .entry)) (now (scores .entry)) i) blank ⌝ }
-{
-    if i < n {
-        let end = i + 1;
-        return first_record(&paths[i..end], &blocks[i..end], &scores[i..end]);
-    }
-    StepRecord {
-        path: 0,
-        blocks: 0,
-        score: 0,
-    }
 }
 
 // The plain decoding call, and the record of extraction i, counted from 0: zeros where the call made no such extraction.

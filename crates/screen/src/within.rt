@@ -1,36 +1,17 @@
-// The decoding calls with room for so many step records: 7 in 7's place where they are too few. Relies on the crates codebook, checks and decoder.
-use checks::Checked;
-use checks::Settings;
+// The decoding calls with room for so many step records: 7 in 7's place where they are too few. Relies on the crates codebook, codec, room and decoder.
 use codebook::Outcome;
 use codebook::Refusal;
 use codec::HookRecord;
 use codec::Status;
 use decoder::decode;
 use decoder::decode_hook;
-use loading::load;
 use machine::Counts;
 use machine::Decoded;
 use machine::HookDecoded;
+use room::few;
 ghost use mathlib.Core.Path.{_≡_};
-ghost use mathlib.Core.List.{[]};
 ghost use Rattle.machine.specs.Calls.{given, lent, noCounts};
-ghost use Rattle.screen.specs.Screen.{few, plainWithin, hookWithin, Fitting};
-
-// Whether so many records are too few, where neither the book nor a setting is at fault before.
-fn few(book: &[u8], visits: u32, paths: u32, limit: u32, room: usize) -> bool
-    ensures { λ r. ⌜ r ≡ few (given (now (book .entry)) visits paths limit []) room ⌝ }
-{
-    let x = load(book);
-    let outcome = x.outcome;
-    if let Outcome::Refused(r) = outcome {
-        return false;
-    }
-    let checked = Settings::checked(visits, paths, limit);
-    if let Checked::Bad(r) = checked {
-        return false;
-    }
-    room < visits as usize * x.blocks as usize + 1
-}
+ghost use Rattle.screen.specs.Screen.{plainWithin, hookWithin, Fitting};
 
 // The counts of a call that makes no run.
 fn no_counts() -> Counts

@@ -22,10 +22,10 @@ use Rattle.screen.proofs.within.decode_within as within
 use Rattle.screen.proofs.within.decode_within.Symbol as within-def
 use Rattle.screen.proofs.within.decode_within.Symbol.{name as #within}
 use Rattle.screen.proofs.within.decode_within.Met as within-thm
-use Rattle.screen.proofs.records.copy_steps as copies
-use Rattle.screen.proofs.records.copy_steps.Symbol as copies-def
-use Rattle.screen.proofs.records.copy_steps.Symbol.{name as #copy-steps}
-use Rattle.screen.proofs.records.copy_steps.Met as copies-thm
+use Rattle.steprecords.proofs.copy_steps as copies
+use Rattle.steprecords.proofs.copy_steps.Symbol as copies-def
+use Rattle.steprecords.proofs.copy_steps.Symbol.{name as #copy-steps}
+use Rattle.steprecords.proofs.copy_steps.Met as copies-thm
 use Rattle.screen.proofs.call.decode_steps.Key.{name as #decode-steps}
 use Rattle.screen.proofs.call.decode_steps as f
 use Rattle.screen.proofs.call.decode_steps.Statement as stated
@@ -55,4 +55,4 @@ decode-steps-spec 𝓤 H 𝓜 𝓖 𝓡 =
     (thin-meets N.the-row answered (λ c l room. Leaves counts (plainWithin c l room) room) (λ c l old. Says false c l counts (plainWithin c l (length old)) old) (λ c l room r after h. h .2) plain-says
     𝓤 H (𝓖 .A) (givenOf 𝓤 H 𝓜 𝓖) (𝓜 .mem) (𝓡 .run) (tablesOf 𝓤 H 𝓜 (tables 𝓤 H 𝓜 𝓡 code.env)) #within
     (cited 𝓤 H (tripleOf 𝓤 H (𝓖 .A) within.signature (within.spec 𝓤 H (𝓖 .A) (𝓜 .mem) (𝓡 .run))) 𝓜 𝓡 code.env #within within-def.routine code.calls-screen·within·decode-within (within-thm.met 𝓤 H 𝓜 𝓖 𝓡))
-    (cited 𝓤 H (tripleOf 𝓤 H (𝓖 .A) copies.signature (copies.spec 𝓤 H (𝓖 .A) (𝓜 .mem) (𝓡 .run))) 𝓜 𝓡 code.env #copy-steps copies-def.routine code.calls-screen·records·copy-steps (copies-thm.met 𝓤 H 𝓜 𝓖 𝓡)))
+    (cited 𝓤 H (tripleOf 𝓤 H (𝓖 .A) copies.signature (copies.spec 𝓤 H (𝓖 .A) (𝓜 .mem) (𝓡 .run))) 𝓜 𝓡 code.env #copy-steps copies-def.routine code.calls-steprecords·copy-steps (copies-thm.met 𝓤 H 𝓜 𝓖 𝓡)))

@@ -1,4 +1,4 @@
--- `screen::within::few` meets its contract: by the outcomes of loading and of the check of the settings; else the room is compared. Assumes nothing.
+-- `room::few` meets its contract: by the outcomes of loading and of the check of the settings; else the room is compared. Assumes nothing.
 use mathlib.Core.Path.{_≡_, sym, _∙_}
 use mathlib.Core.Bool.{true}
 use mathlib.Core.List.{[]}
@@ -9,9 +9,9 @@ use borrow.Author.Needs.{needs}
 use Rattle.machine.specs.Calls.{Input, given}
 use Rattle.checks.specs.Checks.{settingsFit}
 use Rattle.checks.proofs.Admitted.{none-made, these-made, in-ranges}
-use Rattle.screen.proofs.Few.{few-refused, few-unset, few-told}
-use Rattle.screen.proofs.within.few.Statement.{statement}
-use Rattle.screen.proofs.within.few.Tie as tie
+use Rattle.room.proofs.Told.{few-refused, few-unset, few-told}
+use Rattle.room.proofs.few.Statement.{statement}
+use Rattle.room.proofs.few.Tie as tie
 
 -- what is given, from where the book is loaded
 abbrev call : tie.After-load → Input

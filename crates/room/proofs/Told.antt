@@ -12,7 +12,7 @@ use Rattle.codebook.specs.declared.Shape.{Shape}
 use Rattle.codebook.specs.Loading.{Load, refused, loaded, load, shapeOf}
 use Rattle.machine.specs.Calls.{Input, given, settingsOk, walkNeeded}
 use Rattle.checks.specs.Checks.{settingsFit}
-use Rattle.screen.specs.Screen.{fewWith, few}
+use Rattle.room.specs.Room.{fewWith, few}
 
 -- the values are not looked at
 pub few-any : (book : List ℕ) (L D limit : ℕ) (ys zs : List ℤ) (room : ℕ) → few (given book L D limit ys) room ≡ few (given book L D limit zs) room

@@ -1,8 +1,8 @@
--- `screen::step::record_at` meets its contract: the first entry of the parts from i on is entry i, and past n it is zeros. Assumes nothing.
+-- `steprecords::record_at` meets its contract: the first entry of the parts from i on is entry i, and past n it is zeros. Assumes nothing.
 use borrow.Author.Needs.{needs}
-use Rattle.screen.proofs.Stepped.{entry-made, none-made}
-use Rattle.screen.proofs.step.record_at.Statement.{statement}
-use Rattle.screen.proofs.step.record_at.Tie as tie
+use Rattle.steprecords.proofs.Entries.{entry-made, none-made}
+use Rattle.steprecords.proofs.record_at.Statement.{statement}
+use Rattle.steprecords.proofs.record_at.Tie as tie
 
 add-end : tie.Need-add-end
 add-end c = search needs

@@ -1,4 +1,4 @@
--- `screen::records::first_record` meets its contract: a walk of its MIR, by hand. A local array of one record is lent to `copy_steps` as a slice for a lifetime of the call, comes
+-- `steprecords::first_record` meets its contract: a walk of its MIR, by hand. A local array of one record is lent to `copy_steps` as a slice for a lifetime of the call, comes
 -- back, and its record is read. Assumes nothing.
 use mathlib.Core.Path.{_≡_, refl, sym, ap, subst}
 use Prim.Native.Nat.{ℕ, _≤_}
@@ -48,18 +48,18 @@ use denote.Triple.Table.{entered, cited}
 use denote.Triple.Walked.{says, needs, Stays, stay-none-slice, walkOf, AllGo, goes-none-slice, Walks, ends-at, walked, walk-meets}
 use denote.Exit.{yes}
 use denote.Signature.{plain}
-use Rattle.screen.specs.declared.StepRecord.{StepRecord}
-use Rattle.screen.specs.Records.{blank, recordAt, copied}
-use Rattle.screen.proofs.StepRecord as T
-use Rattle.screen.proofs.StepRecord.Laws as T′
-use Rattle.screen.proofs.records.copy_steps as copies
-use Rattle.screen.proofs.records.copy_steps.Symbol as copies-def
-use Rattle.screen.proofs.records.copy_steps.Symbol.{name as #copy-steps}
-use Rattle.screen.proofs.records.copy_steps.Met as copies-thm
-use Rattle.screen.proofs.records.first_record.Key.{name as #first-record}
-use Rattle.screen.proofs.records.first_record as f
-use Rattle.screen.proofs.records.first_record.Statement as stated
-use Rattle.screen.proofs.records.first_record.Code as code
+use Rattle.steprecords.specs.declared.StepRecord.{StepRecord}
+use Rattle.steprecords.specs.Records.{blank, recordAt, copied}
+use Rattle.steprecords.proofs.StepRecord as T
+use Rattle.steprecords.proofs.StepRecord.Laws as T′
+use Rattle.steprecords.proofs.copy_steps as copies
+use Rattle.steprecords.proofs.copy_steps.Symbol as copies-def
+use Rattle.steprecords.proofs.copy_steps.Symbol.{name as #copy-steps}
+use Rattle.steprecords.proofs.copy_steps.Met as copies-thm
+use Rattle.steprecords.proofs.first_record.Key.{name as #first-record}
+use Rattle.steprecords.proofs.first_record as f
+use Rattle.steprecords.proofs.first_record.Statement as stated
+use Rattle.steprecords.proofs.first_record.Code as code
 
 abbrev stayed : Stays (f.ended .signature .params) (f.ended .kept)
 stayed = (stay-none-slice (0 ∷ []) tt (plain (λ _. i32)) yes, (stay-none-slice (1 ∷ []) tt (plain (λ _. i32)) yes, (stay-none-slice (2 ∷ []) tt (plain (λ _. i32)) yes, tt)))
@@ -228,4 +228,4 @@ first-record-spec 𝓤 H 𝓜 𝓖 𝓡 =
     entered 𝓤 H (tripleOf 𝓤 H (𝓖 .A) f.signature (f.spec 𝓤 H (𝓖 .A) (𝓜 .mem) (𝓡 .run)))
     (tables 𝓤 H 𝓜 𝓡 code.env .C) (tables 𝓤 H 𝓜 𝓡 code.env .Λ) #first-record code.function (code.unfolded 𝓤 H 𝓜 𝓡)
     (first-record-meets 𝓤 H (𝓖 .A) (givenOf 𝓤 H 𝓜 𝓖) (𝓜 .mem) (𝓡 .run) (tablesOf 𝓤 H 𝓜 (tables 𝓤 H 𝓜 𝓡 code.env))
-    (cited 𝓤 H (Copies 𝓤 H (𝓖 .A) (𝓜 .mem) (𝓡 .run)) 𝓜 𝓡 code.env #copy-steps copies-def.routine code.calls-screen·records·copy-steps (copies-thm.met 𝓤 H 𝓜 𝓖 𝓡)))
+    (cited 𝓤 H (Copies 𝓤 H (𝓖 .A) (𝓜 .mem) (𝓡 .run)) 𝓜 𝓡 code.env #copy-steps copies-def.routine code.calls-steprecords·copy-steps (copies-thm.met 𝓤 H 𝓜 𝓖 𝓡)))

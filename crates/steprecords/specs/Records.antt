@@ -4,7 +4,7 @@ use Prim.Native.Nat.{ℕ, zero, suc}
 use lib.ListN.{length, set, getD, drop}
 use lib.IntN.{ℤ, pos}
 use Rattle.queue.specs.Queue.{Step}
-use Rattle.screen.specs.declared.StepRecord.{StepRecord}
+use Rattle.steprecords.specs.declared.StepRecord.{StepRecord}
 
 -- the record of one extraction
 unfoldable pub recordOf : Step → StepRecord

@@ -1,17 +1,17 @@
 -- What copying the walk's buffers comes to: a slice as long as before and, where the buffers hold the walk of a list of extractions, the records of
--- these. By induction on the number of records copied. Assumes nothing.
+-- these; and zeros past the last extraction. By induction on the number of records copied. Assumes nothing.
 use mathlib.Core.Path.{_≡_, refl, sym, ap, ap₂, _∙_}
 use mathlib.Core.List.{List, [], _++_, map}
 use Prim.Native.Nat.{ℕ, zero, suc, _<_, _≤_}
 use native.Mathlib.Nat.{zero-add}
 use native.Mathlib.Omega.{arith}
 use lib.IntN.{ℤ, pos}
-use lib.ListN.{length, set, getD, drop, take, length-set, length-map, List·getD-append, List·getD-map}
+use lib.ListN.{length, set, getD, drop, take, length-set, length-map, List·getD-append, List·getD-map, List·getD-eq-default}
 use lib.Seq.{paste, paste-zero, paste-suc, take-length}
 use Rattle.queue.specs.Queue.{Step}
 use Rattle.machine.specs.Calls.{walked}
-use Rattle.screen.specs.declared.StepRecord.{StepRecord}
-use Rattle.screen.specs.Records.{recordOf, blank, nthRecord, recorded, recordAt, copied}
+use Rattle.steprecords.specs.declared.StepRecord.{StepRecord}
+use Rattle.steprecords.specs.Records.{recordOf, blank, nthRecord, recorded, recordAt, copied}
 
 pub length-copied : (old : List StepRecord) (paths blocks scores : List ℤ) (n : ℕ) → length (copied old paths blocks scores n) ≡ length old
 unfolding copied
@@ -28,6 +28,11 @@ walked-entry entry steps old i d h =
 -- what stands past the end of a list of extractions
 abbrev no-step : Step
 no-step = record { path = 0; blocks = 0; score = pos 0; crowded = []; outrun = [] }
+
+-- past the last extraction the record is zeros
+pub past : (steps : List Step) (i : ℕ) → length steps ≤ i → blank ≡ nthRecord steps i
+unfolding nthRecord
+past steps i h = sym (List·getD-eq-default (map recordOf steps) blank (omega (arith, h, length-map steps recordOf)))
 
 module _ (steps : List Step) (paths blocks scores : List ℤ) where
   -- the walk of the extractions, in each buffer

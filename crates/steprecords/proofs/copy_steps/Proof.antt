@@ -1,4 +1,4 @@
--- `screen::records::copy_steps` meets its contract: a walk of its MIR, by hand, with a loop in it. The four borrows are opened once, before the loop, and closed once, after it.
+-- `steprecords::copy_steps` meets its contract: a walk of its MIR, by hand, with a loop in it. The four borrows are opened once, before the loop, and closed once, after it.
 -- Assumes nothing.
 use mathlib.Core.Path.{_≡_, refl, sym, _∙_, ap, subst}
 use Prim.Native.Nat.{ℕ, zero, suc, _<_, _≤_, _+_, _*_, _^_}
@@ -50,16 +50,16 @@ use denote.Triple.Table.{entered}
 use denote.Triple.Walked.{says, needs, Stays, stay-none, stay-none-slice, stay-slice, walkOf, AllGo, goes-none, goes-none-slice, goes-slice, Walks, ends-at, walked, walk-meets}
 use denote.Exit.{yes}
 use denote.Signature.{plain}
-use Rattle.screen.specs.declared.StepRecord.{StepRecord}
-use Rattle.screen.specs.Records.{copied, recordAt}
-use Rattle.screen.proofs.Copied.{length-copied}
-use Rattle.screen.proofs.StepRecord as T
-use Rattle.screen.proofs.StepRecord.Laws as T′
-use Rattle.screen.proofs.records.copy_steps.Key.{name as #screen·records·copy-steps}
-use Rattle.screen.proofs.records.copy_steps as f
-use Rattle.screen.proofs.records.copy_steps.Statement as stated
-use Rattle.screen.proofs.records.copy_steps.Code as code
-use Rattle.screen.proofs.records.copy_steps.Code.Mir as mir′
+use Rattle.steprecords.specs.declared.StepRecord.{StepRecord}
+use Rattle.steprecords.specs.Records.{copied, recordAt}
+use Rattle.steprecords.proofs.Copied.{length-copied}
+use Rattle.steprecords.proofs.StepRecord as T
+use Rattle.steprecords.proofs.StepRecord.Laws as T′
+use Rattle.steprecords.proofs.copy_steps.Key.{name as #steprecords·copy-steps}
+use Rattle.steprecords.proofs.copy_steps as f
+use Rattle.steprecords.proofs.copy_steps.Statement as stated
+use Rattle.steprecords.proofs.copy_steps.Code as code
+use Rattle.steprecords.proofs.copy_steps.Code.Mir as mir′
 
 -- a `&κ [i32]` is looked into, and a copy of it is kept whole for the exit
 module _ {M : Type 1} {𝓤 : URA M} {H : Heap 𝓤} {A : Atoms 𝓤} {K : Type 0} {W : Given 𝓤 H A} {Γ : List (Item 𝓤)} {G : Goal 𝓤 H} where
@@ -322,5 +322,5 @@ pub copy-steps-spec : {M : Type 1} → stated.statement M
 unfolding code.routine tablesOf
 copy-steps-spec 𝓤 H 𝓜 𝓖 𝓡 =
     entered 𝓤 H (tripleOf 𝓤 H (𝓖 .A) f.signature (f.spec 𝓤 H (𝓖 .A) (𝓜 .mem) (𝓡 .run)))
-    (tables 𝓤 H 𝓜 𝓡 code.env .C) (tables 𝓤 H 𝓜 𝓡 code.env .Λ) #screen·records·copy-steps code.function (code.unfolded 𝓤 H 𝓜 𝓡)
+    (tables 𝓤 H 𝓜 𝓡 code.env .C) (tables 𝓤 H 𝓜 𝓡 code.env .Λ) #steprecords·copy-steps code.function (code.unfolded 𝓤 H 𝓜 𝓡)
     (copy-steps-meets 𝓤 H (𝓖 .A) (givenOf 𝓤 H 𝓜 𝓖) (𝓜 .mem) (𝓡 .run) (tablesOf 𝓤 H 𝓜 (tables 𝓤 H 𝓜 𝓡 code.env)))
