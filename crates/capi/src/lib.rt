@@ -1,52 +1,27 @@
 // The calls as C sees them: slices are a pointer and a length, and each function answers 0 or the number of the refusal. include/saddlemint.h
-// declares them. Relies on the crates codebook, codec and slices, whose calls these are; specs/Answers.antt says what is new here.
-use codebook::Outcome;
-use codebook::outcome_number;
-use codebook::refusal_number;
-use codec::HookRecord;
-use codec::Status;
-use codec::Tested;
-use coding::encode;
-use coding::make_record;
-use coding::read_data;
-use coding::read_record;
-use coding::test;
-use loading::load;
+// declares them. Relies on the crates answers and slices, whose calls these are, and adds the names.
+use answers::encode_number;
+use answers::load_answer;
+use answers::make_record_number;
+use answers::read_data_number;
+use answers::read_record_answer;
+use answers::test_number;
 use slices::decode_hook_slices;
 use slices::decode_slices;
-use slices::put_hook;
 ghost use mathlib.Core.Path.{_≡_};
 ghost use Rattle.codebook.specs.Refusals.{outcomeNumber};
 ghost use Rattle.codec.specs.Record.{statusOf};
 ghost use Rattle.codec.specs.Calls.{encodeCall, testCall, readDataCall};
 ghost use Rattle.machine.specs.Calls.{given, lent};
+ghost use Rattle.answers.specs.Answers.{loadAnswer, testedNumber, makeRecordWrote, readRecordAnswer};
 ghost use Rattle.slices.specs.Slices.{plainAnswered, hookAnswered};
-ghost use Rattle.capi.specs.Answers.{lengthMismatch, loadAnswer, testedNumber, makeRecordWrote, recordFrom, readRecordAnswer};
-
-// The number where a slice is lent at a wrong length.
-fn mismatch_number(o: Outcome) -> u32
-    ensures { λ r. ⌜ r ≡ lengthMismatch o ⌝ }
-{
-    match o {
-        Outcome::Done => 7,
-        Outcome::Refused(r) => refusal_number(r),
-    }
-}
 
 // Loads a book: its n, k and V.
 #[no_mangle]
 pub extern "C" fn saddlemint_load(book: &[u8], shape: &mut [u32]) -> u32
     ensures { λ r. ⌜ (let a = loadAnswer (now (book .entry)) (now (shape .entry)) in (r ≡ a .number) × (now (shape .exit) ≡ a .slice)) ⌝ }
 {
-    let s = load(book);
-    let outcome = s.outcome;
-    if shape.len() != 3 {
-        return mismatch_number(outcome);
-    }
-    shape[0] = s.n;
-    shape[1] = s.k;
-    shape[2] = s.blocks;
-    outcome_number(outcome)
+    load_answer(book, shape)
 }
 
 // Encodes data bits into a lent word.
@@ -55,18 +30,7 @@ pub extern "C" fn saddlemint_encode(book: &[u8], bits: &[u8], word: &mut [u8]) -
     ensures { λ r. ⌜ (let w = encodeCall (now (book .entry)) (now (bits .entry)) (now (word .entry)) in
         (r ≡ outcomeNumber (w .outcome)) × (now (word .exit) ≡ w .buffer)) ⌝ }
 {
-    outcome_number(encode(book, bits, word))
-}
-
-// The number of a test's answer; "not in the code" is no refusal.
-fn tested_number(t: Tested) -> u32
-    ensures { λ r. ⌜ r ≡ testedNumber t ⌝ }
-{
-    match t {
-        Tested::InCode => 0,
-        Tested::NotInCode => 255,
-        Tested::Refused(r) => refusal_number(r),
-    }
+    encode_number(book, bits, word)
 }
 
 // Tests a word.
@@ -74,7 +38,7 @@ fn tested_number(t: Tested) -> u32
 pub extern "C" fn saddlemint_test(book: &[u8], word: &[u8]) -> u32
     ensures { λ r. ⌜ r ≡ testedNumber (testCall (now (book .entry)) (now (word .entry))) ⌝ }
 {
-    tested_number(test(book, word))
+    test_number(book, word)
 }
 
 // Reads the data bits of a word into lent data.
@@ -83,51 +47,7 @@ pub extern "C" fn saddlemint_read_data(book: &[u8], word: &[u8], bits: &mut [u8]
     ensures { λ r. ⌜ (let w = readDataCall (now (book .entry)) (now (word .entry)) (now (bits .entry)) in
         (r ≡ outcomeNumber (w .outcome)) × (now (bits .exit) ≡ w .buffer)) ⌝ }
 {
-    outcome_number(read_data(book, word, bits))
-}
-
-// The record of these fields. A status above 4 is no status: a plant that does not fit stands for it.
-fn record_from(plant: u32, carcass: u32, side: u32, status: u32) -> HookRecord
-    ensures { λ r. ⌜ r ≡ recordFrom plant carcass side (statusOf status) ⌝ }
-{
-    match status {
-        0 => HookRecord {
-            plant,
-            carcass,
-            side,
-            status: Status::Passed,
-        },
-        1 => HookRecord {
-            plant,
-            carcass,
-            side,
-            status: Status::HeldForLaboratory,
-        },
-        2 => HookRecord {
-            plant,
-            carcass,
-            side,
-            status: Status::HeldForVeterinarian,
-        },
-        3 => HookRecord {
-            plant,
-            carcass,
-            side,
-            status: Status::HeldForOwner,
-        },
-        4 => HookRecord {
-            plant,
-            carcass,
-            side,
-            status: Status::Condemned,
-        },
-        _ => HookRecord {
-            plant: 64,
-            carcass,
-            side,
-            status: Status::Passed,
-        },
-    }
+    read_data_number(book, word, bits)
 }
 
 // Makes a record into lent data bits.
@@ -143,7 +63,7 @@ pub extern "C" fn saddlemint_make_record(
     ensures { λ r. ⌜ (let w = makeRecordWrote (now (book .entry)) plant carcass side (statusOf status) (now (bits .entry)) in
         (r ≡ outcomeNumber (w .outcome)) × (now (bits .exit) ≡ w .buffer)) ⌝ }
 {
-    outcome_number(make_record(book, record_from(plant, carcass, side, status), bits))
+    make_record_number(book, plant, carcass, side, status, bits)
 }
 
 // Reads the record of data bits.
@@ -152,16 +72,7 @@ pub extern "C" fn saddlemint_read_record(book: &[u8], bits: &[u8], hook: &mut [u
     ensures { λ r. ⌜ (let a = readRecordAnswer (now (book .entry)) (now (bits .entry)) (now (hook .entry)) in
         (r ≡ a .number) × (now (hook .exit) ≡ a .slice)) ⌝ }
 {
-    if hook.len() != 4 {
-        let s = load(book);
-        let fault = s.outcome;
-        return mismatch_number(fault);
-    }
-    let x = read_record(book, bits);
-    let h = x.hook;
-    put_hook(hook, h);
-    let outcome = x.outcome;
-    outcome_number(outcome)
+    read_record_answer(book, bits, hook)
 }
 
 // Decodes values: word, data, walk and counts.

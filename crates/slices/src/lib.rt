@@ -1,59 +1,14 @@
-// The decoding calls with a number as the answer, and counts and record in lent slices: what C calls, but for the names. Relies on the crates decoder,
-// checks, codec and codebook; specs/Slices.antt says what each answers and leaves.
-use checks::Checked;
-use checks::Settings;
-use codebook::Outcome;
+// The decoding calls with a number as the answer, and counts and record in lent slices: what C calls, but for the names. Relies on the crates decoder and
+// answers; specs/Slices.antt says what each answers and leaves.
+use answers::decoding_mismatch;
+use answers::put_counts;
+use answers::put_hook;
 use codebook::outcome_number;
-use codebook::refusal_number;
-use codec::HookRecord;
 use decoder::decode;
 use decoder::decode_hook;
-use hooks::status_number;
-use loading::load;
-use machine::Counts;
 ghost use mathlib.Core.Path.{_≡_};
-ghost use mathlib.Core.List.{[]};
-ghost use lib.ListN.{length};
 ghost use Rattle.machine.specs.Calls.{given, lent};
-ghost use Rattle.slices.specs.Slices.{countsSlice, recordSlice, mismatchNumber, plainAnswered, hookAnswered};
-
-// The number where counts or record have a wrong length.
-fn mismatch_number(book: &[u8], visits: u32, paths: u32, limit: u32) -> u32
-    ensures { λ r. ⌜ r ≡ mismatchNumber (given (now (book .entry)) visits paths limit []) ⌝ }
-{
-    let x = load(book);
-    let outcome = x.outcome;
-    if let Outcome::Refused(r) = outcome {
-        return refusal_number(r);
-    }
-    let Checked::Good(s) = Settings::checked(visits, paths, limit) else {
-        return 8;
-    };
-    7
-}
-
-// Extractions, crowded out, outrun, discrepancy.
-fn put_counts(counts: &mut [u32], x: Counts)
-    requires { ⌜ length (now counts) ≡ 4 ⌝ }
-    ensures { λ _. ⌜ now (counts .exit) ≡ countsSlice x ⌝ }
-{
-    counts[0] = x.extractions;
-    counts[1] = x.crowded;
-    counts[2] = x.outrun;
-    counts[3] = x.discrepancy;
-}
-
-// Plant, carcass, side, status.
-pub fn put_hook(hook: &mut [u32], h: HookRecord)
-    requires { ⌜ length (now hook) ≡ 4 ⌝ }
-    ensures { λ _. ⌜ now (hook .exit) ≡ recordSlice h ⌝ }
-{
-    let status = h.status;
-    hook[0] = h.plant;
-    hook[1] = h.carcass;
-    hook[2] = h.side;
-    hook[3] = status_number(status);
-}
+ghost use Rattle.slices.specs.Slices.{plainAnswered, hookAnswered};
 
 // The plain decoding call.
 pub fn decode_slices(
@@ -79,7 +34,7 @@ pub fn decode_slices(
         × (now (counts .exit) ≡ a .counts)) ⌝ }
 {
     if counts.len() != 4 {
-        return mismatch_number(book, visits, paths, limit);
+        return decoding_mismatch(book, visits, paths, limit);
     }
     let x = decode(
         book,
@@ -126,10 +81,10 @@ pub fn decode_hook_slices(
         × (now (counts .exit) ≡ a .counts) × (now (hook .exit) ≡ a .hook)) ⌝ }
 {
     if counts.len() != 4 {
-        return mismatch_number(book, visits, paths, limit);
+        return decoding_mismatch(book, visits, paths, limit);
     }
     if hook.len() != 4 {
-        return mismatch_number(book, visits, paths, limit);
+        return decoding_mismatch(book, visits, paths, limit);
     }
     let x = decode_hook(
         book,

@@ -6,8 +6,11 @@ use Prim.Native.Nat.{ℕ}
 use lib.ListN.{length}
 use Rattle.codebook.specs.Refusals.{outcomeNumber}
 use Rattle.machine.specs.Calls.{Input, Lent, given, lent}
-use Rattle.slices.specs.Slices.{countsSlice, recordSlice, mismatchNumber, mismatch, hookAnswered}
-use Rattle.slices.proofs.Written.{mismatch-values, hook-written, hook-left}
+use Rattle.answers.specs.Slices.{countsSlice, recordSlice}
+use Rattle.answers.specs.Answers.{decodingMismatch}
+use Rattle.answers.proofs.Mismatches.{mismatch-values}
+use Rattle.slices.specs.Slices.{mismatch, hookAnswered}
+use Rattle.slices.proofs.Written.{hook-written, hook-left}
 use borrow.Author.Needs.{needs}
 use Rattle.slices.proofs.decode_hook_slices.Statement.{statement}
 use Rattle.slices.proofs.decode_hook_slices.Tie as tie
@@ -23,7 +26,7 @@ buffers s =
 
 -- all is kept, where a length is wrong
 left : (s : tie.Start) {r : ℕ} → let a = s .args in
-    r ≡ mismatchNumber (given (a .book .now) (a .visits) (a .paths) (a .limit) []) → (length (a .counts .now) ≡ 4 → length (a .hook .now) ≡ 4 → ⊥)
+    r ≡ decodingMismatch (given (a .book .now) (a .visits) (a .paths) (a .limit) []) → (length (a .counts .now) ≡ 4 → length (a .hook .now) ≡ 4 → ⊥)
     → let x = hookAnswered (input s) (buffers s) (a .counts .now) (a .hook .now) in
     (r ≡ x .number) × (buffers s ≡ x .lent) × (a .counts .now ≡ x .counts) × (a .hook .now ≡ x .hook)
 unfolding mismatch
@@ -36,17 +39,17 @@ left s e f =
       ap (λ x. x .hook) w,
     )
 
-mismatch-number-requires : tie.Need-mismatch-number-requires
-mismatch-number-requires c κs = search needs
+decoding-mismatch-requires : tie.Need-decoding-mismatch-requires
+decoding-mismatch-requires c κs = search needs
 
 returns : tie.Need-returns
-returns c = left (c .before .before .before .before .before .before .before .before) (c .mismatch-number .ensures) (λ e _. c .before .if1 .taken e)
+returns c = left (c .before .before .before .before .before .before .before .before) (c .decoding-mismatch .ensures) (λ e _. c .before .if1 .taken e)
 
-mismatch-number-requires-2 : tie.Need-mismatch-number-requires-2
-mismatch-number-requires-2 c κs = search needs
+decoding-mismatch-requires-2 : tie.Need-decoding-mismatch-requires-2
+decoding-mismatch-requires-2 c κs = search needs
 
 returns-2 : tie.Need-returns-2
-returns-2 c = left (c .before .before .before .before .before .before .before .before .before) (c .mismatch-number2 .ensures) (λ _ e. c .before .if2 .taken e)
+returns-2 c = left (c .before .before .before .before .before .before .before .before .before) (c .decoding-mismatch2 .ensures) (λ _ e. c .before .if2 .taken e)
 
 decode-hook-requires : tie.Need-decode-hook-requires
 decode-hook-requires c κs = search needs
@@ -104,9 +107,9 @@ pub decode-hook-slices-spec : {M : Type 1} → statement M
 decode-hook-slices-spec =
     tie.close
     (tie.spec
-    mismatch-number-requires
+    decoding-mismatch-requires
     returns
-    mismatch-number-requires-2
+    decoding-mismatch-requires-2
     returns-2
     decode-hook-requires
     put-counts-requires

@@ -3,8 +3,10 @@ use mathlib.Core.Path.{sym, ap, _∙_}
 use mathlib.Core.List.{[]}
 use Rattle.codebook.specs.Refusals.{outcomeNumber}
 use Rattle.machine.specs.Calls.{Input, Lent, given, lent}
-use Rattle.slices.specs.Slices.{countsSlice, mismatch}
-use Rattle.slices.proofs.Written.{mismatch-values, plain-written, plain-left}
+use Rattle.answers.specs.Slices.{countsSlice}
+use Rattle.answers.proofs.Mismatches.{mismatch-values}
+use Rattle.slices.specs.Slices.{mismatch}
+use Rattle.slices.proofs.Written.{plain-written, plain-left}
 use borrow.Author.Needs.{needs}
 use Rattle.slices.proofs.decode_slices.Statement.{statement}
 use Rattle.slices.proofs.decode_slices.Tie as tie
@@ -18,8 +20,8 @@ buffers s =
     let a = s .args in
     lent (a .word .now) (a .bits .now) (a .numbers .now) (a .bytes .now) (a .walk-path .now) (a .walk-blocks .now) (a .walk-score .now)
 
-mismatch-number-requires : tie.Need-mismatch-number-requires
-mismatch-number-requires c κs = search needs
+decoding-mismatch-requires : tie.Need-decoding-mismatch-requires
+decoding-mismatch-requires c κs = search needs
 
 returns : tie.Need-returns
 unfolding mismatch
@@ -27,7 +29,7 @@ returns c =
     let s = c .before .before .before .before .before .before .before in
     let a = s .args in
     let w = sym (plain-left (input s) (buffers s) (a .counts .now) [] (c .before .if1 .taken)) in (
-      c .mismatch-number .ensures ∙ mismatch-values (a .book .now) (a .visits) (a .paths) (a .limit) [] (a .values .now) ∙ ap (λ x. x .number) w,
+      c .decoding-mismatch .ensures ∙ mismatch-values (a .book .now) (a .visits) (a .paths) (a .limit) [] (a .values .now) ∙ ap (λ x. x .number) w,
       ap (λ x. x .lent) w,
       ap (λ x. x .counts) w,
     )
@@ -81,7 +83,7 @@ pub decode-slices-spec : {M : Type 1} → statement M
 decode-slices-spec =
     tie.close
     (tie.spec
-    mismatch-number-requires
+    decoding-mismatch-requires
     returns
     decode-requires
     put-counts-requires

@@ -1,0 +1,18 @@
+-- `answers::words::test_number` meets its contract: it is the codec's call, and its answer's number. Assumes nothing.
+use mathlib.Core.Path.{_∙_, ap}
+use Rattle.answers.specs.Answers.{testedNumber}
+use borrow.Author.Needs.{needs}
+use Rattle.answers.proofs.words.test_number.Statement.{statement}
+use Rattle.answers.proofs.words.test_number.Tie as tie
+
+test-requires : tie.Need-test-requires
+test-requires c κs = search needs
+
+tested-number-requires : tie.Need-tested-number-requires
+tested-number-requires c κs = search needs
+
+returns : tie.Need-returns
+returns c = c .tested-number .ensures ∙ ap testedNumber (c .before .test .ensures)
+
+pub test-number-spec : {M : Type 1} → statement M
+test-number-spec = tie.close (tie.spec test-requires tested-number-requires returns)

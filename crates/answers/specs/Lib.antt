@@ -1,0 +1,3 @@
+-- The specifications of answers. Assumes nothing.
+pub mod Slices
+pub mod Answers

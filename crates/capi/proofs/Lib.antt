@@ -1,3 +1,0 @@
--- The proofs of capi. Assumes nothing.
-pub mod Slices
-pub mod Fields

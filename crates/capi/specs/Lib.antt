@@ -1,2 +1,0 @@
--- The specifications of capi. Assumes nothing.
-pub mod Answers
