@@ -1,4 +1,4 @@
-// Counts and record into lent slices of 4 entries. Relies on the crate codec, for a status's number; specs/Slices.antt says which entry is what.
+// Counts and record into lent slices of 4 entries. Relies on the crate hooks, for a status's number; specs/Slices.antt says which entry is what.
 use codec::HookRecord;
 use hooks::status_number;
 use machine::Counts;

@@ -1,4 +1,4 @@
-// Hook records: made from four numbers, and read into a lent slice. Relies on numbers.rt, put.rt and the crates loading and codec; specs/Answers.antt says
+// Hook records: made from four numbers, and read into a lent slice. Relies on numbers.rt, put.rt and the crates loading and coding; specs/Answers.antt says
 // what each answers.
 use crate::numbers::length_mismatch;
 use crate::put::put_hook;

@@ -1,4 +1,4 @@
-// Words and their data: encoding, testing and reading, with a number as the answer. Relies on numbers.rt and the crate codec, whose calls these are.
+// Words and their data: encoding, testing and reading, with a number as the answer. Relies on numbers.rt and the crate coding, whose calls these are.
 use crate::numbers::tested_number;
 use codebook::outcome_number;
 use coding::encode;
