@@ -2,7 +2,7 @@
  * Saddlemint: decoding, and the calls on code books, words, data and hook records, for C.
  *
  * Every function is proved, for every input: what it answers, what it leaves in each buffer, and that it ends. crates/capi/src/lib.rt holds
- * the contracts; crates/answers/specs/Answers.antt and crates/slices/specs/Slices.antt the definitions that they cite.
+ * the contracts; crates/numbered/specs/Answers.antt and crates/slices/specs/Slices.antt the definitions that they cite.
  *
  * A buffer is a pointer and a length in entries. All that is asked of the caller is what C asks of any: each pointer leads to that many
  * entries, never null (also where the length is 0), and a buffer that is written overlaps no other. No length and no value is taken on the

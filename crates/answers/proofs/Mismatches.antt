@@ -10,7 +10,7 @@ use Rattle.codebook.specs.Refusals.{refusalNumber}
 use Rattle.codebook.specs.Book.{Book}
 use Rattle.codebook.specs.Loading.{Load, load, refused, loaded}
 use Rattle.machine.specs.Calls.{Input, given, settingsOk}
-use Rattle.answers.specs.Answers.{decodingMismatchWith, decodingMismatch}
+use Rattle.answers.specs.Numbers.{decodingMismatchWith, decodingMismatch}
 
 module _ (c : Input) where
   pub mismatch-book : (r : Refusal) → load (c .book) ≡ refused r → refusalNumber r ≡ decodingMismatch c

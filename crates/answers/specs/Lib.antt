@@ -1,3 +1,2 @@
--- The specifications of answers. Assumes nothing.
 pub mod Slices
-pub mod Answers
+pub mod Numbers

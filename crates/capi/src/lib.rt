@@ -1,11 +1,11 @@
 // The calls as C sees them: slices are a pointer and a length, and each function answers 0 or the number of the refusal. include/saddlemint.h
-// declares them. Relies on the crates answers and slices, whose calls these are, and adds the names.
-use answers::encode_number;
-use answers::load_answer;
-use answers::make_record_number;
-use answers::read_data_number;
-use answers::read_record_answer;
-use answers::test_number;
+// declares them. Relies on the crates numbered and slices, whose calls these are, and adds the names.
+use numbered::encode_number;
+use numbered::load_answer;
+use numbered::make_record_number;
+use numbered::read_data_number;
+use numbered::read_record_answer;
+use numbered::test_number;
 use slices::decode_hook_slices;
 use slices::decode_slices;
 ghost use mathlib.Core.Path.{_≡_};
@@ -13,7 +13,8 @@ ghost use Rattle.codebook.specs.Refusals.{outcomeNumber};
 ghost use Rattle.codec.specs.Record.{statusOf};
 ghost use Rattle.codec.specs.Calls.{encodeCall, testCall, readDataCall};
 ghost use Rattle.machine.specs.Calls.{given, lent};
-ghost use Rattle.answers.specs.Answers.{loadAnswer, testedNumber, makeRecordWrote, readRecordAnswer};
+ghost use Rattle.answers.specs.Numbers.{testedNumber};
+ghost use Rattle.numbered.specs.Answers.{loadAnswer, makeRecordWrote, readRecordAnswer};
 ghost use Rattle.slices.specs.Slices.{plainAnswered, hookAnswered};
 
 // Loads a book: its n, k and V.

@@ -8,7 +8,7 @@ use lib.Dec.{eqb}
 use Rattle.codebook.specs.Refusals.{outcomeNumber}
 use Rattle.machine.specs.Calls.{Input, Lent, plainCall, hookCall}
 use Rattle.answers.specs.Slices.{countsSlice, recordSlice}
-use Rattle.answers.specs.Answers.{decodingMismatch}
+use Rattle.answers.specs.Numbers.{decodingMismatch}
 
 -- a call's number, the buffers, and the slices of counts and record afterwards
 pub record Answered : Type 0 where

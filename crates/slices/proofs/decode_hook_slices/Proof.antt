@@ -7,7 +7,7 @@ use lib.ListN.{length}
 use Rattle.codebook.specs.Refusals.{outcomeNumber}
 use Rattle.machine.specs.Calls.{Input, Lent, given, lent}
 use Rattle.answers.specs.Slices.{countsSlice, recordSlice}
-use Rattle.answers.specs.Answers.{decodingMismatch}
+use Rattle.answers.specs.Numbers.{decodingMismatch}
 use Rattle.answers.proofs.Mismatches.{mismatch-values}
 use Rattle.slices.specs.Slices.{mismatch, hookAnswered}
 use Rattle.slices.proofs.Written.{hook-written, hook-left}

@@ -4,7 +4,6 @@ use Rattle.machine.specs.Calls.{noCounts}
 use Rattle.screen.proofs.within.no_counts.Statement.{statement}
 use Rattle.screen.proofs.within.no_counts.Tie as tie
 
--- src/within.rt:36:1
 returns : tie.Need-returns
 unfolding noCounts
 returns c = refl

@@ -2,12 +2,12 @@
 use mathlib.Core.Path.{_∙_, sym, ap}
 use mathlib.Core.List.{[], _∷_}
 use Rattle.codebook.specs.Refusals.{outcomeNumber}
-use Rattle.answers.specs.Answers.{lengthMismatch}
+use Rattle.answers.specs.Numbers.{lengthMismatch}
 use Rattle.answers.proofs.Slices.{three}
-use Rattle.answers.proofs.Answered.{load-written, load-left}
+use Rattle.numbered.proofs.Answered.{load-written, load-left}
 use borrow.Author.Needs.{needs}
-use Rattle.answers.proofs.book.load_answer.Statement.{statement}
-use Rattle.answers.proofs.book.load_answer.Tie as tie
+use Rattle.numbered.proofs.book.load_answer.Statement.{statement}
+use Rattle.numbered.proofs.book.load_answer.Tie as tie
 
 load-requires : tie.Need-load-requires
 load-requires c κs = search needs

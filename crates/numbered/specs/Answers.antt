@@ -1,44 +1,26 @@
 -- What the calls but for decoding answer C, and what their lent slices then hold: the numbers of document 01's refusal table, 0 for success. A
 -- shape and a record are written with every answer, zeros on a refusal; but one that is lent at another length is refused as 7, where 7 stands
--- in the table's order, and keeps what it held. Of the decoding calls, the number of such a refusal. Assumes nothing.
+-- in the table's order, and keeps what it held. Assumes nothing.
 use mathlib.Core.Bool.{cond}
 use mathlib.Core.List.{List, [], _∷_}
 use mathlib.Core.Option.{Option, none, some}
 use Prim.Native.Nat.{ℕ}
 use lib.ListN.{length}
 use lib.Dec.{eqb}
-use Rattle.codebook.specs.declared.Outcome.{Outcome}
-use Rattle.codebook.specs.declared.Outcome.the-variants.{Done, Refused}
-use Rattle.codebook.specs.declared.Refusal.the-variants.{Mismatch, BadSetting, BadValue}
-use Rattle.codebook.specs.Refusals.{refusalNumber, outcomeNumber}
+use Rattle.codebook.specs.declared.Refusal.the-variants.{Mismatch, BadValue}
+use Rattle.codebook.specs.Refusals.{outcomeNumber}
 use Rattle.codebook.specs.Loading.{Load, refused, loaded, load, shapeOf}
 use Rattle.codec.specs.declared.Status.{Status}
 use Rattle.codec.specs.declared.Status.the-variants.{Passed}
 use Rattle.codec.specs.declared.HookRecord.{HookRecord}
-use Rattle.codec.specs.declared.Tested.{Tested}
-use Rattle.codec.specs.declared.Tested.the-variants.{InCode, NotInCode, Refused as NotTested}
 use Rattle.codec.specs.Calls.{Wrote, kept, holdsRecord, makeRecordCall, readRecordCall}
-use Rattle.machine.specs.Calls.{Input, settingsOk}
 use Rattle.answers.specs.Slices.{recordSlice}
+use Rattle.answers.specs.Numbers.{lengthMismatch}
 
 -- a call's number, and what its slice then holds
 pub record Answer : Type 0 where
   pub number : ℕ
   pub slice : List ℕ
-
--- the number where shape or record are lent at a wrong length: the book's fault, else 7
-abbrev pub lengthMismatch : Outcome → ℕ
-lengthMismatch Done = refusalNumber Mismatch
-lengthMismatch (Refused r) = refusalNumber r
-
--- the number where counts or record of a decoding call are lent at a wrong length, by what loading comes to: the book's fault, then 8, then 7
-unfoldable pub decodingMismatchWith : Load → Input → ℕ
-decodingMismatchWith (refused r) c = refusalNumber r
-decodingMismatchWith (loaded B) c = cond (settingsOk c) (refusalNumber Mismatch) (refusalNumber BadSetting)
-
--- that number of a call
-unfoldable pub decodingMismatch : Input → ℕ
-decodingMismatch c = decodingMismatchWith (load (c .book)) c
 
 -- load: the shape is n, k and V
 unfoldable pub loadAnswer : List ℕ → List ℕ → Answer
@@ -47,12 +29,6 @@ loadAnswer book shape =
     let written : Answer = record { number = outcomeNumber (s .outcome); slice = s .n ∷ s .k ∷ s .blocks ∷ [] } in
     let left : Answer = record { number = lengthMismatch (s .outcome); slice = shape } in
     cond (eqb (length shape) 3) written left
-
--- test: 0 in the code, 255 not in the code, else the refusal
-abbrev pub testedNumber : Tested → ℕ
-testedNumber InCode = 0
-testedNumber NotInCode = 255
-testedNumber (NotTested r) = refusalNumber r
 
 -- make record, where the status is above 4: a field too large for its bits
 unfoldable pub noStatus : Load → List ℕ → Wrote

@@ -1,9 +1,9 @@
 -- `answers::words::test_number` meets its contract: it is the codec's call, and its answer's number. Assumes nothing.
 use mathlib.Core.Path.{_∙_, ap}
-use Rattle.answers.specs.Answers.{testedNumber}
+use Rattle.answers.specs.Numbers.{testedNumber}
 use borrow.Author.Needs.{needs}
-use Rattle.answers.proofs.words.test_number.Statement.{statement}
-use Rattle.answers.proofs.words.test_number.Tie as tie
+use Rattle.numbered.proofs.words.test_number.Statement.{statement}
+use Rattle.numbered.proofs.words.test_number.Tie as tie
 
 test-requires : tie.Need-test-requires
 test-requires c κs = search needs

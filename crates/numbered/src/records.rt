@@ -1,7 +1,7 @@
-// Hook records: made from four numbers, and read into a lent slice. Relies on numbers.rt, put.rt and the crates loading and coding; specs/Answers.antt says
+// Hook records: made from four numbers, and read into a lent slice. Relies on the crates answers, loading and coding; specs/Answers.antt says
 // what each answers.
-use crate::numbers::length_mismatch;
-use crate::put::put_hook;
+use answers::length_mismatch;
+use answers::put_hook;
 use codebook::outcome_number;
 use codec::HookRecord;
 use codec::Status;
@@ -11,7 +11,7 @@ use loading::load;
 ghost use mathlib.Core.Path.{_≡_};
 ghost use Rattle.codebook.specs.Refusals.{outcomeNumber};
 ghost use Rattle.codec.specs.Record.{statusOf};
-ghost use Rattle.answers.specs.Answers.{makeRecordWrote, recordFrom, readRecordAnswer};
+ghost use Rattle.numbered.specs.Answers.{makeRecordWrote, recordFrom, readRecordAnswer};
 
 // The record of these fields. A status above 4 is no status: a plant that does not fit stands for it.
 fn record_from(plant: u32, carcass: u32, side: u32, status: u32) -> HookRecord

@@ -1,9 +1,9 @@
-// Loading a book, with its shape in a lent slice. Relies on numbers.rt and the crate loading; specs/Answers.antt says what it answers.
-use crate::numbers::length_mismatch;
+// Loading a book, with its shape in a lent slice. Relies on the crates answers and loading; specs/Answers.antt says what it answers.
+use answers::length_mismatch;
 use codebook::outcome_number;
 use loading::load;
 ghost use mathlib.Core.Path.{_≡_};
-ghost use Rattle.answers.specs.Answers.{loadAnswer};
+ghost use Rattle.numbered.specs.Answers.{loadAnswer};
 
 // Loads a book: its n, k and V.
 pub fn load_answer(book: &[u8], shape: &mut [u32]) -> u32

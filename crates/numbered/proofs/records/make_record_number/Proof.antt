@@ -3,10 +3,10 @@ use mathlib.Core.Path.{_∙_, ap}
 use Rattle.codebook.specs.Refusals.{outcomeNumber}
 use Rattle.codec.specs.Record.{statusOf}
 use Rattle.codec.specs.Calls.{makeRecordCall}
-use Rattle.answers.proofs.Fields.{from-fields}
+use Rattle.numbered.proofs.Fields.{from-fields}
 use borrow.Author.Needs.{needs}
-use Rattle.answers.proofs.records.make_record_number.Statement.{statement}
-use Rattle.answers.proofs.records.make_record_number.Tie as tie
+use Rattle.numbered.proofs.records.make_record_number.Statement.{statement}
+use Rattle.numbered.proofs.records.make_record_number.Tie as tie
 
 record-from-requires : tie.Need-record-from-requires
 record-from-requires c κs = search needs

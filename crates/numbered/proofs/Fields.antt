@@ -8,7 +8,7 @@ use Rattle.codebook.specs.Loading.{Load, refused, loaded, load}
 use Rattle.codec.specs.declared.Status.{Status}
 use Rattle.codec.specs.Record.{recordFits}
 use Rattle.codec.specs.Calls.{makeRecordWith, makeRecordCall}
-use Rattle.answers.specs.Answers.{noStatus, makeRecordWrote, recordFrom}
+use Rattle.numbered.specs.Answers.{noStatus, makeRecordWrote, recordFrom}
 
 none-fits : (l : Load) (carcass side : ℕ) (plant : ℕ) (ds : List ℕ) →
     makeRecordWith l (recordFrom plant carcass side none) ds ≡ noStatus l ds

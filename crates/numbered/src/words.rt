@@ -1,5 +1,5 @@
-// Words and their data: encoding, testing and reading, with a number as the answer. Relies on numbers.rt and the crate coding, whose calls these are.
-use crate::numbers::tested_number;
+// Words and their data: encoding, testing and reading, with a number as the answer. Relies on the crates answers and coding, whose calls these are.
+use answers::tested_number;
 use codebook::outcome_number;
 use coding::encode;
 use coding::read_data;
@@ -7,7 +7,7 @@ use coding::test;
 ghost use mathlib.Core.Path.{_≡_};
 ghost use Rattle.codebook.specs.Refusals.{outcomeNumber};
 ghost use Rattle.codec.specs.Calls.{encodeCall, testCall, readDataCall};
-ghost use Rattle.answers.specs.Answers.{testedNumber};
+ghost use Rattle.answers.specs.Numbers.{testedNumber};
 
 // Encodes data bits into a lent word.
 pub fn encode_number(book: &[u8], bits: &[u8], word: &mut [u8]) -> u32

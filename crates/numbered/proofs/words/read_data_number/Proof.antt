@@ -2,8 +2,8 @@
 use mathlib.Core.Path.{_∙_, ap}
 use Rattle.codebook.specs.Refusals.{outcomeNumber}
 use borrow.Author.Needs.{needs}
-use Rattle.answers.proofs.words.read_data_number.Statement.{statement}
-use Rattle.answers.proofs.words.read_data_number.Tie as tie
+use Rattle.numbered.proofs.words.read_data_number.Statement.{statement}
+use Rattle.numbered.proofs.words.read_data_number.Tie as tie
 
 read-data-requires : tie.Need-read-data-requires
 read-data-requires c κs = search needs

@@ -3,9 +3,9 @@ use mathlib.Core.Path.{sym, ap}
 use native.Mathlib.Omega.{arith}
 use Rattle.codec.specs.Record.{statusOf}
 use Rattle.hooks.proofs.Parts.{status-none}
-use Rattle.answers.specs.Answers.{recordFrom}
-use Rattle.answers.proofs.records.record_from.Statement.{statement}
-use Rattle.answers.proofs.records.record_from.Tie as tie
+use Rattle.numbered.specs.Answers.{recordFrom}
+use Rattle.numbered.proofs.records.record_from.Statement.{statement}
+use Rattle.numbered.proofs.records.record_from.Tie as tie
 
 returns : tie.Need-returns
 unfolding recordFrom

@@ -6,9 +6,10 @@ use lib.ListN.{length}
 use Rattle.codebook.specs.Refusals.{outcomeNumber}
 use Rattle.codebook.specs.Loading.{load, shapeOf}
 use Rattle.codec.specs.Calls.{readRecordCall}
 use Rattle.answers.specs.Slices.{recordSlice}
-use Rattle.answers.specs.Answers.{lengthMismatch, loadAnswer, readRecordAnswer}
+use Rattle.answers.specs.Numbers.{lengthMismatch}
+use Rattle.numbered.specs.Answers.{loadAnswer, readRecordAnswer}
 use Rattle.answers.proofs.Slices.{at-length, at-other}
 
 -- load's two answers
 pub load-written : (book shape : List ℕ) → length shape ≡ 3 →

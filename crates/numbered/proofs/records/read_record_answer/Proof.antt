@@ -1,12 +1,12 @@
 -- `answers::records::read_record_answer` meets its contract: the record is written where its length is 4, and kept where it is not. Assumes nothing.
 use mathlib.Core.Path.{_∙_, sym, ap}
 use Rattle.codebook.specs.Refusals.{outcomeNumber}
 use Rattle.answers.specs.Slices.{recordSlice}
-use Rattle.answers.specs.Answers.{lengthMismatch}
-use Rattle.answers.proofs.Answered.{record-written, record-left}
+use Rattle.answers.specs.Numbers.{lengthMismatch}
+use Rattle.numbered.proofs.Answered.{record-written, record-left}
 use borrow.Author.Needs.{needs}
-use Rattle.answers.proofs.records.read_record_answer.Statement.{statement}
-use Rattle.answers.proofs.records.read_record_answer.Tie as tie
+use Rattle.numbered.proofs.records.read_record_answer.Statement.{statement}
+use Rattle.numbered.proofs.records.read_record_answer.Tie as tie
 
 load-requires : tie.Need-load-requires
 load-requires c κs = search needs

@@ -2,8 +2,8 @@
 use mathlib.Core.Path.{_∙_, ap}
 use Rattle.codebook.specs.Refusals.{outcomeNumber}
 use borrow.Author.Needs.{needs}
-use Rattle.answers.proofs.words.encode_number.Statement.{statement}
-use Rattle.answers.proofs.words.encode_number.Tie as tie
+use Rattle.numbered.proofs.words.encode_number.Statement.{statement}
+use Rattle.numbered.proofs.words.encode_number.Tie as tie
 
 encode-requires : tie.Need-encode-requires
 encode-requires c κs = search needs
