@@ -20,5 +20,7 @@ rows-hold =
       outrun = refl;
       allStay = refl;
       noneOutrun = refl;
+      laterStay = refl;
+      laterOutrun = refl;
       visited = refl;
     }

@@ -28,10 +28,13 @@ pub record Rows : Type 0 where
   pub allCrowded : numbers own (crowdedOut 2 queued) ≡ 6 ∷ 8 ∷ 3 ∷ 9 ∷ 1 ∷ []
   pub allLeft : numbers own (roomFor 7 queued) ≡ 6 ∷ 8 ∷ 3 ∷ 9 ∷ 1 ∷ []
   pub noneCrowded : numbers own (crowdedOut 7 queued) ≡ []
-  -- step 4 at the second visit of two to block 1: every path with 1 block or fewer is outrun; at the first of two none
-  pub ahead : numbers own (staying own 2 1 (0 ∷ 2 ∷ []) queued) ≡ 8 ∷ 1 ∷ []
-  pub outrun : numbers own (outrunBy own 2 1 (0 ∷ 2 ∷ []) queued) ≡ 6 ∷ 3 ∷ 9 ∷ []
-  pub allStay : numbers own (staying own 2 1 (2 ∷ 1 ∷ []) queued) ≡ 6 ∷ 8 ∷ 3 ∷ 9 ∷ 1 ∷ []
-  pub noneOutrun : numbers own (outrunBy own 2 1 (2 ∷ 1 ∷ []) queued) ≡ []
+  -- step 4 at the second visit of two to block 2: every path with 2 blocks or fewer is outrun
+  pub ahead : numbers own (staying own 2 2 (0 ∷ 0 ∷ 2 ∷ []) queued) ≡ 1 ∷ []
+  pub outrun : numbers own (outrunBy own 2 2 (0 ∷ 0 ∷ 2 ∷ []) queued) ≡ 6 ∷ 8 ∷ 3 ∷ 9 ∷ []
+  -- at the first of two none is, whatever visits the other blocks had; nor at a third, were there one
+  pub allStay : numbers own (staying own 2 2 (2 ∷ 2 ∷ 1 ∷ []) queued) ≡ 6 ∷ 8 ∷ 3 ∷ 9 ∷ 1 ∷ []
+  pub noneOutrun : numbers own (outrunBy own 2 2 (2 ∷ 2 ∷ 1 ∷ []) queued) ≡ []
+  pub laterStay : numbers own (staying own 2 2 (2 ∷ 2 ∷ 3 ∷ []) queued) ≡ 6 ∷ 8 ∷ 3 ∷ 9 ∷ 1 ∷ []
+  pub laterOutrun : numbers own (outrunBy own 2 2 (2 ∷ 2 ∷ 3 ∷ []) queued) ≡ []
   -- a visit counts for its own block alone
-  pub visited : visit (3 ∷ 1 ∷ 0 ∷ []) 1 ≡ 3 ∷ 2 ∷ 0 ∷ []
+  pub visited : visit (3 ∷ 5 ∷ 0 ∷ []) 1 ≡ 3 ∷ 6 ∷ 0 ∷ []
