@@ -1,6 +1,6 @@
 -- Laws of the notions on lists, and of lists cut, joined and written over, most by induction on the list. Assumes nothing.
 use mathlib.Core.Path.{_≡_, refl, sym, ap, _∙_, ap₂, subst}
-use mathlib.Core.Bool.{Bool}
+use mathlib.Core.Bool.{Bool, true, false}
 use mathlib.Core.List.{List, [], _∷_, _++_, map, zipWith, append-assoc, List·Memᴰ, List·Memᴰ·head, List·Memᴰ·tail, List·Memᴰ·not-nil, List·Memᴰ·cases-cons, Memᴰ·append-right}
 use mathlib.Core.Logic.{_⊎_, inl, inr, _≢_}
 use Prim.Native.Nat.{ℕ, zero, suc, _+_, _-_, _*_, _≤_, _<_, min, zero-le}
@@ -79,6 +79,17 @@ module _ {A : Type 0} where
   all-keep P f (x ∷ xs) h =
       cond-case (All (λ (x : A). P x × T (f x))) (f x) (λ t. ((h .0, t), all-keep P f xs (h .1))) (λ t. all-keep P f xs (h .1))
 
+  -- where every element passes, or none does
+  pub keep-all : (f : A → Bool) (xs : List A) → All (λ (x : A). f x ≡ true) xs → keep f xs ≡ xs
+  unfolding keep All
+  keep-all f [] h = refl
+  keep-all f (x ∷ xs) h = rw (h .0) (ap (λ l. x ∷ l) (keep-all f xs (h .1)))
+
+  pub keep-none : (f : A → Bool) (xs : List A) → All (λ (x : A). f x ≡ false) xs → keep f xs ≡ []
+  unfolding keep All
+  keep-none f [] h = refl
+  keep-none f (x ∷ xs) h = rw (h .0) (keep-none f xs (h .1))
+
   -- ---- distinct elements
 
   pub distinct-front : (xs ys : List A) → Distinct (xs ++ ys) → Distinct xs
@@ -133,6 +144,12 @@ module _ {A : Type 0} where
       go (inr l) ih =
           let e : n ≡ i = omega arith in
           getD-at (tab n f) (f n) [] d i (length-tab n f ∙ e) ∙ ap f e
+
+  -- the first element apart
+  pub tab-first : (n : ℕ) (f : ℕ → A) → tab (suc n) f ≡ f 0 ∷ tab n (λ i. f (suc i))
+  unfolding tab
+  tab-first zero f = refl
+  tab-first (suc n) f = ap (λ l. l ++ f (suc n) ∷ []) (tab-first n f)
 
   -- lists tabulated by functions that agree
   pub tab-same : (n : ℕ) (f g : ℕ → A) → ((i : ℕ) → i < n → f i ≡ g i) → tab n f ≡ tab n g

@@ -1,13 +1,21 @@
--- Two lists related element by element: cutting, keeping and mapping both leaves them so. By induction on the lists. Assumes nothing.
-use mathlib.Core.Path.{_≡_, refl, ap₂}
+-- Two lists related element by element: they are equally long, and cutting, keeping and mapping both leaves them so. By induction on the lists. Assumes
+-- nothing.
+use mathlib.Core.Path.{_≡_, refl, ap, ap₂}
 use mathlib.Core.Bool.{Bool, true, false, cond}
 use mathlib.Core.List.{List, [], _∷_, map}
 use Prim.Native.Nat.{ℕ, zero, suc}
-use lib.ListN.{take, drop}
+use lib.ListN.{length, take, drop}
 use Rattle.laws.specs.Lists.{All, keep}
 use Rattle.laws.specs.Pairs.{Paired}
 
 module _ {A B : Type 0} (R : A → B → Type 0) where
+  pub paired-length : (xs : List A) (ys : List B) → Paired R xs ys → length xs ≡ length ys
+  unfolding Paired
+  paired-length [] [] h = refl
+  paired-length [] (y ∷ ys) h = absurd h
+  paired-length (x ∷ xs) [] h = absurd h
+  paired-length (x ∷ xs) (y ∷ ys) h = ap suc (paired-length xs ys (h .1))
+
   pub paired-take : (n : ℕ) (xs : List A) (ys : List B) → Paired R xs ys → Paired R (take n xs) (take n ys)
   unfolding Paired
   paired-take zero xs ys h = tt

@@ -2,7 +2,7 @@
 use mathlib.Core.Path.{refl}
 use Rattle.laws.specs.Lists.{All}
 use Rattle.machine.specs.Rows.{Holds}
-use Rattle.machine.specs.Table.{marked, markedRuns, queueRows, goodBooks, truncatedBooks, unknownCommands, misplacedBooks, outOfRangeBooks, tooManyTiedOrFree, firstFaults, codecRows, recordRows, lentRows, hookRows, table}
+use Rattle.machine.specs.Table.{marked, markedRuns, queueRows, cleanRows, goodBooks, truncatedBooks, unknownCommands, misplacedBooks, outOfRangeBooks, tooManyTiedOrFree, firstFaults, codecRows, recordRows, lentRows, hookRows, table}
 use Rattle.machine.proofs.Computing.{computing}
 
 marked-holds : All Holds marked
@@ -16,6 +16,10 @@ marked-runs-holds = (refl, (refl, (refl, (refl, (refl, (refl, (refl, (refl, (ref
 queue-rows-holds : All Holds queueRows
 unfolding computing
 queue-rows-holds = (refl, (refl, (refl, (refl, tt))))
+
+clean-rows-holds : All Holds cleanRows
+unfolding computing
+clean-rows-holds = (refl, (refl, (refl, (refl, (refl, (refl, (refl, (refl, (refl, (refl, (refl, tt)))))))))))
 
 good-books-holds : All Holds goodBooks
 unfolding computing
@@ -64,4 +68,4 @@ hook-rows-holds = (refl, (refl, (refl, (refl, (refl, tt)))))
 -- the whole table
 pub table-holds : All (All Holds) table
 unfolding All table
-table-holds = (marked-holds, (marked-runs-holds, (queue-rows-holds, (good-books-holds, (truncated-books-holds, (unknown-commands-holds, (misplaced-books-holds, (out-of-range-books-holds, (too-many-tied-or-free-holds, (first-faults-holds, (codec-rows-holds, (record-rows-holds, (lent-rows-holds, (hook-rows-holds, tt))))))))))))))
+table-holds = (marked-holds, (marked-runs-holds, (queue-rows-holds, (clean-rows-holds, (good-books-holds, (truncated-books-holds, (unknown-commands-holds, (misplaced-books-holds, (out-of-range-books-holds, (too-many-tied-or-free-holds, (first-faults-holds, (codec-rows-holds, (record-rows-holds, (lent-rows-holds, (hook-rows-holds, tt)))))))))))))))

@@ -70,6 +70,13 @@ tiedBook = size 2 ++ (zeros 1 ++ (frees 1 ++ (tie 1 ++ (frees 1 ++ (block 2 0 ++
 unfoldable pub flatBook : ℕ → ℕ → ℕ → ℕ → List ℕ
 flatBook a b c d = size 2 ++ (frees 4 ++ (block 0 a ++ (block 0 b ++ (block 0 c ++ (block 0 d ++ end)))))
 
+-- the same with two blocks of two indices, and with index 3 zero and no bias
+unfoldable pub pairBook : ℕ → ℕ → List ℕ
+pairBook a b = size 2 ++ (frees 4 ++ (block 1 a ++ (block 1 b ++ end)))
+
+unfoldable pub lastZeroBook : List ℕ
+lastZeroBook = size 2 ++ (frees 3 ++ (zeros 1 ++ (times 4 (block 0 0) ++ end)))
+
 -- m = 2, all free, one block
 unfoldable pub oneBlock : List ℕ
 oneBlock = size 2 ++ (frees 4 ++ (block 2 0 ++ end))
@@ -93,6 +100,10 @@ unfoldable pub hookValues : List ℤ
 hookValues =
     pos 44 ∷ pos 746 ∷ pos 719 ∷ pos 282 ∷ pos 563 ∷ pos 978 ∷ pos 606 ∷ negℤ (pos 12) ∷ negℤ (pos 64) ∷ pos 938 ∷ pos 1087 ∷ pos 1300
     ∷ pos 1343 ∷ pos 943 ∷ pos 202 ∷ pos 1320 ∷ []
+
+-- values of all magnitudes with the signs of the word 1011
+unfoldable pub cleanValues : List ℤ
+cleanValues = negℤ (pos 5) ∷ pos 3 ∷ negℤ (pos 1) ∷ negℤ (pos 2047) ∷ []
 
 -- buffers of these lengths, filled with sevens: word, data, workspace numbers and bytes, walk
 unfoldable pub room : ℕ → ℕ → ℕ → ℕ → ℕ → Lent
@@ -204,6 +215,25 @@ queueRows =
     ∷ step 1 2 (negℤ (pos 10)) [] (2 ∷ 3 ∷ []) ∷ step 0 3 (negℤ (pos 20)) [] [] ∷ step 1 3 (negℤ (pos 20)) [] (4 ∷ 5 ∷ []) ∷ step 0 4 (negℤ (pos 30)) [] [] ∷ [])
     ∷ ranks oneBlock (replicate 4 (pos 0)) (0 ∷ 1 ∷ 2 ∷ 3 ∷ 4 ∷ [])
     ∷ ranks oneBlock (pos 1 ∷ pos 1 ∷ negℤ (pos 2) ∷ pos 1 ∷ []) (4 ∷ 5 ∷ 6 ∷ 12 ∷ 0 ∷ 7 ∷ 13 ∷ 14 ∷ 1 ∷ [])
+    ∷ []
+
+-- Document 02's first request, and what its conditions are for. Where biases never rise and no value is 0, path 0 alone is taken, once with each number of blocks; its
+-- copies are outrun at L 1, and crowded out at D 2; k may be 0. Where a bias rises by 2 there is an extraction more, or, at D 2, path 0 is crowded out and the word
+-- lost. With one value 0 there are extractions more, or, at L 1, the word is lost.
+unfoldable pub cleanRows : List Row
+cleanRows =
+    walks (given (flatBook 3 2 2 0) 2 8 0 cleanValues)
+    (step 0 0 (pos 0) [] [] ∷ step 0 1 (negℤ (pos 3)) [] [] ∷ step 0 2 (negℤ (pos 2)) [] [] ∷ step 0 3 (negℤ (pos 2)) [] [] ∷ step 0 4 (pos 0) [] [] ∷ [])
+    ∷ decodes (given (flatBook 3 2 2 0) 2 8 0 cleanValues) flatRoom (gave (counts 5 0 0 0) (toBits 4 0b1011) (toBits 4 0b1101))
+    ∷ decodes (given (flatBook 3 2 2 0) 1 8 0 cleanValues) flatRoom (gave (counts 5 0 3 0) (toBits 4 0b1011) (toBits 4 0b1101))
+    ∷ decodes (given (flatBook 3 2 2 0) 2 2 0 cleanValues) flatRoom (gave (counts 5 2 0 0) (toBits 4 0b1011) (toBits 4 0b1101))
+    ∷ decodes (given (pairBook 2 0) 2 2 0 cleanValues) flatRoom (gave (counts 3 0 0 0) (toBits 4 0b1011) (toBits 4 0b1101))
+    ∷ decodes (given (size 2 ++ (zeros 4 ++ (block 2 5 ++ end))) 1 2 0 (replicate 4 (pos 1))) (room 4 0 80 16 2) (gave (counts 2 0 0 0) (replicate 4 0) [])
+    ∷ decodes (given (flatBook 0 2 2 2) 2 8 0 cleanValues) flatRoom (gave (counts 6 0 0 0) (toBits 4 0b1011) (toBits 4 0b1101))
+    ∷ decodes (given (pairBook 0 2) 2 2 0 cleanValues) flatRoom (keptBack 10 (counts 4 1 1 1) flatRoom)
+    ∷ decodes (given lastZeroBook 2 8 0 (negℤ (pos 1) ∷ replicate 3 (pos 1))) (room 4 3 320 64 9) (gave (counts 5 0 0 0) (toBits 4 0b1000) (toBits 3 0b100))
+    ∷ decodes (given lastZeroBook 2 8 0 (negℤ (pos 1) ∷ pos 1 ∷ pos 1 ∷ pos 0 ∷ [])) (room 4 3 320 64 9) (gave (counts 8 0 4 0) (toBits 4 0b1000) (toBits 3 0b100))
+    ∷ decodes (given lastZeroBook 1 8 0 (negℤ (pos 1) ∷ pos 1 ∷ pos 1 ∷ pos 0 ∷ [])) (room 4 3 320 64 9) (keptBack 10 (counts 5 0 3 3) (room 4 3 320 64 9))
     ∷ []
 
 -- books that load, at the limits: bias, 8 free, 32 ties, a term after the tie that fills the last index
@@ -391,6 +421,7 @@ table =
     marked
     ∷ markedRuns
     ∷ queueRows
+    ∷ cleanRows
     ∷ goodBooks
     ∷ truncatedBooks
     ∷ unknownCommands

@@ -1,5 +1,6 @@
 pub mod Blocks
 pub mod Words
+pub mod Shown
 pub mod Rows
 pub mod Numbers
 pub mod Parities

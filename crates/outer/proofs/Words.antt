@@ -89,7 +89,7 @@ module _ (B : Book) (ys : List ℤ) (u : List ℕ) (b : ℕ) where
     filled-after w = subst (λ (n : ℕ). After u n (filled B u b w)) (o .size) (fill-after u (kindsOf B b) _ bu (toBits-bits _ w))
 
     module _ (vs : List ℤ) (hv : vs ≡ node (B .m - blockAt B b .j) (B .m) ys u (startOf (B .blocks) b)) where
-      setting-matches : (w : ℕ) → Matches (setting B ys u b w) (wordOf B vs (paritiesOf B u) b w)
+      pub setting-matches : (w : ℕ) → Matches (setting B ys u b w) (wordOf B vs (paritiesOf B u) b w)
       unfolding setting wordOf rank
       setting-matches w =
           let j : ℕ = blockAt B b .j in

@@ -4,6 +4,7 @@ pub mod Matrix
 pub mod Soft
 pub mod Value
 pub mod Node
+pub mod Shown
 pub mod Ranges
 pub mod Writes
 pub mod Stages

@@ -28,7 +28,8 @@ use Rattle.codec.proofs.Fill.{After}
 use Rattle.codec.proofs.Ties.{filled-take}
 use Rattle.machine.specs.Words as MW
 use Rattle.machine.specs.Words.{Ranked}
-use Rattle.runs.proofs.Steps.{Found, first-may, nearest-found}
+use Rattle.runs.proofs.Choice.{Found, first-may}
+use Rattle.runs.proofs.Steps.{nearest-found}
 use Rattle.outer.specs.Words.{Word, wordOf, nearer, nearestWith, nearest, nextAfter}
 use Rattle.outer.proofs.Blocks.{placed}
 use Rattle.outer.proofs.Words.{Matches, filled-after}
@@ -46,14 +47,14 @@ use Rattle.reader.proofs.Reached.{Headed, reached-headed}
 module _ (test : Word → Bool) (B : Book) (vs : List ℤ) (x : Parities) (b : ℕ) (y : Word) (e : nearestWith test B vs x b ≡ some y) where
   pub word-made : y ≡ wordOf B vs x b (y .setting)
   unfolding nearestWith wordOf May
-  word-made = subst (May Made) e (first-may Made nearer test (wordOf B vs x b) (2 ^ freeCount (kindsOf B b)) (λ w _. refl))
+  word-made = subst (May Made) e (first-may nearer test (wordOf B vs x b) Made (2 ^ freeCount (kindsOf B b)) (λ w _ _. refl))
     where
       Made : Word → Type 0
       Made z = z ≡ wordOf B vs x b (z .setting)
 
   pub made-few : y .setting < 2 ^ freeCount (kindsOf B b)
   unfolding nearestWith wordOf May
-  made-few = subst (May Few) e (first-may Few nearer test (wordOf B vs x b) (2 ^ freeCount (kindsOf B b)) (λ w l. l))
+  made-few = subst (May Few) e (first-may nearer test (wordOf B vs x b) Few (2 ^ freeCount (kindsOf B b)) (λ w l _. l))
     where
       Few : Word → Type 0
       Few z = z .setting < 2 ^ freeCount (kindsOf B b)

@@ -33,7 +33,7 @@ pub visit-same : (visits : List ℕ) (b : ℕ) → b < length visits → getD (v
 unfolding visit
 visit-same visits b h = getD-set-same visits b (suc (getD visits b 0)) 0 h
 
-visit-other : (visits : List ℕ) (b i : ℕ) → i ≢ b → getD (visit visits b) i 0 ≡ getD visits i 0
+pub visit-other : (visits : List ℕ) (b i : ℕ) → i ≢ b → getD (visit visits b) i 0 ≡ getD visits i 0
 unfolding visit
 visit-other visits b i h = getD-set-other visits b i (suc (getD visits b 0)) 0 h
 

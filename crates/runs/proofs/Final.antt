@@ -30,7 +30,8 @@ use Rattle.machine.specs.Words.{Ranked, nearer, rank, setting, nearestWith, nea
 use Rattle.machine.specs.Machine.{Path, State, path, emptyPath, copyWith, copyOf, advanceWith, advance, extract, runOf}
 use Rattle.machine.specs.Calls.{finalOf}
 use Rattle.runs.specs.Runs.{stateOf, firstState, Ended, Exact}
-use Rattle.runs.proofs.Steps.{first-may, all-extract}
+use Rattle.runs.proofs.Choice.{first-may}
+use Rattle.runs.proofs.Steps.{all-extract}
 use Rattle.runs.proofs.States.{run-final}
 use Rattle.runs.proofs.Ends.{run-ends}
 
@@ -97,7 +98,7 @@ module _ (B : Book) (ok : Valid B) where
 
   nearest-fits : (test : Ranked → Bool) (ys : List ℤ) (u : List ℕ) (b : ℕ) → b < length (B .blocks) → Fills B (startOf (B .blocks) b) u → May (Word b) (nearestWith test B ys u b)
   unfolding nearestWith
-  nearest-fits test ys u b l f = first-may (Word b) nearer test (setting B ys u b) _ (λ w _. setting-fits ys u b w l f)
+  nearest-fits test ys u b l f = first-may nearer test (setting B ys u b) (Word b) _ (λ w _ _. setting-fits ys u b w l f)
 
   next-fits : (ys : List ℤ) (u : List ℕ) (b : ℕ) → b < length (B .blocks) → Fills B (startOf (B .blocks) (suc b)) u → May (Word b) (nextAfter B ys u b)
   unfolding nextAfter

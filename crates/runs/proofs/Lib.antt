@@ -1,3 +1,4 @@
+pub mod Choice
 pub mod Order
 pub mod States
 pub mod Steps

@@ -1,58 +1,28 @@
 -- What one extraction does to the queue: what holds of the queued paths, of the copy and of the path with its next block holds of the queue
 -- afterwards; and how many blocks those two have. Assumes nothing.
 use mathlib.Core.Path.{_≡_, refl}
-use mathlib.Core.Bool.{Bool, true, false}
+use mathlib.Core.Bool.{true}
 use mathlib.Core.List.{List}
 use mathlib.Core.Option.{Option, none, some}
-use Prim.Native.Nat.{ℕ, zero, suc, _-_, _<_}
-use native.Mathlib.Nat.{lt-irrefl}
-use native.Mathlib.Omega.{arith}
+use Prim.Native.Nat.{ℕ, zero, suc, _-_}
 use lib.Pow.{pow-pos}
 use lib.ListN.{take}
 use lib.IntN.{ℤ}
 use Rattle.laws.specs.Lists.{All, May}
-use Rattle.laws.proofs.Tests.{cond-case}
 use Rattle.laws.proofs.Lists.{all-take}
 use Rattle.codebook.specs.Book.{Book}
 use Rattle.queue.specs.Queue.{roomFor}
-use Rattle.machine.specs.Choice.{choose, firstOf}
 use Rattle.machine.specs.Words.{Ranked, nearer, nearestWith, nearest}
 use Rattle.machine.specs.Machine.{Path, keyOf, path, copyWith, copyOf, cut, advanceWith, advance, extract}
+use Rattle.runs.proofs.Choice.{Found, first-found}
 use Rattle.runs.proofs.Order.{all-insert, all-staying}
 
 -- ---- words that are found
 
--- what is chosen is one of those tried, in any order
-pub first-may : {A : Type 0} (P : A → Type 0) (order : A → A → Bool) (test : A → Bool) (word : ℕ → A) (n : ℕ) → ((w : ℕ) → w < n → P (word w)) → May P (firstOf order test word n)
-unfolding firstOf May choose
-first-may P order test word zero h = tt
-first-may {A} P order test word (suc n) h = go (test (word n)) (firstOf order test word n) (first-may P order test word n (λ w l. h w (omega arith)))
-  where
-    go : (b : Bool) (o : Option A) → May P o → May P (choose order b (word n) o)
-    go true none k = h n (omega arith)
-    go true (some y) k = cond-case P (order (word n) y) (λ _. h n (omega arith)) (λ _. k)
-    go false none k = tt
-    go false (some y) k = k
-
--- there is one
-unfoldable pub Found : Option Ranked → Type 0
-Found none = ⊥
-Found (some x) = Unit {0}
-
-choose-found : (x : Ranked) (o : Option Ranked) → Found (choose nearer true x o)
-unfolding choose Found
-choose-found x none = tt
-choose-found x (some y) = tt
-
-first-found : (word : ℕ → Ranked) (n : ℕ) → 0 < n → Found (firstOf nearer (λ _. true) word n)
-unfolding firstOf
-first-found word zero h = absurd (lt-irrefl 0 h)
-first-found word (suc n) h = choose-found (word n) _
-
 -- a block always has a nearest word
 pub nearest-found : (B : Book) (ys : List ℤ) (u : List ℕ) (b : ℕ) → Found (nearest B ys u b)
 unfolding nearest nearestWith
-nearest-found B ys u b = first-found _ _ (pow-pos _)
+nearest-found B ys u b = first-found nearer (λ _. true) _ _ 0 (pow-pos _) tt
 
 -- ---- the blocks of a copy, and of a path with its next block
 

@@ -1,13 +1,13 @@
 -- How many paths and slots there are: a path for each entry, and N entries and vacant slots together, each slot once. By
 -- induction on the queue. Assumes nothing.
-use mathlib.Core.Path.{_≡_, refl, ap}
-use mathlib.Core.List.{List, [], _∷_, map}
+use mathlib.Core.Path.{_≡_}
+use mathlib.Core.List.{List, _∷_, map}
 use mathlib.Core.Logic.{_≢_}
 use Prim.Native.Nat.{ℕ, suc, _+_, _<_}
 use native.Mathlib.Omega.{arith}
 use lib.ListN.{length}
 use Rattle.laws.specs.Lists.{All, Distinct}
-use Rattle.laws.specs.Pairs.{Paired}
+use Rattle.laws.proofs.Pairs.{paired-length}
 use Rattle.codebook.specs.Book.{Book}
 use Rattle.reader.specs.Arrays.{Arrays}
 use Rattle.reader.specs.Paths.{Path}
@@ -15,17 +15,6 @@ use Rattle.order.specs.Entries.{slotAt}
 use Rattle.standing.specs.Seen.{Memory}
 use Rattle.standing.specs.Standing.{EntryOf, Stands}
 use Rattle.standing.proofs.Slots.{all-forward}
-
--- ---- paired lists
-
-paired-length : {A B : Type 0} (R : A → B → Type 0) (xs : List A) (ys : List B) → Paired R xs ys → length xs ≡ length ys
-unfolding Paired
-paired-length R [] [] h = refl
-paired-length R [] (y ∷ ys) h = absurd h
-paired-length R (x ∷ xs) [] h = absurd h
-paired-length R (x ∷ xs) (y ∷ ys) h = ap suc (paired-length R xs ys (h .1))
-
--- ---- the queue
 
 pub stands-length : {B : Book} {N : ℕ} {x : Memory} {es vs : List ℕ} {A : Arrays} {ps : List Path} → Stands B N x es vs A ps → length es ≡ length ps
 stands-length {B} {x} {es} {ps} st = paired-length (EntryOf B (x .rows)) es ps (st .queue)
