@@ -5,9 +5,9 @@ use Prim.Native.Nat.{ℕ, zero, suc, _+_, _≤_, _<_}
 use mathlib.Core.Logic.{_⊎_, inl, inr}
 use native.Mathlib.Nat.{le-antisymm, lt-irrefl}
 use native.Mathlib.Omega.{arith}
-use lib.IntN.{ℤ, pos, negsuc, negℤ, natAbs, subℕ, _+ℤ_}
-use lib.Signed.{ltZ}
-use lib.Dec.{T, ltb, ltb→lt, lt→ltb, nltb→le}
+use lib.IntN.{ℤ, pos, negsuc, negℤ, natAbs, subℕ, _+ℤ_, _-ℤ_}
+use lib.Signed.{ltZ, leZ, _≤ℤ_, _<ℤ_, leZ-yes, ltZ-yes}
+use lib.Dec.{T, ltb, ltb→lt, lt→ltb, leb→le, le→leb, nltb→le}
 use borrow.Author.Tests.{lt-ltb, le-ltb}
 use Rattle.laws.proofs.Tests.{cond-case, lt-or}
 
@@ -40,6 +40,29 @@ neg-ltZ (suc a) (suc b) = go (lt-or a b)
     go : (a < b) ⊎ (b ≤ a) → ltb a b ≡ ltb (suc a) (suc b)
     go (inl l) = lt-ltb a b l ∙ sym (lt-ltb (suc a) (suc b) (omega arith))
     go (inr l) = le-ltb a b l ∙ sym (le-ltb (suc a) (suc b) (omega arith))
+
+pub neg-≤ℤ : {a b : ℤ} → a ≤ℤ b → negℤ b ≤ℤ negℤ a
+neg-≤ℤ {a} {b} h = leZ-yes (go a b (h .le))
+  where
+    go : (a b : ℤ) → T (leZ a b) → T (leZ (negℤ b) (negℤ a))
+    go (pos zero) (pos zero) t = t
+    go (pos zero) (pos (suc b)) t = tt
+    go (pos zero) (negsuc b) t = absurd t
+    go (pos (suc a)) (pos zero) t = absurd (omega (arith, leb→le (suc a) 0 t))
+    go (pos (suc a)) (pos (suc b)) t = le→leb a b (omega (arith, leb→le (suc a) (suc b) t))
+    go (pos (suc a)) (negsuc b) t = absurd t
+    go (negsuc a) (pos zero) t = le→leb 0 (suc a) (omega arith)
+    go (negsuc a) (pos (suc b)) t = tt
+    go (negsuc a) (negsuc b) t = le→leb (suc b) (suc a) (omega (arith, leb→le b a t))
+
+-- a number below 0, less z, is below minus z
+pub less-below : (k : ℕ) (z : ℤ) → (negsuc k -ℤ z) <ℤ negℤ z
+less-below k z = ltZ-yes (go z)
+  where
+    go : (z : ℤ) → T (ltZ (negsuc k -ℤ z) (negℤ z))
+    go (pos zero) = cond-case (λ (y : ℤ). T (ltZ y (pos 0))) (ltb 0 (suc k)) (λ t. tt) (λ t. absurd (omega (arith, nltb→le 0 (suc k) t)))
+    go (pos (suc n)) = lt→ltb n (suc (k + n)) (omega arith)
+    go (negsuc n) = cond-case (λ (y : ℤ). T (ltZ y (pos (suc n)))) (ltb (suc n) (suc k)) (λ t. tt) (λ t. lt→ltb _ (suc n) (omega arith))
 
 -- ---- magnitudes
 

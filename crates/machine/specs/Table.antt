@@ -217,9 +217,9 @@ queueRows =
     ∷ ranks oneBlock (pos 1 ∷ pos 1 ∷ negℤ (pos 2) ∷ pos 1 ∷ []) (4 ∷ 5 ∷ 6 ∷ 12 ∷ 0 ∷ 7 ∷ 13 ∷ 14 ∷ 1 ∷ [])
     ∷ []
 
--- Document 02's first request, and what its conditions are for. Where biases never rise and no value is 0, path 0 alone is taken, once with each number of blocks; its
--- copies are outrun at L 1, and crowded out at D 2; k may be 0. Where a bias rises by 2 there is an extraction more, or, at D 2, path 0 is crowded out and the word
--- lost. With one value 0 there are extractions more, or, at L 1, the word is lost.
+-- Document 02's first request, and what its conditions are for. Where biases never rise and no value is 0, path 0 alone is taken, once with each number of blocks, and k
+-- may be 0; its copies are outrun at L 1 and crowded out at D 2. With a bias that rises by 2 the same values take 6 extractions instead of 5, and at D 2 path 0 is crowded
+-- out and the word lost. With one value 0 it takes 8 instead of 5, and at L 1 the word is lost.
 unfoldable pub cleanRows : List Row
 cleanRows =
     walks (given (flatBook 3 2 2 0) 2 8 0 cleanValues)

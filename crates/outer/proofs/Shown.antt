@@ -22,7 +22,7 @@ use Rattle.polar.specs.Soft.{discrepancy}
 use Rattle.polar.specs.Shown.{Shows}
 use Rattle.polar.specs.Node.{node}
 use Rattle.polar.proofs.Bits.{toBits-bits, toBits-length}
-use Rattle.polar.proofs.Transform.{transform-length, transform-bits, transform-twice}
+use Rattle.polar.proofs.Transform.{transform-length, transform-twice}
 use Rattle.polar.proofs.Shown.{shown-costs, shown-only, node-shown}
 use Rattle.codebook.specs.Book.{Book, Kind, freeCount, startOf, blockAt, kindsOf}
 use Rattle.codebook.specs.Limits.{KindsOk, Valid}

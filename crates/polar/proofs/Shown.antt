@@ -36,7 +36,7 @@ shows-of : (v : ℕ) (s : ℤ) → 0 < natAbs s → cost v s ≡ 0 → Shows v s
 shows-of v s h e = go (ℕ-discrete v (hard s))
   where
     go : Dec (v ≡ hard s) → Shows v s
-    go (yes q) = record { some = h; sign = q }
+    go (yes q) = record { some = omega arith; sign = q }
     go (no q) = absurd (omega (arith, cost-other v s q))
 
 -- the word that the values show costs nothing
@@ -54,7 +54,7 @@ shown-only [] (d ∷ ds) ys p l e = absurd (omega arith)
 shown-only (c ∷ cs) [] ys p l e = absurd (omega arith)
 shown-only (c ∷ cs) (d ∷ ds) [] p l e = absurd p
 shown-only (c ∷ cs) (d ∷ ds) (y ∷ ys) p l e =
-    ap₂ (λ (x : ℕ) (xs : List ℕ). x ∷ xs) (shows-of d y (p .0 .some) (omega arith) .sign ∙ sym (p .0 .sign)) (shown-only cs ds ys (p .1) (omega arith) (omega arith))
+    ap₂ (λ (x : ℕ) (xs : List ℕ). x ∷ xs) (shows-of d y (omega (arith, p .0 .some)) (omega arith) .sign ∙ sym (p .0 .sign)) (shown-only cs ds ys (p .1) (omega arith) (omega arith))
 
 -- ---- one step down
 
