@@ -129,7 +129,7 @@ module _ (B : Book) (c : Input) (l : Lent) (w : List ℕ) (clean : Clean B (c .v
   hook-steps-clean m old f = (rw f (hook-clean m), records-clean true m old f)
 
   pub step-clean : Made true c l B → (t : ℕ) → plainStep c l t ≡ cleanStep B c l w t
-  unfolding plainStep cleanStep cleanPlain nthRecord fitsFor
+  unfolding plainStep cleanStep nthRecord fitsFor
   step-clean m t =
       let p = plain-clean m in
       let s : nthRecord (stepsOf false c l) t ≡ getD (cleanWalk B) t blank =
@@ -138,9 +138,9 @@ module _ (B : Book) (c : Input) (l : Lent) (w : List ℕ) (clean : Clean B (c .v
 
   -- C's calls, with slices of 4 entries for counts and record
   pub plain-answered-clean : Made true c l B → (counts : List ℕ) → length counts ≡ 4 → plainAnswered c l counts ≡ cleanPlainAnswered B c l w
-  unfolding plainAnswered cleanPlainAnswered cleanPlain
+  unfolding plainAnswered cleanPlainAnswered
   plain-answered-clean m counts e = rw (eq-eqb (length counts) 4 e, plain-clean m) refl
 
   pub hook-answered-clean : Made (holds32 B) c l B → (counts hook : List ℕ) → length counts ≡ 4 → length hook ≡ 4 → hookAnswered c l counts hook ≡ cleanHookAnswered B c l w
-  unfolding hookAnswered cleanHookAnswered cleanHook
+  unfolding hookAnswered cleanHookAnswered
   hook-answered-clean m counts hook e f = rw (eq-eqb (length counts) 4 e, eq-eqb (length hook) 4 f, hook-clean m) refl

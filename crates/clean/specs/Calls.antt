@@ -59,27 +59,24 @@ cleanRecords B old = over (cleanWalk B) old
 -- the plain call with the record of extraction t, zeros where there is none
 unfoldable pub cleanStep : Book → Input → Lent → List ℕ → ℕ → Called StepDecoded
 cleanStep B i l c t =
+    let w = cleanPlain B i l c in
     record {
-      answer = record { outcome = Done; counts = cleanCounts B (i .L) (i .D); step = getD (cleanWalk B) t blank };
-      lent = cleanLent B i l c true;
+      answer = record { outcome = w .answer .outcome; counts = w .answer .counts; step = getD (cleanWalk B) t blank };
+      lent = w .lent;
     }
 
 -- C's calls: the same, with the outcome as its number, and counts and record as slices
 unfoldable pub cleanPlainAnswered : Book → Input → Lent → List ℕ → Answered
 cleanPlainAnswered B i l c =
-    record {
-      number = 0;
-      lent = cleanLent B i l c true;
-      counts = countsSlice (cleanCounts B (i .L) (i .D));
-      hook = [];
-    }
+    let w = cleanPlain B i l c in
+    record { number = outcomeNumber (w .answer .outcome); lent = w .lent; counts = countsSlice (w .answer .counts); hook = [] }
 
 unfoldable pub cleanHookAnswered : Book → Input → Lent → List ℕ → Answered
 cleanHookAnswered B i l c =
-    let read = recordRead (readRecord (readData B c)) in
+    let w = cleanHook B i l c in
     record {
-      number = outcomeNumber (read .outcome);
-      lent = cleanLent B i l c (isDone (read .outcome));
-      counts = countsSlice (cleanCounts B (i .L) (i .D));
-      hook = recordSlice (read .hook);
+      number = outcomeNumber (w .answer .outcome);
+      lent = w .lent;
+      counts = countsSlice (w .answer .counts);
+      hook = recordSlice (w .answer .hook);
     }
