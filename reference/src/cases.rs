@@ -126,7 +126,6 @@ impl Maker {
         let values = values(rng, draft);
         let t = self.limit(rng, &book, l, d, &values);
         let (numbers, bytes) = workspace_size(n, d);
-        let more = |rng: &mut Rng| if rng.one_in(4) { rng.below(9) } else { 0 };
         let walk = walk_size(l, v);
         let sizes = Sizes {
             word: n,
@@ -197,6 +196,15 @@ fn bounds(rng: &mut Rng, m: u8, rare: bool) -> Bounds {
     Bounds {
         free: if rng.one_in(3) { rng.below(9) } else { 8 }.max(1),
         words: words.max(2),
+    }
+}
+
+/// Entries of a lent buffer beyond those asked: mostly none.
+pub fn more(rng: &mut Rng) -> usize {
+    if rng.one_in(4) {
+        rng.below(9)
+    } else {
+        0
     }
 }
 

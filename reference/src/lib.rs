@@ -11,6 +11,7 @@ pub mod answer;
 pub mod book;
 pub mod calls;
 pub mod cases;
+pub mod clean;
 pub mod code;
 pub mod compare;
 pub mod damage;

@@ -1,10 +1,12 @@
 //! Writes the recorded cases: the streams for each kind of call, made from a
 //! seed, and the expected outputs, which both readers must print alike.
 
-use crate::answer::Reader;
-use crate::book;
+use crate::answer::{Input, Reader};
+use crate::book::{self, Role};
 use crate::calls::{walk_size, workspace_size, Fast};
-use crate::cases::{Case, Maker, Sizes};
+use crate::cases::{more, Case, Maker, Sizes};
+use crate::clean::{self, Hook};
+use crate::compare::Buffers;
 use crate::damage;
 use crate::design::{self, block_command, index_command, Bounds, Draft};
 use crate::model::Plain;
@@ -49,9 +51,10 @@ pub fn inputs(seed: u64) -> Vec<Recorded> {
         file("codec", codec(&mut Rng::of_case(seed, 2))),
         file("records", records(&mut Rng::of_case(seed, 3))),
         file("decode", decodes(&mut Rng::of_case(seed, 4))),
+        file("clean", clean(&mut Rng::of_case(seed, 6))),
         file("walk", walks(&mut Rng::of_case(seed, 5))),
     ];
-    files.push(file("vectors", joined(&files[1..4])));
+    files.push(file("vectors", joined(&files[1..5])));
     files
 }
 
@@ -355,6 +358,137 @@ fn decodes(rng: &mut Rng) -> Stream {
         }
     }
     large(rng, &mut maker, &mut out);
+    out.byte(op::END);
+    out
+}
+
+/// A random book with falling biases and data to hold, not too long.
+fn falling_book(rng: &mut Rng, m: u8, records: bool) -> Vec<u8> {
+    let most = if m < 9 { 900 } else { 1500 };
+    loop {
+        let draft = clean::falling(rng, m, records);
+        let book = draft.bytes(rng);
+        if draft.k() > 0 && book.len() <= most {
+            return book;
+        }
+    }
+}
+
+/// A random book with falling biases and k = 0.
+fn empty_book(rng: &mut Rng, m: u8) -> Vec<u8> {
+    let mut draft = clean::falling(rng, m, false);
+    let free = |role: &&mut Role| **role == Role::Free;
+    draft
+        .roles
+        .iter_mut()
+        .filter(free)
+        .for_each(|role| *role = Role::Zero);
+    draft.bytes(rng)
+}
+
+/// A hook with a decoding call for it, plain or hook.
+fn hung(rng: &mut Rng, maker: &mut Maker, hook: Hook, call: bool) -> (Hook, Case) {
+    let raw = clean::random_raw(rng);
+    let values = clean::random_values(rng, &hook);
+    let mut case = sound_case(maker, &hook.bytes, raw, values);
+    case.hook = call;
+    case.sizes.numbers += more(rng);
+    case.sizes.bytes += more(rng);
+    case.sizes.walk = case.sizes.walk.map(|length| length + more(rng));
+    (hook, case)
+}
+
+/// Clean hooks: in the plain call, then in the hook call with a record, then
+/// with data that hold none.
+pub fn clean_hooks(rng: &mut Rng) -> Vec<(Hook, Case)> {
+    let mut maker = Maker::default();
+    let mut out = Vec::new();
+    for m in [2, 5] {
+        let hook = Hook::new(empty_book(rng, m), Vec::new());
+        out.push(hung(rng, &mut maker, hook, false));
+    }
+    for (m, count) in (2..=9).zip([10, 16, 22, 14, 12, 8, 5, 3]) {
+        for _ in 0..count {
+            let book = falling_book(rng, m, false);
+            let hook = Hook::random(rng, book);
+            out.push(hung(rng, &mut maker, hook, false));
+        }
+    }
+    for (sound, counts) in [(true, [8, 10, 8, 5, 1]), (false, [6, 8, 6, 5, 1])] {
+        for (m, count) in (5..=9).zip(counts) {
+            for _ in 0..count {
+                let book = falling_book(rng, m, true);
+                let hook = record_hook(rng, book, sound);
+                out.push(hung(rng, &mut maker, hook, true));
+            }
+        }
+    }
+    out
+}
+
+/// The word of a random record, or of data that are no sound one.
+fn record_hook(rng: &mut Rng, book: Vec<u8>, sound: bool) -> Hook {
+    let mut data = clean::record_data(&book, &clean::random_record(rng));
+    if !sound {
+        clean::undo_record(rng, &mut data);
+    }
+    Hook::new(book, data)
+}
+
+/// Whether a call answers otherwise than for a clean hook.
+fn undone(hook: &Hook, case: &Case) -> bool {
+    let mut buffers = Buffers::new(&case.sizes);
+    let input = Input {
+        book: &case.book,
+        raw: case.raw,
+        values: &case.values,
+        hook: case.hook,
+    };
+    let decoded = Fast::default().decode(input, &mut buffers.lend());
+    decoded.counts != hook.counts(case.raw) || buffers.word != hook.word
+}
+
+/// A hook with one bias that rises, or else one value 0.
+fn near_miss(rng: &mut Rng, maker: &mut Maker, rises: bool, records: bool) -> (Hook, Case) {
+    let m = if records { 5 } else { 3 } + rng.below(2) as u8;
+    let book = match rises {
+        true => clean::rising(rng, m, records).bytes(rng),
+        false => falling_book(rng, m, records),
+    };
+    let hook = match records {
+        true => record_hook(rng, book, true),
+        false => Hook::random(rng, book),
+    };
+    let (hook, mut case) = hung(rng, maker, hook, records);
+    if !rises {
+        case.values[rng.below(hook.word.len())] = 0;
+    }
+    (hook, case)
+}
+
+/// Hooks that are not quite clean and so are undone: by turns a bias that
+/// rises and a value 0, one in five in the hook call.
+pub fn near_misses(rng: &mut Rng) -> Vec<(Hook, Case)> {
+    let mut maker = Maker::default();
+    let mut out = Vec::new();
+    while out.len() < 20 {
+        let (rises, records) = (out.len() % 2 == 0, out.len() % 5 == 4);
+        let (hook, case) = near_miss(rng, &mut maker, rises, records);
+        if undone(&hook, &case) {
+            out.push((hook, case));
+        }
+    }
+    out
+}
+
+/// Clean hooks, then near misses.
+fn clean(rng: &mut Rng) -> Stream {
+    let mut out = Stream::default();
+    let hooks = clean_hooks(rng);
+    for (_, case) in hooks.iter().chain(&near_misses(rng)) {
+        out.book(&case.book);
+        out.decode(case);
+    }
     out.byte(op::END);
     out
 }

@@ -4,13 +4,14 @@
 //! A bias that rises, or a value of 0, can undo each part of this.
 
 use reference::answer::{Counts, Decoded, Input, Reader};
-use reference::book::{self, Book, Refusal, Role};
+use reference::book::{Refusal, Role};
 use reference::calls::{walk_size, workspace_size, Fast};
 use reference::cases::Sizes;
+use reference::clean::{falling, random_raw, random_record, random_values};
+use reference::clean::{record_data, undo_record, Hook};
 use reference::compare::Buffers;
-use reference::design::{Bounds, Draft};
-use reference::model::{product, Plain};
-use reference::record::{Record, Status};
+use reference::model::Plain;
+use reference::record::Record;
 use reference::rng::Rng;
 use reference::settings::Raw;
 
@@ -27,168 +28,53 @@ fn readers() -> [Box<dyn Reader>; 3] {
     ]
 }
 
-/// A book with one of its words and the data of that word.
-struct Hook {
-    book: Book,
-    bytes: Vec<u8>,
-    data: Vec<u8>,
-    word: Vec<u8>,
-}
-
-impl Hook {
-    fn new(bytes: Vec<u8>, data: Vec<u8>) -> Hook {
-        let book = book::load(&bytes).expect("a sound book");
-        let word = word_of(&book, &data);
-        Hook {
-            book,
-            bytes,
-            data,
-            word,
-        }
+/// What a clean hook leaves of these buffers.
+fn leave(hook: &Hook, raw: Raw, written: bool, buffers: &mut Buffers) {
+    if written {
+        buffers.word.copy_from_slice(&hook.word);
+        buffers.data.copy_from_slice(&hook.data);
     }
-
-    /// These magnitudes with the signs of the word.
-    fn values(&self, mut magnitude: impl FnMut(usize) -> i16) -> Vec<i16> {
-        let bits = self.word.iter().enumerate();
-        bits.map(|(i, &bit)| {
-            if bit == 0 {
-                magnitude(i)
-            } else {
-                -magnitude(i)
-            }
-        })
-        .collect()
-    }
-
-    /// Blocks but the last one that hold a free index: each leaves one copy.
-    fn copies(&self) -> i32 {
-        let but_last = &self.book.blocks[..self.book.v() - 1];
-        let holds_free =
-            |block: &&book::Block| self.book.free_between(block.start, block.end()) > 0;
-        but_last.iter().filter(holds_free).count() as i32
-    }
-
-    /// What a clean hook counts.
-    fn counts(&self, raw: Raw) -> Counts {
-        let copies = self.copies();
-        let (crowded, outrun) = match raw.l {
-            1 => (0, copies),
-            _ => ((copies - (raw.d as i32 - 1)).max(0), 0),
-        };
-        Counts {
-            extractions: self.book.v() as i32 + 1,
-            crowded,
-            outrun,
-            discrepancy: 0,
-        }
-    }
-
-    /// What a clean hook leaves of these buffers.
-    fn leave(&self, raw: Raw, written: bool, buffers: &mut Buffers) {
-        if written {
-            buffers.word.copy_from_slice(&self.word);
-            buffers.data.copy_from_slice(&self.data);
-        }
-        let (numbers, bytes) = workspace_size(self.book.n(), raw.d as usize);
-        buffers.numbers[..numbers].fill(0);
-        buffers.bytes[..bytes].fill(0);
-        for e in 0..=self.book.v() {
-            let bias = e.checked_sub(1).map_or(0, |b| self.book.blocks[b].bias);
-            buffers.walk[0][e] = 0;
-            buffers.walk[1][e] = e as i32;
-            buffers.walk[2][e] = -bias;
-        }
-    }
-
-    /// Garbage in buffers of the right lengths, `more` beyond where they may
-    /// be longer.
-    fn buffers(&self, raw: Raw, more: usize) -> Buffers {
-        let (numbers, bytes) = workspace_size(self.book.n(), raw.d as usize);
-        Buffers::new(&Sizes {
-            word: self.book.n(),
-            data: self.book.k(),
-            numbers: numbers + more,
-            bytes: bytes + more,
-            walk: [walk_size(raw.l as usize, self.book.v()) + more; 3],
-        })
-    }
-
-    fn decode(&self, reader: &mut dyn Reader, raw: Raw, values: &[i16]) -> (Decoded, Buffers) {
-        let mut buffers = self.buffers(raw, 0);
-        let input = Input {
-            book: &self.bytes,
-            raw,
-            values,
-            hook: false,
-        };
-        (reader.decode(input, &mut buffers.lend()), buffers)
+    let (numbers, bytes) = workspace_size(hook.book.n(), raw.d as usize);
+    buffers.numbers[..numbers].fill(0);
+    buffers.bytes[..bytes].fill(0);
+    for e in 0..=hook.book.v() {
+        let bias = e.checked_sub(1).map_or(0, |b| hook.book.blocks[b].bias);
+        buffers.walk[0][e] = 0;
+        buffers.walk[1][e] = e as i32;
+        buffers.walk[2][e] = -bias;
     }
 }
 
-/// The word of these data, from the definition.
-fn word_of(book: &Book, data: &[u8]) -> Vec<u8> {
-    let mut u: Vec<u8> = Vec::new();
-    let mut data = data.iter();
-    for role in &book.roles {
-        let bit = match role {
-            Role::Free => *data.next().expect("k bits"),
-            Role::Zero => 0,
-            Role::Tied(terms) => terms.iter().fold(0, |s, &t| s ^ u[t as usize]),
-        };
-        u.push(bit);
-    }
-    product(&u)
+/// Garbage in buffers of the right lengths, `more` beyond where they may be
+/// longer.
+fn buffers_for(hook: &Hook, raw: Raw, more: usize) -> Buffers {
+    let (numbers, bytes) = workspace_size(hook.book.n(), raw.d as usize);
+    Buffers::new(&Sizes {
+        word: hook.book.n(),
+        data: hook.book.k(),
+        numbers: numbers + more,
+        bytes: bytes + more,
+        walk: [walk_size(raw.l as usize, hook.book.v()) + more; 3],
+    })
 }
 
-fn random_bits(rng: &mut Rng, count: usize) -> Vec<u8> {
-    (0..count).map(|_| rng.bit()).collect()
-}
-
-/// Settings at, near and between their ends.
-fn random_raw(rng: &mut Rng) -> Raw {
-    let d = rng.between(2, 256) as u32;
-    Raw {
-        l: rng.pick(&[1, 1, 2, 2, 3, 8, 31, 32]),
-        d: rng.pick(&[2, 3, 4, 5, 9, 17, 256, d]),
-        t: rng.pick(&[0, 0, 1, 100, 1_048_576]),
-    }
-}
-
-/// Magnitudes: all least, all most, at the ends, small, or any.
-fn random_magnitude(rng: &mut Rng, style: usize) -> i16 {
-    match style {
-        0 => 1,
-        1 => 2047,
-        2 => rng.pick(&[1, 2047]),
-        3 => rng.between(1, 3) as i16,
-        _ => rng.between(1, 2047) as i16,
-    }
-}
-
-/// A random book with its biases put into falling order.
-fn falling(rng: &mut Rng, m: u8, records: bool) -> Vec<u8> {
-    let free = if m < 7 { 8 } else { 4 + rng.below(3) };
-    let words = if m < 7 { 8192 } else { 512 };
-    let bounds = Bounds { free, words };
-    let mut draft = match records {
-        true => Draft::for_records(rng, m, bounds),
-        false => Draft::random(rng, m, bounds),
+fn decode(reader: &mut dyn Reader, hook: &Hook, raw: Raw, values: &[i16]) -> (Decoded, Buffers) {
+    let mut buffers = buffers_for(hook, raw, 0);
+    let input = Input {
+        book: &hook.bytes,
+        raw,
+        values,
+        hook: false,
     };
-    let mut biases: Vec<i32> = draft.blocks.iter().map(|&(_, bias)| bias).collect();
-    biases.sort_unstable_by(|a, b| b.cmp(a));
-    for (block, bias) in draft.blocks.iter_mut().zip(biases) {
-        block.1 = bias;
-    }
-    draft.bytes(rng)
+    (reader.decode(input, &mut buffers.lend()), buffers)
 }
 
 /// Hangs a clean hook in each reader, and compares all that comes back; with
 /// `record` in the hook call. Returns the counts.
 fn check(rng: &mut Rng, hook: &Hook, record: Option<Result<Record, Refusal>>) -> Counts {
     let raw = random_raw(rng);
-    let style = rng.below(6);
-    let values = hook.values(|_| random_magnitude(rng, style));
-    let before = hook.buffers(raw, rng.below(3));
+    let values = random_values(rng, hook);
+    let before = buffers_for(hook, raw, rng.below(3));
     let answer = record.unwrap_or(Ok(Record::NONE));
     let expected = Decoded {
         refusal: answer.err(),
@@ -196,7 +82,7 @@ fn check(rng: &mut Rng, hook: &Hook, record: Option<Result<Record, Refusal>>) ->
         record: answer.unwrap_or(Record::NONE),
     };
     let mut after = before.clone();
-    hook.leave(raw, answer.is_ok(), &mut after);
+    leave(hook, raw, answer.is_ok(), &mut after);
     for (which, mut reader) in readers().into_iter().enumerate() {
         let mut buffers = before.clone();
         let input = Input {
@@ -230,12 +116,11 @@ fn clean_hooks_read_clean() {
     for index in 0..2_000 {
         let mut rng = Rng::of_case(SEED, index);
         let m = SPREAD[index as usize % SPREAD.len()];
-        let bytes = falling(&mut rng, m, false);
-        let k = book::load(&bytes).expect("a sound book").k();
-        let hook = Hook::new(bytes, random_bits(&mut rng, k));
+        let bytes = falling(&mut rng, m, false).bytes(&mut rng);
+        let hook = Hook::random(&mut rng, bytes);
         let counts = check(&mut rng, &hook, None);
         let is_tied = |role: &Role| matches!(role, Role::Tied(_));
-        empty += (k == 0) as u32;
+        empty += hook.data.is_empty() as u32;
         tied += hook.book.roles.iter().any(is_tied) as u32;
         crowded += (counts.crowded > 0) as u32;
         outrun += (counts.outrun > 0) as u32;
@@ -244,35 +129,20 @@ fn clean_hooks_read_clean() {
     assert!(met.iter().all(|&count| count > 50), "too few: {met:?}");
 }
 
-/// A record of random fields.
-fn random_record(rng: &mut Rng) -> Record {
-    Record {
-        plant: rng.below(64) as u8,
-        carcass: rng.below(1 << 20) as u32,
-        side: rng.bit(),
-        status: rng.pick(&[Status::Passed, Status::HeldForOwner, Status::Condemned]),
-    }
-}
-
 #[test]
 fn clean_hooks_give_their_records() {
     for index in 0..300 {
         let mut rng = Rng::of_case(SEED + 1, index);
         let m = rng.pick(&[5, 6, 6, 7, 8]);
-        let bytes = falling(&mut rng, m, true);
+        let bytes = falling(&mut rng, m, true).bytes(&mut rng);
         let record = random_record(&mut rng);
-        let mut data = vec![9; 32];
-        let made = Plain::default().make_record(&bytes, &record, &mut data);
-        assert_eq!(made, None);
+        let mut data = record_data(&bytes, &record);
         check(
             &mut rng,
             &Hook::new(bytes.clone(), data.clone()),
             Some(Ok(record)),
         );
-        match rng.below(3) {
-            0 => data[27..30].copy_from_slice(&[1, 0, 1]),
-            other => data[29 + other] = 1,
-        }
+        undo_record(&mut rng, &mut data);
         let hook = Hook::new(bytes, data);
         check(&mut rng, &hook, Some(Err(Refusal::Unreadable)));
     }
@@ -326,7 +196,7 @@ fn every_word_of_a_small_book_reads_clean() {
         check(&mut rng, &hook, None);
         for mut reader in readers() {
             for raw in [WIDE, NARROW] {
-                let (decoded, buffers) = hook.decode(&mut *reader, raw, &values);
+                let (decoded, buffers) = decode(&mut *reader, &hook, raw, &values);
                 assert_eq!(decoded.counts, hook.counts(raw), "word {number}");
                 assert_eq!(buffers.word, hook.word, "word {number}");
             }
@@ -341,15 +211,15 @@ fn a_rising_bias_undoes_a_clean_hook() {
     for number in 0..256 {
         let (hook, values) = small_hook(RISING, number);
         for mut reader in readers() {
-            let (decoded, buffers) = hook.decode(&mut *reader, WIDE, &values);
+            let (decoded, buffers) = decode(&mut *reader, &hook, WIDE, &values);
             assert_eq!(decoded.counts.extractions, 10, "word {number}");
             assert_eq!(buffers.word, hook.word, "word {number}");
-            let (decoded, buffers) = hook.decode(&mut *reader, NARROW, &values);
+            let (decoded, buffers) = decode(&mut *reader, &hook, NARROW, &values);
             assert_eq!(decoded.counts.extractions, 7, "word {number}");
             assert_eq!(decoded.refusal, None, "word {number}");
             assert_ne!(buffers.word, hook.word, "word {number}");
             let raw = Raw { t: 0, ..NARROW };
-            let (decoded, _) = hook.decode(&mut *reader, raw, &values);
+            let (decoded, _) = decode(&mut *reader, &hook, raw, &values);
             assert_eq!(decoded.refusal, Some(Refusal::Faint), "word {number}");
         }
     }
@@ -363,13 +233,13 @@ fn a_value_0_undoes_a_clean_hook() {
     for mut reader in readers() {
         let mut zeroed = values.clone();
         zeroed[0] = 0;
-        let (decoded, buffers) = hook.decode(&mut *reader, WIDE, &zeroed);
+        let (decoded, buffers) = decode(&mut *reader, &hook, WIDE, &zeroed);
         assert_eq!(decoded.counts.extractions, 14);
         assert_eq!(decoded.counts.discrepancy, 0);
         assert_eq!(buffers.word, hook.word);
         let mut zeroed = values.clone();
         zeroed[2] = 0;
-        let (decoded, buffers) = hook.decode(&mut *reader, WIDE, &zeroed);
+        let (decoded, buffers) = decode(&mut *reader, &hook, WIDE, &zeroed);
         assert_eq!(decoded.counts.extractions, 9);
         assert_eq!(decoded.counts.discrepancy, 8);
         assert_ne!(buffers.word, hook.word);
