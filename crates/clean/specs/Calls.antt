@@ -1,5 +1,5 @@
 -- What each decoding call answers on a clean hook, and what it leaves in every lent buffer, for every L, D and T allowed: of the plain call and the hook call, of the
--- screen's calls, and of C's. The word that the values show is c throughout. proofs/Calls.antt shows it. Assumes nothing.
+-- screen's calls, and of C's. c is what the call is given, w the word that the values show. proofs/Calls.antt shows it. Assumes nothing.
 use mathlib.Core.Bool.{Bool, true, cond}
 use mathlib.Core.List.{List, [], _++_, map}
 use Prim.Native.Nat.{ℕ}
@@ -22,34 +22,34 @@ use Rattle.answers.specs.Slices.{countsSlice, recordSlice}
 use Rattle.slices.specs.Slices.{Answered}
 use Rattle.clean.specs.Clean.{cleanWalk, cleanCounts}
 
--- The buffers afterwards: c and its data where they are handed out, the workspace zero at its stated size, and the walk, each with the rest as it was.
+-- The buffers afterwards: w and its data where they are handed out, the workspace zero at its stated size, and the walk, each with the rest as it was.
 unfoldable pub cleanLent : Book → Input → Lent → List ℕ → Bool → Lent
-cleanLent B i l c success =
+cleanLent B c l w success =
     record {
-      word = cond success c (l .word);
-      bits = cond success (readData B c) (l .bits);
-      numbers = replicate (numbersNeeded B i) (pos 0) ++ drop (numbersNeeded B i) (l .numbers);
-      bytes = replicate (bytesNeeded B i) 0 ++ drop (bytesNeeded B i) (l .bytes);
+      word = cond success w (l .word);
+      bits = cond success (readData B w) (l .bits);
+      numbers = replicate (numbersNeeded B c) (pos 0) ++ drop (numbersNeeded B c) (l .numbers);
+      bytes = replicate (bytesNeeded B c) 0 ++ drop (bytesNeeded B c) (l .bytes);
       walkPath = over (map (λ (r : StepRecord). r .path) (cleanWalk B)) (l .walkPath);
       walkBlocks = over (map (λ (r : StepRecord). r .blocks) (cleanWalk B)) (l .walkBlocks);
       walkScore = over (map (λ (r : StepRecord). r .score) (cleanWalk B)) (l .walkScore);
     }
 
--- the plain call: done, with the word c and its data
+-- the plain call: done, with the word w and its data
 unfoldable pub cleanPlain : Book → Input → Lent → List ℕ → Called Decoded
-cleanPlain B i l c =
+cleanPlain B c l w =
     record {
-      answer = record { outcome = Done; counts = cleanCounts B (i .L) (i .D) };
-      lent = cleanLent B i l c true;
+      answer = record { outcome = Done; counts = cleanCounts B (c .L) (c .D) };
+      lent = cleanLent B c l w true;
     }
 
--- the hook call: done, with the record of c's data besides; where they hold none 11, and nothing is handed out
+-- the hook call: done, with the record of w's data besides; where they hold none 11, and nothing is handed out
 unfoldable pub cleanHook : Book → Input → Lent → List ℕ → Called HookDecoded
-cleanHook B i l c =
-    let read = recordRead (readRecord (readData B c)) in
+cleanHook B c l w =
+    let read = recordRead (readRecord (readData B w)) in
     record {
-      answer = record { outcome = read .outcome; counts = cleanCounts B (i .L) (i .D); hook = read .hook };
-      lent = cleanLent B i l c (isDone (read .outcome));
+      answer = record { outcome = read .outcome; counts = cleanCounts B (c .L) (c .D); hook = read .hook };
+      lent = cleanLent B c l w (isDone (read .outcome));
     }
 
 -- the screen's calls: the same, and the step records
@@ -58,25 +58,25 @@ cleanRecords B old = over (cleanWalk B) old
 
 -- the plain call with the record of extraction t, zeros where there is none
 unfoldable pub cleanStep : Book → Input → Lent → List ℕ → ℕ → Called StepDecoded
-cleanStep B i l c t =
-    let w = cleanPlain B i l c in
+cleanStep B c l w t =
+    let call = cleanPlain B c l w in
     record {
-      answer = record { outcome = w .answer .outcome; counts = w .answer .counts; step = getD (cleanWalk B) t blank };
-      lent = w .lent;
+      answer = record { outcome = call .answer .outcome; counts = call .answer .counts; step = getD (cleanWalk B) t blank };
+      lent = call .lent;
     }
 
 -- C's calls: the same, with the outcome as its number, and counts and record as slices
 unfoldable pub cleanPlainAnswered : Book → Input → Lent → List ℕ → Answered
-cleanPlainAnswered B i l c =
-    let w = cleanPlain B i l c in
-    record { number = outcomeNumber (w .answer .outcome); lent = w .lent; counts = countsSlice (w .answer .counts); hook = [] }
+cleanPlainAnswered B c l w =
+    let call = cleanPlain B c l w in
+    record { number = outcomeNumber (call .answer .outcome); lent = call .lent; counts = countsSlice (call .answer .counts); hook = [] }
 
 unfoldable pub cleanHookAnswered : Book → Input → Lent → List ℕ → Answered
-cleanHookAnswered B i l c =
-    let w = cleanHook B i l c in
+cleanHookAnswered B c l w =
+    let call = cleanHook B c l w in
     record {
-      number = outcomeNumber (w .answer .outcome);
-      lent = w .lent;
-      counts = countsSlice (w .answer .counts);
-      hook = recordSlice (w .answer .hook);
+      number = outcomeNumber (call .answer .outcome);
+      lent = call .lent;
+      counts = countsSlice (call .answer .counts);
+      hook = recordSlice (call .answer .hook);
     }

@@ -22,14 +22,14 @@ use Rattle.steprecords.specs.Records.{recordOf}
 
 -- ---- a clean hook
 
--- The received values ys show the word c of book B, and its biases never rise.
-pub record Clean (B : Book) (ys : List ℤ) (c : List ℕ) : Type 0 where
-  -- c is a word of the code: n bits that obey the book
-  pub size : length c ≡ 2 ^ (B .m)
-  pub bits : All Bit c
-  pub member : T (inCode B c)
-  -- each of the n values is not 0, and has the sign of c's bit in its place: above 0 for a 0, below 0 for a 1
-  pub signs : Paired Shows c ys
+-- The received values ys show the word w of book B, and its biases never rise.
+pub record Clean (B : Book) (ys : List ℤ) (w : List ℕ) : Type 0 where
+  -- w is a word of the code: n bits that obey the book
+  pub size : length w ≡ 2 ^ (B .m)
+  pub bits : All Bit w
+  pub member : T (inCode B w)
+  -- each of the n values is not 0, and has the sign of w's bit in its place: above 0 for a 0, below 0 for a 1
+  pub signs : Paired Shows w ys
   -- no block has a higher bias than the block before it
   pub biases : (b : ℕ) → suc b < length (B .blocks) → blockAt B (suc b) .bias ≤ℤ blockAt B b .bias
 
@@ -69,12 +69,12 @@ cleanCounts B L D =
       discrepancy = 0;
     }
 
--- the final word is c, with its own data, at discrepancy 0
+-- the final word is w, with its own data, at discrepancy 0
 unfoldable pub cleanFinal : Book → List ℕ → Final
-cleanFinal B c = record { word = c; bits = readData B c; discrepancy = 0 }
+cleanFinal B w = record { word = w; bits = readData B w; discrepancy = 0 }
 
 -- A run reads clean: its extractions, its counts, and what it found.
-pub record RunsClean (B : Book) (L D : ℕ) (c : List ℕ) (steps : List Step) (found : Final) : Type 0 where
+pub record RunsClean (B : Book) (L D : ℕ) (w : List ℕ) (steps : List Step) (found : Final) : Type 0 where
   pub walk : map recordOf steps ≡ cleanWalk B
   pub counts : countsOf steps found ≡ cleanCounts B L D
-  pub final : found ≡ cleanFinal B c
+  pub final : found ≡ cleanFinal B w

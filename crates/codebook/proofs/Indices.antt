@@ -5,7 +5,7 @@ use mathlib.Core.Bool.{not, _||_}
 use mathlib.Core.List.{List, [], _∷_, _++_}
 use mathlib.Core.Logic.{_≢_}
 use Prim.Native.Nat.{ℕ, zero, suc, _+_, _-_, _<_}
-use native.Mathlib.Nat.{add-zero}
+use native.Mathlib.Nat.{add-zero, zero-add}
 use native.Mathlib.Omega.{arith}
 use lib.ListN.{length, getD, take, drop, set, replicate, length-append}
 use lib.Dec.{T, eqb, eqb-refl, T-not, not-T}
@@ -41,11 +41,15 @@ kinds-take i zero ks h = tt
 kinds-take i (suc n) [] h = tt
 kinds-take i (suc n) (x ∷ ks) h = (h .0, kinds-take (suc i) n ks (h .1))
 
-pub kinds-drop : (i n : ℕ) (ks : List Kind) → KindsOk i ks → KindsOk (i + n) (drop n ks)
+kinds-drop : (i n : ℕ) (ks : List Kind) → KindsOk i ks → KindsOk (i + n) (drop n ks)
 unfolding KindsOk
 kinds-drop i zero ks h = subst (λ (x : ℕ). KindsOk x ks) (sym (add-zero i)) h
 kinds-drop i (suc n) [] h = tt
 kinds-drop i (suc n) (x ∷ ks) h = subst (λ (y : ℕ). KindsOk y (drop n ks)) (omega arith) (kinds-drop (suc i) n ks (h .1))
+
+-- those of n indices from s on
+pub kinds-part : (s n : ℕ) (ks : List Kind) → KindsOk 0 ks → KindsOk s (take n (drop s ks))
+kinds-part s n ks h = kinds-take s n (drop s ks) (subst (λ (i : ℕ). KindsOk i (drop s ks)) (zero-add s) (kinds-drop 0 s ks h))
 
 -- also past the end, where the kind is taken to be free
 pub kind-at : (i : ℕ) (ks : List Kind) (n : ℕ) → KindsOk i ks → KindOk (i + n) (getD ks n free)

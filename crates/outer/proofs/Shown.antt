@@ -26,7 +26,7 @@ use Rattle.polar.proofs.Transform.{transform-length, transform-twice}
 use Rattle.polar.proofs.Shown.{shown-costs, shown-only, node-shown}
 use Rattle.codebook.specs.Book.{Book, Kind, freeCount, startOf, blockAt, kindsOf}
 use Rattle.codebook.specs.Limits.{KindsOk, Valid}
-use Rattle.codebook.proofs.Indices.{kinds-take, kinds-drop}
+use Rattle.codebook.proofs.Indices.{kinds-part}
 use Rattle.codec.specs.Code.{fill, freeBits, obeysAll}
 use Rattle.codec.specs.Ties.{paritiesOf, filled}
 use Rattle.codec.proofs.Fill.{After, fill-after, fill-free, obeys-fill, obeys-append, obeys-front, free-length, free-bits}
@@ -94,7 +94,7 @@ module _ (B : Book) (ok : Valid B) (ys : List ℤ) (u : List ℕ) (r : Right B y
 
   kinds-ok : KindsOk s ks
   unfolding kindsOf
-  kinds-ok = subst (λ (i : ℕ). KindsOk i ks) (zero-add s) (kinds-take (0 + s) n (drop s (B .kinds)) (kinds-drop 0 s (B .kinds) (ok .kinds)))
+  kinds-ok = kinds-part s n (B .kinds) (ok .kinds)
 
   right-obeys : T (obeysAll (upTo B u (suc b)) s ks)
   unfolding kindsOf

@@ -11,9 +11,10 @@ use lib.Seq.{drop-drop, take-all, length-take-le}
 use lib.IntN.{ℤ, pos, negℤ}
 use lib.Arith.{digits-lt}
 use lib.Pow.{pow-add, pow-pos}
+use lib.Dec.{ltb}
 use borrow.Author.Tests.{lt-ltb, le-ltb}
 use Rattle.laws.specs.Lists.{All}
-use Rattle.laws.proofs.Tests.{lt-or}
+use Rattle.laws.proofs.Tests.{cond-case, lt-or}
 use Rattle.laws.proofs.Lists.{all-drop, drop-take}
 use Rattle.polar.specs.Bits.{Bit}
 use Rattle.polar.specs.Transform.{transform}
@@ -59,6 +60,10 @@ restBits-low m t u h = rw (lt-ltb t (2 ^ m) h)
 pub restBits-high : (m t : ℕ) (u : List ℕ) → 2 ^ m ≤ t → restBits m t u ≡ drop (2 ^ m) u
 unfolding restBits
 restBits-high m t u h = rw (le-ltb t (2 ^ m) h)
+
+pub rest-bits : (m t : ℕ) (u : List ℕ) → All Bit u → All Bit (restBits m t u)
+unfolding restBits
+rest-bits m t u h = cond-case (All Bit) (ltb t (2 ^ m)) (λ _. h) (λ _. all-drop Bit (2 ^ m) u h)
 
 pub child-low : (m t : ℕ) (c : List ℕ) (ys : List ℤ) → t < 2 ^ m → child m t c ys ≡ Qs (take (2 ^ m) ys) (drop (2 ^ m) ys)
 unfolding child

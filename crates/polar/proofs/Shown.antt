@@ -24,7 +24,7 @@ use Rattle.polar.proofs.Bits.{first-half, last-half, add-length}
 use Rattle.polar.proofs.Transform.{transform-suc, transform-length, transform-bits}
 use Rattle.polar.proofs.Soft.{pair, Q-abs, cost-same, cost-other}
 use Rattle.polar.proofs.Value.{Same}
-use Rattle.polar.proofs.Node.{Starts, rest-low, rest-high, restBits-low, restBits-high, child-low, child-high, node-same}
+use Rattle.polar.proofs.Node.{Starts, rest-low, rest-high, restBits-low, restBits-high, rest-bits, child-low, child-high, node-same}
 
 -- ---- what words cost
 
@@ -148,20 +148,13 @@ child-shows m ys u s l h p = go (lt-or s (2 ^ m))
         (subst (λ (v : List ℕ). Paired Shows (transform m (take (2 ^ m) (drop (2 ^ m) u))) (Ps (transform m v) (take (2 ^ m) ys) (drop (2 ^ m) ys))) low
         (subst (λ (w : List ℕ). Paired Shows (transform m w) (Ps (transform m (take (2 ^ m) x)) (take (2 ^ m) ys) (drop (2 ^ m) ys))) high (two .1)))
 
--- the bits from that half on: enough of them, bits, and those from s on
+-- the bits from that half on: enough of them, and those from s on
 rest-long : (m s : ℕ) (u : List ℕ) → 2 ^ suc m ≤ length u → 2 ^ m ≤ length (restBits m s u)
 rest-long m s u l = go (lt-or s (2 ^ m))
   where
     go : (s < 2 ^ m) ⊎ (2 ^ m ≤ s) → 2 ^ m ≤ length (restBits m s u)
     go (inl q) = rw (restBits-low m s u q) (omega (arith, two-pow-succ m))
     go (inr q) = rw (restBits-high m s u q) (omega (arith, length-drop (2 ^ m) u, two-pow-succ m))
-
-rest-bits : (m s : ℕ) (u : List ℕ) → All Bit u → All Bit (restBits m s u)
-rest-bits m s u h = go (lt-or s (2 ^ m))
-  where
-    go : (s < 2 ^ m) ⊎ (2 ^ m ≤ s) → All Bit (restBits m s u)
-    go (inl q) = rw (restBits-low m s u q) h
-    go (inr q) = rw (restBits-high m s u q) (all-drop Bit (2 ^ m) u h)
 
 rest-drop : (m s : ℕ) (u : List ℕ) → drop (rest m s) (restBits m s u) ≡ drop s u
 rest-drop m s u = go (lt-or s (2 ^ m))

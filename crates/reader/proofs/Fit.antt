@@ -10,15 +10,14 @@ use native.Mathlib.Omega.{arith}
 use lib.ListN.{length, take}
 use lib.Pow.{pow-pos, pow-mono}
 use lib.IntN.{ℤ}
-use lib.Dec.{ltb}
 use Rattle.laws.specs.Lists.{All}
-use Rattle.laws.proofs.Tests.{lt-or, cond-case}
-use Rattle.laws.proofs.Lists.{all-take, all-drop}
+use Rattle.laws.proofs.Tests.{lt-or}
+use Rattle.laws.proofs.Lists.{all-take}
 use Rattle.polar.specs.Bits.{Bit}
 use Rattle.polar.specs.Node.{rest, restBits, node}
 use Rattle.polar.specs.Layers.{Within}
 use Rattle.polar.proofs.Transform.{transform-bits}
-use Rattle.polar.proofs.Node.{rest-low, rest-high, rest-less, Starts, starts-fits}
+use Rattle.polar.proofs.Node.{rest-low, rest-high, rest-less, rest-bits, Starts, starts-fits}
 use Rattle.polar.proofs.Ranges.{costs-le, within-more, node-within, node-range}
 use Rattle.codebook.specs.Book.{Book, startOf, blockAt}
 use Rattle.codebook.specs.Limits.{Valid}
@@ -50,10 +49,6 @@ vals-less (suc d) (suc e) (suc m) ys u t S l h = (h .0, vals-less d e m _ _ _ S 
 
 -- ---- the sums that a block's word is joined with
 
-bits-rest : (m t : ℕ) (u : List ℕ) → All Bit u → All Bit (restBits m t u)
-unfolding restBits
-bits-rest m t u b = cond-case (All Bit) (ltb t (2 ^ m)) (λ _. b) (λ _. all-drop Bit (2 ^ m) u b)
-
 -- a block of height j ends at t, inside the node: the sums from j to the turn of t are bits; or with the node: all from j on are
 abbrev JoinBits : ℕ → ℕ → ℕ → (ℕ → List ℕ) → Type 0
 JoinBits j m t C =
@@ -67,7 +62,7 @@ sums-bits zero j m u s t C e a f b q =
     (λ l k x y. absurd (omega arith), λ l k x y. absurd (omega arith))
 sums-bits (suc d) j zero u s t C e a f b q = absurd a
 sums-bits (suc d) j (suc m) u s t C e a f b q =
-    go (lt-or s (2 ^ m)) (λ t′ g. sums-bits d j m (restBits m s u) (rest m s) t′ C (omega arith) a g (bits-rest m s u b) (q .1))
+    go (lt-or s (2 ^ m)) (λ t′ g. sums-bits d j m (restBits m s u) (rest m s) t′ C (omega arith) a g (rest-bits m s u b) (q .1))
   where
     fit : rest m s + 2 ^ j ≤ 2 ^ m
     fit = starts-fits d j m (rest m s) (omega arith) a

@@ -22,7 +22,7 @@ use Rattle.polar.proofs.Transform.{transform-length, transform-bits, transform-
 use Rattle.polar.proofs.Value.{R-discrepancy}
 use Rattle.codebook.specs.Book.{Book, Kind, freeCount, startOf, blockAt, kindsOf}
 use Rattle.codebook.specs.Limits.{KindsOk, Valid}
-use Rattle.codebook.proofs.Indices.{kinds-take, kinds-drop}
+use Rattle.codebook.proofs.Indices.{kinds-take, kinds-part}
 use Rattle.codebook.proofs.Blocks.{start-next}
 use Rattle.codec.specs.Code.{fill, freeBits, obeysAll, inCode, readData}
 use Rattle.codec.proofs.Fill.{After, fill-after, fill-obeys, obeys-append, obeys-front}
@@ -69,7 +69,7 @@ module _ (B : Book) (ok : Valid B) where
       let ll : length ls ≡ n = length-take-le n (drop s (B .kinds)) (omega (arith, ok .indices, length-drop s (B .kinds))) in
       let a : After u (length ls) x = fill-after u ls ds (f .bits) h in
       let same : take s u ≡ take s x = take-all s u (omega (arith, f .size)) ∙ sym (a .front) ∙ ap (λ i. take i x) (f .size) in
-      let kinds : KindsOk (length u) ls = subst (λ (i : ℕ). KindsOk i ls) (zero-add s ∙ sym (f .size)) (kinds-take (0 + s) n (drop s (B .kinds)) (kinds-drop 0 s (B .kinds) (ok .kinds))) in
+      let kinds : KindsOk (length u) ls = subst (λ (i : ℕ). KindsOk i ls) (sym (f .size)) (kinds-part s n (B .kinds) (ok .kinds)) in
       let old : T (obeysAll x 0 ks) = subst T (obeys-front s 0 u x ks (omega arith) (kinds-take 0 s (B .kinds) (ok .kinds)) same) (f .obey) in
       let new : T (obeysAll x (length u) ls) = fill-obeys u ls ds (f .bits) h kinds in
       let at : length u ≡ 0 + length ks = f .size ∙ sym lk ∙ sym (zero-add (length ks)) in
