@@ -15,13 +15,12 @@ use Rattle.machine.specs.declared.Decoded.{Decoded}
 use Rattle.machine.specs.Queue.{Step}
 use Rattle.machine.specs.Calls.{Input, Lent, plainCall}
 use Rattle.attempts.specs.Attempt.{fitsFor}
-use Rattle.decoder.specs.WholeRun.{WholeRun}
-use Rattle.decoder.proofs.Whole.{Left}
+use Rattle.attempts.specs.WholeRun.{WholeRun}
 use Rattle.screen.specs.declared.StepRecord.{StepRecord}
 use Rattle.screen.specs.Records.{recordOf, blank, nthRecord, recordAt}
 use Rattle.screen.specs.Screen.{stepsOf, plainStep, WholeStep}
 use Rattle.screen.proofs.Copied.{record-at}
-use Rattle.screen.proofs.Extracted.{left-extracted, left-long}
+use Rattle.screen.proofs.Extracted.{Left, left-extracted, left-long}
 use Rattle.screen.proofs.Shown.{plain-left, ran-steps}
 
 -- ---- record_at: the first entry of the parts from i on is entry i
