@@ -11,6 +11,7 @@ ghost use Rattle.sharing.specs.Sharing.{Held, Rows};
 ghost use Rattle.standing.specs.Seen.{memory};
 ghost use Rattle.standing.specs.Standing.{Stands};
 ghost use Rattle.steps.specs.Steps.{Queued};
+ghost use Rattle.advance.specs.Outruns.{Outruns};
 use order::entries::blocks_of;
 use order::entries::slot_of;
 use order::moves::sift;
@@ -80,6 +81,9 @@ pub fn outrun(
         × Stands (c .book) (s .paths) (memory (now (rows .entry)) (now (holders .exit)) numbers bytes) (queueOf (now (order .exit)) (r .queued))
         (queueOf (now (vacant .exit)) (s .paths - r .queued)) (c .arrays) left)) ⌝ }
     ensures { λ r. ⌜ Rising (now (order .exit)) (r .queued) ⌝ }
+    ensures { λ r. ⌜ ((numbers : List ℤ) (bytes : List ℕ)
+        (c : Queued (s .m) (s .paths) (memory (now (rows .entry)) (now (holders .entry)) numbers bytes) (queueOf (now (order .entry)) (t .queued)) (queueOf (now (vacant .entry)) (s .paths - t .queued)))
+        → Outruns (c .book) (s .visits) (s .paths) b (visit (now (visits .entry)) b) (c .paths) (queueOf (now (order .entry)) (t .queued)) (queueOf (now (order .exit)) (r .queued))) ⌝ }
 {
     let seen = visits[b] + 1;
     visits[b] = seen;

@@ -3,3 +3,4 @@ pub mod Attempts
 pub mod Judged
 pub mod Machine
 pub mod Readied
+pub mod Whole

@@ -5,13 +5,13 @@ use mathlib.Core.List.{List, _++_, append-nil}
 use mathlib.Core.Option.{some}
 use Prim.Native.Nat.{ℕ, _^_, _≤_}
 use native.Mathlib.Omega.{arith}
-use lib.IntN.{ℤ}
+use lib.IntN.{ℤ, pos}
 use lib.ListN.{length, drop, replicate}
 use lib.Seq.{drop-length}
 use Rattle.polar.specs.Layers.{part}
 use Rattle.queue.specs.Queue.{Step, Final}
 use Rattle.machine.specs.Machine as M
-use Rattle.machine.specs.Calls.{finalOf, countsOf}
+use Rattle.machine.specs.Calls.{finalOf, countsOf, walked}
 use Rattle.reader.specs.Reader as R
 use Rattle.reader.proofs.Agree.{valid-agree}
 use Rattle.heights.specs.Workspace.{spot, Room}
@@ -19,6 +19,7 @@ use Rattle.steps.specs.declared.Setting.{Setting}
 use Rattle.reading.specs.declared.Ran.{Ran}
 use Rattle.reading.specs.Running.{arraysOf, received, Running, RanIs}
 use Rattle.reading.proofs.Received.{received-root}
+use Rattle.attempts.specs.WholeRun.{LeftBy}
 
 -- a whole list cleared
 pub all-cleared : {A : Type 0} (v : A) (l : List A) (n : ℕ) → n ≡ length l → (k : ℕ) → k ≡ n → replicate n v ++ drop n l ≡ replicate k v
@@ -56,3 +57,21 @@ module _ {s : Setting} {values : List ℤ} {kinds terms heights starts : List �
     machine-word x after r =
         let f : r .final ≡ found = cc (r .ends, runs-agree .1) in
         r .word ∙ ap (λ (y : Final). y .word) f
+
+    -- and as the reader's own
+    pub reader-left : (x : Ran) (after : List ℕ) → RanIs (s .m) (s .paths) reader x after → {word : List ℕ} →
+        word ≡ part (spot (s .m) (x .id) (s .m)) (2 ^ (s .m)) after → {path₀ blocks₀ score₀ path blocks score : List ℤ} →
+        path ≡ walked (λ (y : Step). pos (y .path)) (reader .steps) path₀ → blocks ≡ walked (λ (y : Step). pos (y .blocks)) (reader .steps) blocks₀ →
+        score ≡ walked (λ (y : Step). y .score) (reader .steps) score₀ →
+        LeftBy reader (record { extractions = x .extractions; crowded = x .crowded; outrun = x .outrun; discrepancy = x .discrepancy }) word path₀ blocks₀ score₀ path blocks score
+    unfolding countsOf
+    reader-left x after r w p b e =
+        record {
+          counted = λ f q.
+              let g : r .final ≡ f = cc (r .ends, q) in
+              cc (r .extractions, r .crowded, r .outrun, r .discrepancy ∙ ap (λ (y : Final). y .discrepancy) g);
+          found = λ f q. let g : r .final ≡ f = cc (r .ends, q) in w ∙ r .word ∙ ap (λ (y : Final). y .word) g;
+          path-is = p;
+          blocks-is = b;
+          score-is = e;
+        }

@@ -15,9 +15,11 @@ ghost use Rattle.queue.specs.Queue.{Step};
 ghost use Rattle.machine.specs.Machine as M;
 ghost use Rattle.machine.specs.Calls.{finalOf, countsOf, walked};
 ghost use Rattle.heights.specs.Workspace.{Room};
-ghost use Rattle.reading.specs.Running.{Running};
+ghost use Rattle.reader.specs.Reader as R;
+ghost use Rattle.reading.specs.Running.{arraysOf, received, Running};
+ghost use Rattle.attempts.specs.WholeRun.{LeftBy};
 
-// The run from any contents of the workspace: the counts, the walk, and the final word in `found`, all the plain machine's.
+// The run from any contents of the workspace: the counts, the walk, and the final word in `found`, all the reader's on that workspace, and all the plain machine's.
 pub fn run_cleared(
     s: Setting,
     values: &[i16],
@@ -47,6 +49,9 @@ pub fn run_cleared(
         × (now («walk_path» .exit) ≡ walked (λ (y : Step). pos (y .path)) (x .steps) (now («walk_path» .entry)))
         × (now («walk_blocks» .exit) ≡ walked (λ (y : Step). pos (y .blocks)) (x .steps) (now («walk_blocks» .entry)))
         × (now («walk_score» .exit) ≡ walked (λ (y : Step). y .score) (x .steps) (now («walk_score» .entry))))) ⌝ }
+    ensures { λ r. ⌜ ((c : Running s (now (values .entry)) (now (kinds .entry)) (now (terms .entry)) (now (heights .entry)) (now (starts .entry)) (now (biases .entry)))
+        → LeftBy (R.runOf (c .book) (s .visits) (s .paths) (arraysOf (s .m) (received (s .m) (now (values .entry)) (now (numbers .entry))) (now (bytes .entry)))) r (now (found .exit))
+        (now («walk_path» .entry)) (now («walk_blocks» .entry)) (now («walk_score» .entry)) (now («walk_path» .exit)) (now («walk_blocks» .exit)) (now («walk_score» .exit))) ⌝ }
 {
     let m = s.m;
     let r = run(

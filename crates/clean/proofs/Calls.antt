@@ -26,8 +26,8 @@ use Rattle.runs.specs.Handed.{Made}
 use Rattle.attempts.specs.Attempt.{fitsFor}
 use Rattle.attempts.proofs.Unbarred.{Free, nothing-bars}
 use Rattle.attempts.proofs.Attempts.{alike}
-use Rattle.decoder.specs.WholeRun.{readerRun, machineRun}
-use Rattle.decoder.proofs.Whole.{runs-agree}
+use Rattle.attempts.specs.WholeRun.{readerRun, machineRun}
+use Rattle.attempts.proofs.Whole.{runs-agree}
 use Rattle.room.specs.Room.{few}
 use Rattle.steprecords.specs.declared.StepRecord.{StepRecord}
 use Rattle.steprecords.specs.Records.{recordOf, blank, nthRecord, recorded}

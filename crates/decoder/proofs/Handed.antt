@@ -32,9 +32,9 @@ use Rattle.runs.proofs.Final.{run-exact}
 use Rattle.attempts.specs.Attempt.{fitsFor, Attempted, ranOf, noRun, unbarred, attemptWith, attempted, Holding, readAs}
 use Rattle.attempts.proofs.Attempts.{alike, Yields}
 use Rattle.attempts.proofs.Unbarred.{nothing-bars, asked-holds}
-use Rattle.decoder.specs.WholeRun.{WholeRun}
+use Rattle.attempts.specs.WholeRun.{WholeRun}
+use Rattle.attempts.proofs.Whole.{whole-same}
 use Rattle.decoder.proofs.Handing.{handed, plainOf, plain-handed, hookOfAttempt, hook-handed}
-use Rattle.decoder.proofs.Whole.{whole-run}
 
 -- ---- word and data
 
@@ -117,16 +117,10 @@ hook-data c l = go (load (c .book)) refl
 -- ---- the calls, from what an attempt yields
 
 module _ (c : Input) (l : Lent) (x : Decoded) (after : Lent) (found info : List ℕ) (long : 512 ≤ length found) (wide : 512 ≤ length info) where
-  left-whole : (hook : Bool) → Yields hook c l x after found info → (word bits : List ℕ)
+  left-whole : (hook : Bool) → WholeRun (fitsFor hook) c l (x .counts) after → (word bits : List ℕ)
       → WholeRun (fitsFor hook) c l (x .counts) (lent word bits (after .numbers) (after .bytes) (after .walkPath) (after .walkBlocks) (after .walkScore))
-  left-whole hook y word bits =
-      whole-run hook c l (x .counts) _
-      (record {
-        counted = ap (λ (z : Decoded). z .counts) (y .0);
-        paths = ap (λ (z : Lent). z .walkPath) (y .1);
-        blocks = ap (λ (z : Lent). z .walkBlocks) (y .1);
-        scores = ap (λ (z : Lent). z .walkScore) (y .1);
-      })
+  left-whole hook whole word bits =
+      whole-same (fitsFor hook) c l (x .counts) after (lent word bits (after .numbers) (after .bytes) (after .walkPath) (after .walkBlocks) (after .walkScore)) refl refl refl whole
 
   module _ (y : Yields false c l x after found info) where
     plain-only : isDone (x .outcome) ≡ true → isDone (attempted false c l .answer .outcome) ≡ true
@@ -135,19 +129,19 @@ module _ (c : Input) (l : Lent) (x : Decoded) (after : Lent) (found info : List 
     pub plain-fits : isDone (x .outcome) ≡ true → (length (after .word) ≤ length found) × (length (after .bits) ≤ length info)
     plain-fits = give-fits (attempted false c l) (x .outcome) plain-only after (y .1) found info (y .2) long wide
 
-    pub plain-done : (word bits : List ℕ) → word ≡ cond (isDone (x .outcome)) (part 0 (length (after .word)) found) (after .word)
+    pub plain-done : WholeRun (fitsFor false) c l (x .counts) after → (word bits : List ℕ) → word ≡ cond (isDone (x .outcome)) (part 0 (length (after .word)) found) (after .word)
         → bits ≡ cond (isDone (x .outcome)) (part 0 (length (after .bits)) info) (after .bits)
         → let now = lent word bits (after .numbers) (after .bytes) (after .walkPath) (after .walkBlocks) (after .walkScore) in
         (x ≡ plainCall c l .answer) × (now ≡ plainCall c l .lent) × WholeRun (fitsFor false) c l (x .counts) now
     unfolding plainOf
-    plain-done word bits w b =
+    plain-done whole word bits w b =
         let a = attempted false c l in
         let h = sym (plain-handed c l) in (
           y .0 ∙ ap (λ (z : Called Decoded). z .answer) h,
           given-lent a (x .outcome) plain-only after (y .1) found info (y .2) word bits w b
               ∙ ap (λ (z : Decoded). handed (isDone (z .outcome)) (a .found) (a .lent)) (y .0)
               ∙ ap (λ (z : Called Decoded). z .lent) h,
-          left-whole false y word bits,
+          left-whole false whole word bits,
         )
 
   module _ (y : Yields true c l x after found info) where
@@ -175,14 +169,14 @@ module _ (c : Input) (l : Lent) (x : Decoded) (after : Lent) (found info : List 
       pub hook-fits : isDone (read .outcome) ≡ true → (length (after .word) ≤ length found) × (length (after .bits) ≤ length info)
       hook-fits = give-fits (attempted true c l) (read .outcome) hook-only after (y .1) found info (y .2) long wide
 
-      pub hook-done : (word bits : List ℕ) → word ≡ cond (isDone (read .outcome)) (part 0 (length (after .word)) found) (after .word)
+      pub hook-done : WholeRun (fitsFor true) c l (x .counts) after → (word bits : List ℕ) → word ≡ cond (isDone (read .outcome)) (part 0 (length (after .word)) found) (after .word)
           → bits ≡ cond (isDone (read .outcome)) (part 0 (length (after .bits)) info) (after .bits)
           → let now = lent word bits (after .numbers) (after .bytes) (after .walkPath) (after .walkBlocks) (after .walkScore) in
           (record { outcome = read .outcome; counts = x .counts; hook = read .hook } ≡ hookCall c l .answer)
           × (now ≡ hookCall c l .lent)
           × WholeRun (fitsFor true) c l (x .counts) now
       unfolding hookOfAttempt
-      hook-done word bits w b =
+      hook-done whole word bits w b =
           let a = attempted true c l in
           let h = sym (hook-handed c l) in (
             ap₂ (λ (q : RecordRead) (n : Counts). record { outcome = q .outcome; counts = n; hook = q .hook }) read-is (ap (λ (z : Decoded). z .counts) (y .0))
@@ -190,5 +184,5 @@ module _ (c : Input) (l : Lent) (x : Decoded) (after : Lent) (found info : List 
             given-lent a (read .outcome) hook-only after (y .1) found info (y .2) word bits w b
                 ∙ ap (λ (q : RecordRead). handed (isDone (q .outcome)) (a .found) (a .lent)) read-is
                 ∙ ap (λ (z : Called HookDecoded). z .lent) h,
-            left-whole true y word bits,
+            left-whole true whole word bits,
           )

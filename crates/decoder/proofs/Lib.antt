@@ -1,4 +1,3 @@
 pub mod Handing
-pub mod Whole
 pub mod Handed
 pub mod Fits

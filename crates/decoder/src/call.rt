@@ -1,5 +1,5 @@
 // The decoding calls. Each makes one attempt, and hands out word and data on success alone. Relies on giving.rt and the crate attempts;
-// machine/specs/Calls says what each call answers and leaves, specs/WholeRun what demand 3 asks of it.
+// machine/specs/Calls says what each call answers and leaves, attempts/specs/WholeRun what demand 3 asks of it.
 use crate::giving::give;
 use crate::giving::read_found;
 use attempts::attempt::attempt;
@@ -9,7 +9,7 @@ ghost use mathlib.Core.Path.{_≡_};
 ghost use mathlib.Core.Bool.{true, false};
 ghost use Rattle.machine.specs.Calls.{given, lent, plainCall, hookCall};
 ghost use Rattle.attempts.specs.Attempt.{fitsFor};
-ghost use Rattle.decoder.specs.WholeRun.{WholeRun};
+ghost use Rattle.attempts.specs.WholeRun.{WholeRun};
 
 // The plain decoding call.
 pub fn decode(

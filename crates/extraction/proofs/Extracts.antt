@@ -21,7 +21,7 @@ use Rattle.words.specs.declared.Block.{Block}
 use Rattle.words.specs.Kept.{Kepts}
 use Rattle.words.proofs.Kepts.{kepts-staying}
 use Rattle.steps.specs.Steps.{Queued, CopiedTo}
-use Rattle.extraction.specs.Extraction.{Seconding, Thirding, Extracting}
+use Rattle.extraction.specs.Extraction.{Seconding, Thirding, Extracting, Passed}
 use Rattle.extraction.proofs.Counts.{blocks-few}
 
 -- a visit counted leaves as many counts
@@ -143,3 +143,8 @@ module _ {m N : ℕ} {x : Memory} {e : ℕ} {es vs kinds terms : List ℕ} {last
             k .2,
             rw own kepts,
           )
+
+      -- what is queued between the steps
+      pub extract-passed : Passed book N arrays e path rest n
+      unfolding extract-seconding extract-thirding
+      extract-passed = record { second = qs; third = qs′; vacant = ws; copying = y; moving = z; copied = done .3; moved = moved .0 }

@@ -1,20 +1,24 @@
 -- Step 2 for the path in hand: the entry has the path's blocks; with none there is no copy and nothing changes, with b + 1 the copy is that of its
 -- last block b. Assumes nothing.
-use mathlib.Core.Path.{_≡_, refl, sym, subst}
-use mathlib.Core.List.{List}
+use mathlib.Core.Path.{_≡_, refl, sym, subst, subst₂}
+use mathlib.Core.List.{List, _∷_}
 use Prim.Native.Nat.{ℕ, suc}
 use native.Mathlib.Omega.{arith}
 use lib.ListN.{length}
 use Rattle.laws.specs.Pairs.{Paired}
 use Rattle.reader.specs.Reader.{Cut, copy}
+use Rattle.reader.specs.Arrays.{Arrays}
+use Rattle.reader.specs.Moments.{Moment, stepAt, copyAt, Removes}
 use Rattle.reader.specs.Fit.{Fit, FitFor}
 use Rattle.order.specs.Entries.{keyAt}
 use Rattle.standing.specs.Seen.{Memory}
+use Rattle.standing.specs.Standing.{Stands}
 use Rattle.standing.proofs.Sizes.{stands-length}
 use Rattle.standing.proofs.Taken.{taken-blocks}
 use Rattle.words.specs.declared.Block.{Block}
 use Rattle.steps.specs.Steps.{Copying, CopiedTo}
-use Rattle.extraction.specs.Extraction.{Seconding}
+use Rattle.advance.proofs.Losses.{rest-numbers}
+use Rattle.extraction.specs.Extraction.{Seconding, Crowds}
 
 module _ {m N : ℕ} {x : Memory} {e : ℕ} {es vs kinds terms : List ℕ} {last : Block} {kept : List ℕ} (c : Seconding m N x e es vs kinds terms last kept) where
   -- the reader's copy, of a path with so many blocks
@@ -56,3 +60,12 @@ module _ {m N : ℕ} {x : Memory} {e : ℕ} {es vs kinds terms : List ℕ} {last
     unfolding second-copying
     second-done n before kept′ {queued} {n′} {after} {y} {qs} {ws} h =
         subst (λ (i : ℕ). CopiedTo (c .hand .book) N e (c .hand .taken) (copied n i) before queued n′ after y qs ws kept′) (sym blocks-are) h
+
+  -- what the queue loses
+  pub second-crowds : (n : ℕ) {y : Memory} {es′ vs′ : List ℕ} →
+      Stands (c .hand .book) N y (e ∷ es′) vs′ (copied n (c .hand .taken .blocks) .arrays) (c .hand .taken ∷ copied n (c .hand .taken .blocks) .queue) → (L : ℕ) →
+      Crowds (c .hand .book) L N (c .hand .arrays) (c .hand .taken) (c .hand .rest) n es es′
+  unfolding copyAt
+  second-crowds n st L visits m =
+      let t : Moment = record { path = c .hand .taken; state = record { arrays = c .hand .arrays; queue = c .hand .rest; next = n; visits = visits } } in
+      subst₂ (λ (old new : List ℕ). Removes (stepAt (c .hand .book) L N t .crowded) old new) (sym (rest-numbers (c .hand .stands))) (sym (rest-numbers st)) (m .crowded)

@@ -8,15 +8,18 @@ use lib.ListN.{length}
 use lib.IntN.{ℤ}
 use Rattle.laws.specs.Lists.{All}
 use Rattle.polar.specs.Layers.{Within}
-use Rattle.codebook.specs.Book.{blockAt}
+use Rattle.codebook.specs.Book.{Book, blockAt}
+use Rattle.queue.specs.Queue.{insert, numbers}
 use Rattle.outer.specs.Words.{Word, nearest, nextAfter}
-use Rattle.reader.specs.Arrays.{valsOf}
-use Rattle.reader.specs.Paths.{ownWord, idsOf, viewOf}
-use Rattle.reader.specs.Reader.{nextView}
+use Rattle.reader.specs.Arrays.{Arrays, valsOf}
+use Rattle.reader.specs.Paths.{Path, keyOf, ownWord, idsOf, viewOf}
+use Rattle.reader.specs.Reader.{copy, move, nextView}
+use Rattle.reader.specs.Moments.{Moment, stepAt, Removes, Removed}
 use Rattle.reader.specs.Fit.{FitFor}
 use Rattle.reader.specs.Reached.{Reached}
+use Rattle.order.specs.Entries.{keyAt}
 use Rattle.standing.specs.Seen.{Memory}
-use Rattle.standing.specs.Standing.{InHand}
+use Rattle.standing.specs.Standing.{Stands, InHand}
 use Rattle.words.specs.declared.Block.{Block}
 use Rattle.words.specs.Kept.{Kepts}
 use Rattle.steps.specs.Steps.{BlockIs, Booked, Moving}
@@ -31,6 +34,15 @@ pub record Seconding (m N : ℕ) (x : Memory) (e : ℕ) (es vs : List ℕ) (kind
   pub total : (b : ℕ) (y : Word) → hand .taken .blocks ≡ suc b
       → nextAfter (ownWord (hand .book) (hand .taken) b) (hand .book) (valsOf (viewOf (hand .arrays) (hand .taken)) (blockAt (hand .book) b .j)) (hand .taken .earlier) b ≡ some y
       → hand .taken .spent + y .cost ≤ 1048064
+
+-- what step 2 takes from the code's queue, where path p is in hand, paths ps are queued and n is the next number: at the reader's moment with these, the numbers that the
+-- entries `old` hold and `new` do not are exactly those that the moment's step gives as crowded out, if the reader's queue loses those (Removed: every moment of a run,
+-- reader/proofs/Removed)
+abbrev pub Crowds : Book → ℕ → ℕ → Arrays → Path → List Path → ℕ → List ℕ → List ℕ → Type 0
+Crowds B L D A p ps n old new =
+    (visits : List ℕ) →
+    (let t : Moment = record { path = p; state = record { arrays = A; queue = ps; next = n; visits = visits } } in
+    Removed B L D t → Removes (stepAt B L D t .crowded) (numbers keyAt old) (numbers keyAt new))
 
 -- step 3: a path in hand that has a next block, `at`; the words kept for the others; the nearest word of that block
 pub record Thirding (m N : ℕ) (x : Memory) (e : ℕ) (es vs : List ℕ) (kinds terms : List ℕ) (last at : Block) (kept : List ℕ) : Type 0 where
@@ -53,3 +65,14 @@ pub record Extracting (m N : ℕ) (x : Memory) (e : ℕ) (es vs : List ℕ) (kin
   pub known : Kepts (hand .book) (hand .arrays) kept (e ∷ es) (hand .taken ∷ hand .rest)
   pub next : BlockIs (hand .book) (hand .taken .blocks) at
   pub last-is : (b : ℕ) → hand .taken .blocks ≡ suc b → BlockIs (hand .book) b last
+
+-- between its steps: after step 2 the entries `second` are queued, and before step 4 the entries `third`; memory then stands for what the reader has
+pub record Passed (B : Book) (N : ℕ) (A : Arrays) (e : ℕ) (p : Path) (ps : List Path) (n : ℕ) : Type 0 where
+  pub second : List ℕ
+  pub third : List ℕ
+  pub vacant : List ℕ
+  pub copying : Memory
+  pub moving : Memory
+  pub copied : (let k = copy B N A p ps n (p .blocks) in Stands B N copying (e ∷ second) vacant (k .arrays) (p ∷ k .queue))
+  pub moved : (let k = copy B N A p ps n (p .blocks) in let q = move B (k .arrays) p (k .queue) in
+      Stands B N moving third vacant (q .arrays) (insert (keyOf B) (q .path) (k .queue)))

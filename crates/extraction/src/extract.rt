@@ -12,7 +12,7 @@ ghost use Rattle.standing.specs.Seen.{memory, Lent};
 ghost use Rattle.standing.specs.Standing.{Stands};
 ghost use Rattle.words.specs.Kept.{Cells, Kepts};
 ghost use Rattle.steps.specs.Steps.{CopiedTo};
-ghost use Rattle.extraction.specs.Extraction.{Seconding, Thirding, Extracting};
+ghost use Rattle.extraction.specs.Extraction.{Seconding, Crowds, Thirding, Extracting, Passed};
 use advance::outruns::outrun;
 use advance::values::calculate;
 use order::entries::blocks_of;
@@ -62,6 +62,9 @@ fn second(
         CopiedTo (c .hand .book) (s .paths) e (c .hand .taken) k (t .crowded) (r .queued) (r .next) (r .crowded) (memory (now (rows .exit)) (now (holders .exit)) (now (numbers .exit)) (now (bytes .entry)))
         (queueOf (now (order .exit)) (r .queued)) (queueOf (now (vacant .exit)) (s .paths - (r .queued + 1))) (now (kept .exit)))) ⌝ }
     ensures { λ r. ⌜ Rising (now (order .exit)) (r .queued) ⌝ }
+    ensures { λ r. ⌜ ((c : Seconding (s .m) (s .paths) (memory (now (rows .entry)) (now (holders .entry)) (now (numbers .entry)) (now (bytes .entry))) e (queueOf (now (order .entry)) (t .queued))
+        (queueOf (now (vacant .entry)) (s .paths - (t .queued + 1))) (now (kinds .entry)) (now (terms .entry)) last (now (kept .entry))) (visits : ℕ)
+        → Crowds (c .hand .book) visits (s .paths) (c .hand .arrays) (c .hand .taken) (c .hand .rest) (t .next) (queueOf (now (order .entry)) (t .queued)) (queueOf (now (order .exit)) (r .queued))) ⌝ }
 {
     let blocks = blocks_of(e);
     if blocks == 0 {
@@ -186,6 +189,9 @@ pub fn extract(
         (queueOf (now (vacant .exit)) (s .paths - r .queued)) (k .state .arrays) (k .state .queue)
         × Kepts (c .hand .book) (k .state .arrays) (now (kept .exit)) (queueOf (now (order .exit)) (r .queued)) (k .state .queue))) ⌝ }
     ensures { λ r. ⌜ Rising (now (order .exit)) (r .queued) ⌝ }
+    ensures { λ _. ⌜ ((c : Extracting (s .m) (s .paths) (memory (now (rows .entry)) (now (holders .entry)) (now (numbers .entry)) (now (bytes .entry))) e (queueOf (now (order .entry)) (t .queued))
+        (queueOf (now (vacant .entry)) (s .paths - (t .queued + 1))) (now (kinds .entry)) (now (terms .entry)) last at (now (kept .entry)))
+        → Passed (c .hand .book) (s .paths) (c .hand .arrays) e (c .hand .taken) (c .hand .rest) (t .next)) ⌝ }
 {
     let m = s.m;
     let paths = s.paths;

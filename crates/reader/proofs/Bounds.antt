@@ -19,7 +19,8 @@ use Rattle.outer.specs.Words.{Word}
 use Rattle.reader.specs.Paths.{Path, keyOf}
 use Rattle.reader.specs.Reader.{copyWith, copy, move, extract, runOf}
 use Rattle.reader.proofs.Agree.{valid-agree}
-use Rattle.reader.proofs.Moments.{Moment, momentsOf, extractAt, copyAt, Taken, run-all}
+use Rattle.reader.specs.Moments.{Moment, momentsOf, extractAt, copyAt}
+use Rattle.reader.proofs.Moments.{Taken, run-all}
 
 -- ---- from the machine
 

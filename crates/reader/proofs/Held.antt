@@ -22,7 +22,8 @@ use Rattle.reader.specs.Paths.{Path, keyOf, firstPath, place, idsOf, vie
 use Rattle.reader.specs.Reader.{commit, copyWith, copy, moveWith, move, extract}
 use Rattle.reader.proofs.Own.{own-most}
 use Rattle.reader.proofs.Arrays.{writes-new, writes-some, claim-ids, descend-keeps}
-use Rattle.reader.proofs.Moments.{Moment, momentsOf, extractAt, copyAt, movedAt, Taken, run-all}
+use Rattle.reader.specs.Moments.{Moment, momentsOf, extractAt, copyAt, movedAt}
+use Rattle.reader.proofs.Moments.{Taken, run-all}
 use Rattle.reader.proofs.Bounds.{Alive, alive, extract-length}
 
 -- ---- arrays held

@@ -1,5 +1,4 @@
--- The moments of the reader's run: at each extraction, the path taken and what the reader then holds. The run's steps are those of its moments,
--- and each moment stands for the machine's state, so that the laws of the machine's run hold of the reader's. By induction on the extractions.
+-- The moments of the reader's run (specs/Moments): the run's steps are those of its moments, and each moment stands for the machine's state, so that the laws of the machine's run hold of the reader's. By induction on the extractions.
 -- Assumes nothing.
 use mathlib.Core.Path.{_≡_, refl, sym, ap, subst, subst₂}
 use mathlib.Core.Bool.{Bool, true, false, cond}
@@ -14,59 +13,18 @@ use Rattle.laws.proofs.Tests.{cond-case}
 use Rattle.laws.specs.Pairs.{Paired}
 use Rattle.codebook.specs.Book.{Book}
 use Rattle.codebook.specs.Limits.{Valid}
-use Rattle.queue.specs.Queue.{insert, Step}
+use Rattle.queue.specs.Queue.{Step}
 use Rattle.machine.specs.Machine as M
 use Rattle.runs.specs.Runs as MS
 use Rattle.reader.specs.Arrays.{Arrays}
-use Rattle.reader.specs.Paths.{Path, scoreOf, keyOf, firstPath}
-use Rattle.reader.specs.Reader.{Cut, copy, move, State, Extracted, extract, after, stopped, run, runOf}
+use Rattle.reader.specs.Paths.{Path, scoreOf, firstPath}
+use Rattle.reader.specs.Reader.{State, Extracted, extract, after, stopped, run, runOf}
+use Rattle.reader.specs.Moments.{Moment, moments, momentsOf, extractAt, stepAt}
 use Rattle.reader.specs.Reached.{StandsFor}
 use Rattle.reader.proofs.Step.{StepIs, stands-blocks, extract-is}
 use Rattle.reader.proofs.Run.{first-stands}
 
--- the path taken, and what the reader holds without it
-pub record Moment : Type 0 where
-  pub path : Path
-  pub state : State
-
--- those of the extractions that the fuel allows
-unfoldable pub moments : ℕ → Book → ℕ → ℕ → Arrays → List Path → ℕ → List ℕ → List Moment
-moments zero B L D A ps n visits = []
-moments (suc fuel) B L D A [] n visits = []
-moments (suc fuel) B L D A (p ∷ ps) n visits =
-    let x = extract B L D A p ps n visits .state in
-    let more = moments fuel B L D (x .arrays) (x .queue) (x .next) (x .visits) in
-    record { path = p; state = record { arrays = A; queue = ps; next = n; visits = visits } } ∷ cond (eqb (p .blocks) (length (B .blocks))) [] more
-
--- those of the whole run
-unfoldable pub momentsOf : Book → ℕ → ℕ → Arrays → List Moment
-momentsOf B L D A =
-    let V′ = length (B .blocks) in
-    moments (L * V′ + 1) B L D A (firstPath B ∷ []) 1 (replicate V′ 0)
-
 -- ---- the run's steps
-
--- the extraction from a moment
-unfoldable pub extractAt : Book → ℕ → ℕ → Moment → Extracted
-extractAt B L D t = extract B L D (t .state .arrays) (t .path) (t .state .queue) (t .state .next) (t .state .visits)
-
--- what step 2 leaves, the path after step 3, and the queue that step 4 finds
-unfoldable pub copyAt : Book → ℕ → Moment → Cut
-copyAt B D t = copy B D (t .state .arrays) (t .path) (t .state .queue) (t .state .next) (t .path .blocks)
-
-unfoldable pub movedAt : Book → ℕ → Moment → Path
-movedAt B D t = let second = copyAt B D t in move B (second .arrays) (t .path) (second .queue) .path
-
-unfoldable pub queuedAt : Book → ℕ → Moment → List Path
-queuedAt B D t = insert (keyOf B) (movedAt B D t) (copyAt B D t .queue)
-
--- its step; a path that has all blocks is taken last, and nothing is removed
-unfoldable pub stepAt : Book → ℕ → ℕ → Moment → Step
-stepAt B L D t =
-    let last : Step =
-    record { path = t .path .number; blocks = t .path .blocks; score = scoreOf B (t .path) (t .path .blocks); crowded = []; outrun = [] } in
-    let more = extractAt B L D t .step in
-    cond (eqb (t .path .blocks) (length (B .blocks))) last more
 
 -- while the run goes on
 pub step-more : (B : Book) (L D : ℕ) (t : Moment) → (t .path .blocks ≡ length (B .blocks) → ⊥) → stepAt B L D t ≡ extractAt B L D t .step

@@ -14,7 +14,7 @@ use lib.Dec.{leb, ltb, eqb}
 use Rattle.laws.specs.Lists.{All, Distinct}
 use Rattle.laws.proofs.Tests.{leb-ltb}
 use Rattle.laws.proofs.Lists.{all-map, all-in, all-front, all-mapped, all-unmapped, distinct-front}
-use Rattle.laws.proofs.Removes.{In, Removes, removes-none, removes-cut, removes-keep}
+use Rattle.laws.proofs.Removes.{removes-none, removes-cut, removes-keep}
 use Rattle.laws.proofs.Pairs.{paired-all}
 use Rattle.codebook.specs.Book.{Book}
 use Rattle.codebook.specs.Limits.{Valid}
@@ -30,7 +30,8 @@ use Rattle.reader.specs.Reader.{Cut, copyWith, copy, moveWith, move, ext
 use Rattle.reader.specs.Reached.{StandsFor}
 use Rattle.reader.proofs.Queue.{numbers-paired}
 use Rattle.reader.proofs.Step.{stands-key}
-use Rattle.reader.proofs.Moments.{Moment, momentsOf, stepAt, step-more, extractAt, copyAt, movedAt, queuedAt, MomentIs, run-moments}
+use Rattle.reader.specs.Moments.{Moment, momentsOf, extractAt, copyAt, movedAt, queuedAt, In, Removes, Removed}
+use Rattle.reader.proofs.Moments.{step-more, MomentIs, run-moments}
 
 -- ---- a path queued
 
@@ -171,11 +172,6 @@ outrun-removes B L b visits ps d = go (eqb (getD visits b 0) L)
     go false = removes-none (numbers (keyOf B) ps)
 
 -- ---- the extractions of the run
-
--- what the step at a moment says of the queue before and after step 2, and before and after step 4
-pub record Removed (B : Book) (L D : ℕ) (t : Moment) : Type 0 where
-  pub crowded : Removes (stepAt B L D t .crowded) (numbers (keyOf B) (t .state .queue)) (numbers (keyOf B) (copyAt B D t .queue))
-  pub outrun : Removes (stepAt B L D t .outrun) (numbers (keyOf B) (queuedAt B D t)) (numbers (keyOf B) (extractAt B L D t .state .queue))
 
 fresh-removed : (B : Book) (L D : ℕ) (t : Moment) → Fresh B (t .path ∷ t .state .queue) (t .state .next) →
     (t .path .blocks ≡ length (B .blocks) → ⊥) →

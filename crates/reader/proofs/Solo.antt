@@ -27,7 +27,8 @@ use Rattle.reader.specs.Reader.{Cut, commit, copyWith, copy, moveWith, m
 use Rattle.reader.proofs.Upd.{upd-other, upd-self}
 use Rattle.reader.proofs.Tree.{rest-late, turn-high, turn-past}
 use Rattle.reader.proofs.Arrays.{Alone, writes-new, writes-keep, writes-alone, claim-ids, descend-keeps}
-use Rattle.reader.proofs.Moments.{Moment, momentsOf, extractAt, copyAt, Taken, run-all}
+use Rattle.reader.specs.Moments.{Moment, momentsOf, extractAt, copyAt}
+use Rattle.reader.proofs.Moments.{Taken, run-all}
 
 module _ (B : Book) where
   -- p has an array for its last word

@@ -3,3 +3,4 @@ pub mod Paths
 pub mod Reader
 pub mod Reached
 pub mod Fit
+pub mod Moments

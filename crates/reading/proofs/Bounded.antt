@@ -20,7 +20,7 @@ use Rattle.outer.specs.Words.{Word}
 use Rattle.reader.specs.Arrays.{Arrays}
 use Rattle.reader.specs.Paths.{Path, keyOf}
 use Rattle.reader.specs.Reader as R
-use Rattle.reader.proofs.Moments.{Moment, copyAt}
+use Rattle.reader.specs.Moments.{Moment, copyAt}
 use Rattle.reader.proofs.Bounds.{alive}
 
 -- ---- the blocks of a book

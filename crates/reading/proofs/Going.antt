@@ -1,16 +1,16 @@
--- A run under way: after some extractions, memory stands for a state that the run reaches, the rest of the run from there is the rest of the whole,
--- and the counts and the walk are those of the extractions done. It holds at first; an extraction keeps it, since a run that ends with a final word
--- has fuel left and a path queued; and at a path with all blocks it gives the whole run. Assumes nothing.
-use mathlib.Core.Path.{_≡_, refl, sym, ap, ap₂, _∙_, subst}
-use mathlib.Core.List.{List, [], _∷_, _++_, map, append-assoc}
+-- A run under way: after some extractions, memory stands for the state of the run's next moment, which the run reaches, the rest of the run from there is the
+-- rest of the whole, and the counts and the walk are those of the extractions done. It holds at first, and an extraction keeps it, since a run that
+-- ends with a final word has fuel left and a path queued. It is what the contract says (specs/Before), and what the next turn needs besides. Assumes nothing.
+use mathlib.Core.Path.{_≡_, refl, sym, ap, ap₂, _∙_, subst, subst₂}
+use mathlib.Core.List.{List, [], _∷_, _++_, map, map-append, append-assoc}
 use mathlib.Core.Option.{some}
 use Prim.Native.Nat.{ℕ, zero, suc, _+_, _-_, _*_, _^_, _≤_, _<_}
 use native.Mathlib.Numerals.{add-one}
 use native.Mathlib.Nat.{mul-le-mul}
 use native.Mathlib.Omega.{arith}
 use lib.IntN.{ℤ}
-use lib.ListN.{length, getD, replicate}
-use borrow.Author.Tests.{eq-eqb, ne-eqb}
+use lib.ListN.{length, getD, replicate, length-map}
+use borrow.Author.Tests.{ne-eqb}
 use Rattle.laws.specs.Lists.{sum}
 use Rattle.laws.proofs.Lists.{length-snoc, getD-zeros}
 use Rattle.laws.specs.Pairs.{Paired}
@@ -18,19 +18,23 @@ use Rattle.codebook.specs.Book.{Book}
 use Rattle.codebook.specs.Limits.{Valid}
 use Rattle.queue.specs.Queue.{Step, Final}
 use Rattle.reader.specs.Arrays.{Arrays}
-use Rattle.reader.specs.Paths.{Path, scoreOf, keyOf, firstPath}
+use Rattle.reader.specs.Paths.{Path, keyOf, firstPath}
 use Rattle.reader.specs.Reader as R
+use Rattle.reader.specs.Moments.{Moment, moments, momentsOf, extractAt, stepAt}
 use Rattle.reader.specs.Reached.{Reached}
+use Rattle.reader.proofs.Moments.{step-more}
+use Rattle.reader.proofs.Queue.{numbers-paired}
 use Rattle.reader.proofs.Reached.{first-reached, extract-reached, reached-within}
-use Rattle.order.specs.Entries.{keyAt, queueOf}
+use Rattle.order.specs.Entries.{keyAt, queueOf, Rising}
 use Rattle.order.proofs.Queues.{queue-first, queue-length}
 use Rattle.standing.specs.Seen.{Memory}
-use Rattle.standing.specs.Standing.{Stands}
+use Rattle.standing.specs.Standing.{EntryOf, Stands}
 use Rattle.standing.proofs.Sizes.{stands-room}
 use Rattle.standing.proofs.Taken.{taken-key, taken-blocks}
 use Rattle.words.specs.Kept.{Kepts}
 use Rattle.steps.specs.declared.Tally.{Tally}
-use Rattle.reading.proofs.Visits.{run-wide}
+use Rattle.reading.specs.Before.{Before}
+use Rattle.reading.proofs.Visits.{Alike, Same, alike-zeros, extract-same}
 use Rattle.reading.proofs.Walks.{Walks, Long, Noted, walks-none, walks-next, sum-next}
 use Rattle.extraction.proofs.Counts.{blocks-few}
 use Rattle.reading.proofs.Bounded.{next-most, crowded-most, outrun-most, visits-most}
@@ -42,28 +46,34 @@ crowdedCount s = length (s .crowded)
 abbrev pub outrunCount : Step → ℕ
 outrunCount s = length (s .outrun)
 
--- the rest of a run of B
-pub record Going (B : Book) (values : List ℤ) (L N : ℕ) (whole : R.Run) (x : Memory) (order vacant visits kept : List ℕ) (t : Tally) (e : ℕ)
+-- the moment at which p is taken from before these paths
+abbrev pub momentOf : Arrays → Path → List Path → ℕ → List ℕ → Moment
+momentOf A p ps n visits = record { path = p; state = record { arrays = A; queue = ps; next = n; visits = visits } }
+
+-- the rest of the run of B from the arrays A; `own` are the visits of the book's blocks
+pub record Going (B : Book) (values : List ℤ) (L N : ℕ) (A : Arrays) (x : Memory) (order vacant visits kept : List ℕ) (t : Tally) (e : ℕ)
     (path₀ blocks₀ score₀ path blocks score : List ℤ) : Type 0 where
   pub arrays : Arrays
   pub taken : Path
   pub rest : List Path
+  pub own : List ℕ
   pub fuel : ℕ
-  pub done : List Step
+  pub done : List Moment
   pub stands : Stands B N x (e ∷ queueOf order (t .queued)) (queueOf vacant (N - (t .queued + 1))) arrays (taken ∷ rest)
   pub reached : Reached B values N arrays (taken ∷ rest)
   pub known : Kepts B arrays kept (e ∷ queueOf order (t .queued)) (taken ∷ rest)
+  pub alike : Alike (length (B .blocks)) own visits
   pub count : length done + suc fuel ≡ L * length (B .blocks) + 1
-  pub steps : whole .steps ≡ done ++ R.run (suc fuel) B L N arrays (taken ∷ rest) (t .next) visits .steps
-  pub ends : whole .final ≡ R.run (suc fuel) B L N arrays (taken ∷ rest) (t .next) visits .final
+  pub at : momentsOf B L N A ≡ done ++ moments (suc fuel) B L N arrays (taken ∷ rest) (t .next) own
+  pub ends : R.runOf B L N A .final ≡ R.run (suc fuel) B L N arrays (taken ∷ rest) (t .next) own .final
   pub extractions : t .extractions ≡ length done
-  pub crowded : t .crowded ≡ sum (map crowdedCount done)
-  pub outrun : t .outrun ≡ sum (map outrunCount done)
+  pub crowded : t .crowded ≡ sum (map crowdedCount (map (stepAt B L N) done))
+  pub outrun : t .outrun ≡ sum (map outrunCount (map (stepAt B L N) done))
   pub next-few : t .next ≤ suc (length done)
   pub crowded-few : t .crowded ≤ length done
   pub outrun-few : t .outrun ≤ 256 * length done
   pub visits-few : (b : ℕ) → getD visits b 0 ≤ length done
-  pub walks : Walks done path₀ blocks₀ score₀ path blocks score
+  pub walks : Walks (map (stepAt B L N) done) path₀ blocks₀ score₀ path blocks score
 
 -- ---- the definition of the run, opened
 
@@ -91,33 +101,41 @@ module _ (B : Book) (L N : ℕ) where
     unfolding R.run
     run-more d = rw (ne-eqb (p .blocks) (length (B .blocks)) d)
 
-    -- a path with all blocks
-    run-stops : p .blocks ≡ length (B .blocks) → R.run (suc fuel) B L N A (p ∷ ps) n visits ≡ R.stopped B A p ps
-    unfolding R.run
-    run-stops d = rw (eq-eqb (p .blocks) (length (B .blocks)) d)
+    -- its moment, and those after it
+    moments-more : (p .blocks ≡ length (B .blocks) → ⊥) →
+        (let x = R.extract B L N A p ps n visits .state in
+        moments (suc fuel) B L N A (p ∷ ps) n visits ≡ momentOf A p ps n visits ∷ moments fuel B L N (x .arrays) (x .queue) (x .next) (x .visits))
+    unfolding moments
+    moments-more d = rw (ne-eqb (p .blocks) (length (B .blocks)) d)
+
+    -- its step
+    step-is : (p .blocks ≡ length (B .blocks) → ⊥) → stepAt B L N (momentOf A p ps n visits) ≡ R.extract B L N A p ps n visits .step
+    unfolding extractAt
+    step-is d = step-more B L N (momentOf A p ps n visits) d
 
 -- ---- at first
 
 pub going-first : (B : Book) (values : List ℤ) (L N : ℕ) (A : Arrays) (x : Memory) (order vacant kept : List ℕ) (e : ℕ) (path₀ blocks₀ score₀ : List ℤ) → Valid B →
     1 ≤ N → A .vals (B .m) 1 ≡ values → Stands B N x (e ∷ []) (queueOf vacant (N - 1)) A (firstPath B ∷ []) →
-    Going B values L N (R.runOf B L N A) x order vacant (replicate 512 0) kept
+    Going B values L N A x order vacant (replicate 512 0) kept
     (record { queued = 0; next = 1; extractions = 0; crowded = 0; outrun = 0 }) e path₀ blocks₀ score₀ path₀ blocks₀ score₀
-unfolding queueOf sum Paired firstPath
+unfolding queueOf sum Paired firstPath R.runOf momentsOf
 going-first B values L N A x order vacant kept e path₀ blocks₀ score₀ ok some′ root st =
     let V′ : ℕ = length (B .blocks) in
-    let w = run-wide B L N A (blocks-few B ok) ∙ ap (λ n. R.run n B L N A (firstPath B ∷ []) 1 (replicate 512 0)) (add-one (L * V′)) in
     record {
       arrays = A;
       taken = firstPath B;
       rest = [];
+      own = replicate V′ 0;
       fuel = L * V′;
       done = [];
       stands = st;
       reached = first-reached B values N A root some′;
       known = (record { key = st .queue .0 .key; next = λ b q. absurd (omega arith) }, tt);
+      alike = alike-zeros V′ 512 (blocks-few B ok);
       count = omega arith;
-      steps = ap (λ (r : R.Run). r .steps) w;
-      ends = ap (λ (r : R.Run). r .final) w;
+      at = ap (λ n. moments n B L N A (firstPath B ∷ []) 1 (replicate V′ 0)) (add-one (L * V′));
+      ends = ap (λ n. R.run n B L N A (firstPath B ∷ []) 1 (replicate V′ 0) .final) (add-one (L * V′));
       extractions = refl;
       crowded = refl;
       outrun = refl;
@@ -130,8 +148,8 @@ going-first B values L N A x order vacant kept e path₀ blocks₀ score₀ ok s
 
 -- ---- under way
 
-module _ {B : Book} {values : List ℤ} {L N : ℕ} {whole : R.Run} {x : Memory} {order vacant visits kept : List ℕ} {t : Tally} {e : ℕ}
-    {path₀ blocks₀ score₀ path blocks score : List ℤ} (g : Going B values L N whole x order vacant visits kept t e path₀ blocks₀ score₀ path blocks score) where
+module _ {B : Book} {values : List ℤ} {L N : ℕ} {A : Arrays} {x : Memory} {order vacant visits kept : List ℕ} {t : Tally} {e : ℕ}
+    {path₀ blocks₀ score₀ path blocks score : List ℤ} (g : Going B values L N A x order vacant visits kept t e path₀ blocks₀ score₀ path blocks score) where
   -- the entry in hand is the path's
   pub going-small : e < 36028797018963968
   unfolding Paired
@@ -165,80 +183,121 @@ module _ {B : Book} {values : List ℤ} {L N : ℕ} {whole : R.Run} {x : Memory}
 
   -- ---- an extraction
 
-  module _ (ok : Valid B) (size : length values ≡ 2 ^ (B .m)) (two : 2 ≤ N) (most : N ≤ 256) (f : Final) (found : whole .final ≡ some f)
+  module _ (ok : Valid B) (size : length values ≡ 2 ^ (B .m)) (two : 2 ≤ N) (most : N ≤ 256) (f : Final) (found : R.runOf B L N A .final ≡ some f)
       (more : g .taken .blocks < length (B .blocks)) where
-    -- what it comes to
+    -- what it comes to, by the visits of the tables and by those of the book's blocks
     abbrev made : R.Extracted
     made = R.extract B L N (g .arrays) (g .taken) (g .rest) (t .next) visits
 
-    opened : R.run (suc (g .fuel)) B L N (g .arrays) (g .taken ∷ g .rest) (t .next) visits
-        ≡ R.after (made .step) (R.run (g .fuel) B L N (made .state .arrays) (made .state .queue) (made .state .next) (made .state .visits))
-    opened = run-more B L N (g .fuel) (g .arrays) (g .taken) (g .rest) (t .next) visits (λ q. omega arith)
+    abbrev mine : R.Extracted
+    mine = R.extract B L N (g .arrays) (g .taken) (g .rest) (t .next) (g .own)
 
-    later : Onward B L N (g .fuel) (made .state .queue)
+    alike : Same (length (B .blocks)) mine made
+    alike = extract-same B L N (g .arrays) (g .taken) (g .rest) (t .next) (length (B .blocks)) (g .own) visits more (g .alike)
+
+    -- the moment, and its step
+    abbrev here : Moment
+    here = momentOf (g .arrays) (g .taken) (g .rest) (t .next) (g .own)
+
+    here-step : stepAt B L N here ≡ mine .step
+    here-step = step-is B L N (g .fuel) (g .arrays) (g .taken) (g .rest) (t .next) (g .own) (λ q. omega arith)
+
+    opened : R.run (suc (g .fuel)) B L N (g .arrays) (g .taken ∷ g .rest) (t .next) (g .own)
+        ≡ R.after (mine .step) (R.run (g .fuel) B L N (mine .state .arrays) (mine .state .queue) (mine .state .next) (mine .state .visits))
+    opened = run-more B L N (g .fuel) (g .arrays) (g .taken) (g .rest) (t .next) (g .own) (λ q. omega arith)
+
+    later : Onward B L N (g .fuel) (mine .state .queue)
     unfolding R.after
     later =
-        onward B L N (g .fuel) (made .state .arrays) (made .state .queue) (made .state .next) (made .state .visits) f
+        onward B L N (g .fuel) (mine .state .arrays) (mine .state .queue) (mine .state .next) (mine .state .visits) f
         (ap (λ (r : R.Run). r .final) (sym opened) ∙ sym (g .ends) ∙ found)
 
-    -- the rest of the run from there
-    rest-is : {n : ℕ} {w : List ℕ} → n ≡ made .state .next → w ≡ made .state .visits →
-        R.run (g .fuel) B L N (made .state .arrays) (made .state .queue) (made .state .next) (made .state .visits)
-        ≡ R.run (suc (later .less)) B L N (made .state .arrays) (later .taken ∷ later .rest) n w
-    rest-is a b =
-        ap₂ (λ k qs. R.run k B L N (made .state .arrays) qs (made .state .next) (made .state .visits)) (later .fuel-is) (later .queue-is)
-        ∙ ap₂ (λ k y. R.run (suc (later .less)) B L N (made .state .arrays) (later .taken ∷ later .rest) k y) (sym a) (sym b)
+    -- the rest of the run from there, and of its moments
+    rest-is : {n : ℕ} → n ≡ mine .state .next →
+        R.run (g .fuel) B L N (mine .state .arrays) (mine .state .queue) (mine .state .next) (mine .state .visits)
+        ≡ R.run (suc (later .less)) B L N (mine .state .arrays) (later .taken ∷ later .rest) n (mine .state .visits)
+    rest-is a =
+        ap₂ (λ k qs. R.run k B L N (mine .state .arrays) qs (mine .state .next) (mine .state .visits)) (later .fuel-is) (later .queue-is)
+        ∙ ap (λ k. R.run (suc (later .less)) B L N (mine .state .arrays) (later .taken ∷ later .rest) k (mine .state .visits)) (sym a)
+
+    moments-are : {n : ℕ} → n ≡ mine .state .next →
+        moments (suc (g .fuel)) B L N (g .arrays) (g .taken ∷ g .rest) (t .next) (g .own)
+        ≡ here ∷ moments (suc (later .less)) B L N (mine .state .arrays) (later .taken ∷ later .rest) n (mine .state .visits)
+    moments-are a =
+        moments-more B L N (g .fuel) (g .arrays) (g .taken) (g .rest) (t .next) (g .own) (λ q. omega arith)
+        ∙ ap₂ (λ k qs. here ∷ moments k B L N (mine .state .arrays) qs (mine .state .next) (mine .state .visits)) (later .fuel-is) (later .queue-is)
+        ∙ ap (λ k. here ∷ moments (suc (later .less)) B L N (mine .state .arrays) (later .taken ∷ later .rest) k (mine .state .visits)) (sym a)
 
     few : length (g .rest) < N
     few = stands-room (g .stands) .0
 
     -- its entry of the walk
-    step-key : keyAt e ≡ record { score = made .step .score; blocks = made .step .blocks; number = made .step .path }
+    step-key : keyAt e ≡ record { score = mine .step .score; blocks = mine .step .blocks; number = mine .step .path }
     unfolding R.extract keyOf
     step-key = taken-key (g .stands)
 
     module _ (r : Tally) (queued-is : r .queued ≡ length (made .state .queue)) where
       -- a path is queued
       pub going-some : 1 ≤ r .queued
-      going-some = omega (arith, queued-is, ap length (later .queue-is))
+      going-some = omega (arith, queued-is, ap length (alike .queue), ap length (later .queue-is))
 
       module _ (y : Memory) (order′ vacant′ visits′ kept′ : List ℕ) (next-is : r .next ≡ made .state .next) (visits-is : visits′ ≡ made .state .visits)
           (crowded-is : r .crowded ≡ t .crowded + length (made .step .crowded)) (outrun-is : r .outrun ≡ t .outrun + length (made .step .outrun))
           (extractions-is : r .extractions ≡ t .extractions + 1)
           (st : Stands B N y (queueOf order′ (r .queued)) (queueOf vacant′ (N - r .queued)) (made .state .arrays) (made .state .queue))
           (words : Kepts B (made .state .arrays) kept′ (queueOf order′ (r .queued)) (made .state .queue)) where
+        mine-stands : Stands B N y (queueOf order′ (r .queued)) (queueOf vacant′ (N - r .queued)) (mine .state .arrays) (mine .state .queue)
+        mine-stands =
+            subst₂ (λ (F : Arrays) (qs : List Path). Stands B N y (queueOf order′ (r .queued)) (queueOf vacant′ (N - r .queued)) F qs) (sym (alike .arrays))
+            (sym (alike .queue)) st
+
+        mine-words : Kepts B (mine .state .arrays) kept′ (queueOf order′ (r .queued)) (mine .state .queue)
+        mine-words =
+            subst₂ (λ (F : Arrays) (qs : List Path). Kepts B F kept′ (queueOf order′ (r .queued)) qs) (sym (alike .arrays)) (sym (alike .queue)) words
+
         taken-stands : Stands B N y (getD order′ (r .queued - 1) 0 ∷ queueOf order′ (r .queued - 1)) (queueOf vacant′ (N - (r .queued - 1 + 1)))
-            (made .state .arrays) (later .taken ∷ later .rest)
+            (mine .state .arrays) (later .taken ∷ later .rest)
         taken-stands =
             let q : r .queued - 1 + 1 ≡ r .queued = omega (arith, going-some) in
-            rw q (rw (queue-first (r .queued) order′ going-some, later .queue-is) at st)
+            rw q (rw (queue-first (r .queued) order′ going-some, later .queue-is) at mine-stands)
+
+        -- the extractions done, and this one
+        steps-next : map (stepAt B L N) (g .done ++ here ∷ []) ≡ map (stepAt B L N) (g .done) ++ mine .step ∷ []
+        steps-next = map-append (stepAt B L N) (g .done) (here ∷ []) ∙ ap (λ s. map (stepAt B L N) (g .done) ++ s ∷ []) here-step
 
         pub going-next : {path′ blocks′ score′ : List ℤ} → Long (L * length (B .blocks) + 1) path₀ blocks₀ score₀ →
             Noted (t .extractions) (keyAt e) path blocks score path′ blocks′ score′ →
-            Going B values L N whole y order′ vacant′ visits′ kept′
+            Going B values L N A y order′ vacant′ visits′ kept′
             (record { queued = r .queued - 1; next = r .next; extractions = r .extractions; crowded = r .crowded; outrun = r .outrun })
             (getD order′ (r .queued - 1) 0) path₀ blocks₀ score₀ path′ blocks′ score′
         unfolding R.after
-        going-next long noted =
-            let s : Step = made .step in
-            let l : length (g .done ++ s ∷ []) ≡ suc (length (g .done)) = length-snoc (g .done) s in
-            let run = opened ∙ ap (R.after s) (rest-is next-is visits-is) in
+        going-next {path′} {blocks′} {score′} long noted =
+            let s : Step = mine .step in
+            let before : List Step = map (stepAt B L N) (g .done) in
+            let next : r .next ≡ mine .state .next = next-is ∙ sym (alike .next) in
+            let l : length (g .done ++ here ∷ []) ≡ suc (length (g .done)) = length-snoc (g .done) here in
+            let counted : (f : Step → ℕ) → sum (map f (map (stepAt B L N) (g .done ++ here ∷ []))) ≡ sum (map f before) + f s = λ f.
+            ap (λ l. sum (map f l)) steps-next ∙ sum-next f before s in
             record {
-              arrays = made .state .arrays;
+              arrays = mine .state .arrays;
               taken = later .taken;
               rest = later .rest;
+              own = mine .state .visits;
               fuel = later .less;
-              done = g .done ++ s ∷ [];
+              done = g .done ++ here ∷ [];
               stands = taken-stands;
               reached =
-                  rw (later .queue-is) at (extract-reached B values ok size L N two (g .arrays) (g .taken) (g .rest) (t .next) visits (g .reached) more);
-              known = rw (queue-first (r .queued) order′ going-some, later .queue-is) at words;
+                  rw (later .queue-is) at (extract-reached B values ok size L N two (g .arrays) (g .taken) (g .rest) (t .next) (g .own) (g .reached) more);
+              known = rw (queue-first (r .queued) order′ going-some, later .queue-is) at mine-words;
+              alike = subst (Alike (length (B .blocks)) (mine .state .visits)) (sym visits-is) (alike .visits);
               count = omega (arith, g .count, later .fuel-is);
-              steps = g .steps ∙ ap (λ (z : R.Run). g .done ++ z .steps) run ∙ sym (append-assoc (g .done) (s ∷ []) _);
-              ends = g .ends ∙ ap (λ (z : R.Run). z .final) run;
+              at = g .at ∙ ap (λ ms. g .done ++ ms) (moments-are next) ∙ sym (append-assoc (g .done) (here ∷ []) _);
+              ends = g .ends ∙ ap (λ (z : R.Run). z .final) (opened ∙ ap (R.after s) (rest-is next));
               extractions = omega (arith, g .extractions);
-              crowded = crowded-is ∙ ap (λ n. n + crowdedCount s) (g .crowded) ∙ sym (sum-next crowdedCount (g .done) s);
-              outrun = outrun-is ∙ ap (λ n. n + outrunCount s) (g .outrun) ∙ sym (sum-next outrunCount (g .done) s);
+              crowded =
+                  crowded-is ∙ ap₂ (λ n (z : Step). n + crowdedCount z) (g .crowded) (sym (alike .step)) ∙ sym (counted crowdedCount);
+              outrun =
+                  outrun-is ∙ ap₂ (λ n (z : Step). n + outrunCount z) (g .outrun) (sym (alike .step)) ∙ sym (counted outrunCount);
               next-few =
                   omega (arith, next-is, next-most B L N two (g .arrays) (g .taken) (g .rest) (t .next) visits few, g .next-few);
               crowded-few =
@@ -249,48 +308,43 @@ module _ {B : Book} {values : List ℤ} {L N : ℕ} {whole : R.Run} {x : Memory}
                   let v = visits-most B L N two (g .arrays) (g .taken) (g .rest) (t .next) visits few (length (g .done)) (g .visits-few) b in
                   omega (arith, ap (λ w. getD w b 0) visits-is);
               walks =
-                  walks-next s step-key (g .extractions)
+                  subst (λ l. Walks l path₀ blocks₀ score₀ path′ blocks′ score′) (sym steps-next)
+                  (walks-next s step-key (g .extractions ∙ sym (length-map (g .done) (stepAt B L N)))
                   (record {
                     path-long = omega (arith, long .path-long, going-fuel);
                     blocks-long = omega (arith, long .blocks-long, going-fuel);
                     score-long = omega (arith, long .score-long, going-fuel);
-                  }) (g .walks) noted;
+                  }) (g .walks) noted);
             }
 
-  -- ---- the end
+  -- ---- what the contract says of it
 
-  module _ (all : g .taken .blocks ≡ length (B .blocks)) where
-    -- the last extraction, and the whole run
-    abbrev lastStep : Step
-    lastStep = record { path = g .taken .number; blocks = g .taken .blocks; score = scoreOf B (g .taken) (g .taken .blocks); crowded = []; outrun = [] }
-
-    stops : R.run (suc (g .fuel)) B L N (g .arrays) (g .taken ∷ g .rest) (t .next) visits ≡ R.stopped B (g .arrays) (g .taken) (g .rest)
-    stops = run-stops B L N (g .fuel) (g .arrays) (g .taken) (g .rest) (t .next) visits all
-
-    last-steps : whole .steps ≡ g .done ++ lastStep ∷ []
-    unfolding R.stopped
-    last-steps = g .steps ∙ ap (λ (z : R.Run). g .done ++ z .steps) stops
-
-    pub last-final : whole .final ≡ R.stopped B (g .arrays) (g .taken) (g .rest) .final
-    last-final = g .ends ∙ ap (λ (z : R.Run). z .final) stops
-
-    pub last-count : t .extractions + 1 ≡ length (whole .steps)
-    last-count = omega (arith, g .extractions, ap length last-steps, length-snoc (g .done) lastStep)
-
-    pub last-crowded : t .crowded ≡ sum (map crowdedCount (whole .steps))
-    last-crowded = omega (arith, g .crowded, ap (λ l. sum (map crowdedCount l)) last-steps, sum-next crowdedCount (g .done) lastStep)
-
-    pub last-outrun : t .outrun ≡ sum (map outrunCount (whole .steps))
-    last-outrun = omega (arith, g .outrun, ap (λ l. sum (map outrunCount l)) last-steps, sum-next outrunCount (g .done) lastStep)
-
-    pub last-walks : {path′ blocks′ score′ : List ℤ} → Long (L * length (B .blocks) + 1) path₀ blocks₀ score₀ →
-        Noted (t .extractions) (keyAt e) path blocks score path′ blocks′ score′ → Walks (whole .steps) path₀ blocks₀ score₀ path′ blocks′ score′
-    unfolding keyOf
-    last-walks {path′} {blocks′} {score′} long noted =
-        subst (λ l. Walks l path₀ blocks₀ score₀ path′ blocks′ score′) (sym last-steps)
-        (walks-next lastStep (taken-key (g .stands)) (g .extractions)
-        (record {
-          path-long = omega (arith, long .path-long, going-fuel);
-          blocks-long = omega (arith, long .blocks-long, going-fuel);
-          score-long = omega (arith, long .score-long, going-fuel);
-        }) (g .walks) noted)
+  pub going-before : Rising order (t .queued) → (most : ℕ) → t .extractions ≤ most → (t .extractions < most → g .taken .blocks ≡ length (B .blocks)) →
+      Before B L N A most x order vacant visits kept t e path₀ blocks₀ score₀ path blocks score
+  unfolding moments Paired
+  going-before up most l d =
+      record {
+        made = g .done;
+        here = momentOf (g .arrays) (g .taken) (g .rest) (t .next) (g .own);
+        later = _;
+        moments = g .at;
+        extractions = g .extractions;
+        bound = l;
+        stops = d;
+        few = going-fuel;
+        stands = g .stands;
+        queued = numbers-paired keyAt (keyOf B) (EntryOf B (x .rows)) (λ d p h. h .key) _ _ (g .stands .queue .1);
+        next = refl;
+        visited = λ b h. sym (g .alike .same b h);
+        crowded = g .crowded;
+        outrun = g .outrun;
+        path-is = g .walks .path-is;
+        blocks-is = g .walks .blocks-is;
+        score-is = g .walks .score-is;
+        known = g .known;
+        next-few = omega (arith, g .next-few, g .extractions);
+        crowded-few = omega (arith, g .crowded-few, g .extractions);
+        outrun-few = omega (arith, g .outrun-few, g .extractions);
+        visits-few = λ b. omega (arith, g .visits-few b, g .extractions);
+        rising = up;
+      }

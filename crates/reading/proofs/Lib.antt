@@ -6,3 +6,6 @@ pub mod Bounded
 pub mod Ended
 pub mod Going
 pub mod Turns
+pub mod Stops
+pub mod Resumed
+pub mod Lost

@@ -1,47 +1,41 @@
--- A run on its tables: what each call of the run needs, from a run under way (Going) on a book in tables, and what the run answers at its end. The
--- blocks are read off the tables; a run of a valid book ends with a final word, by its agreement with the machine (reader). Assumes nothing.
+-- A run on its tables: what each call of the run needs, from a run under way (Going) on a book in tables. The blocks are read off the tables; a run of a
+-- valid book ends with a final word, by its agreement with the machine (reader). Assumes nothing.
 use mathlib.Core.Path.{_≡_, sym, ap, _∙_, subst}
 use mathlib.Core.List.{List}
 use mathlib.Core.Option.{some}
-use Prim.Native.Nat.{ℕ, suc, _+_, _-_, _*_, _^_, _≤_, _<_}
+use Prim.Native.Nat.{ℕ, _+_, _-_, _*_, _^_, _≤_, _<_}
 use native.Mathlib.Omega.{arith}
 use lib.IntN.{ℤ, pos}
 use lib.ListN.{length, getD, set, replicate}
 use lib.Pow.{pow-mono}
-use Rattle.polar.specs.Layers.{part}
 use Rattle.codebook.specs.Book.{Book, blockAt}
 use Rattle.codebook.specs.Limits.{BlockOk, Valid}
-use Rattle.codec.specs.Code.{readData}
 use Rattle.queue.specs.Queue.{Final}
 use Rattle.machine.specs.Machine as M
 use Rattle.machine.specs.Calls.{finalOf}
-use Rattle.reader.specs.Arrays.{Arrays, sumsOf}
-use Rattle.reader.specs.Paths.{scoreOf, keyOf, firstPath, idsOf, viewOf}
-use Rattle.reader.specs.Fit.{Fit, FitFor}
+use Rattle.reader.specs.Arrays.{Arrays}
+use Rattle.reader.specs.Paths.{scoreOf, keyOf, firstPath}
 use Rattle.reader.specs.Reader as R
 use Rattle.reader.proofs.Agree.{valid-agree}
-use Rattle.reader.proofs.Reached.{reached-fit}
-use Rattle.order.specs.Entries.{keyAt, Packed, queueOf}
+use Rattle.order.specs.Entries.{keyAt, Packed, queueOf, Rising}
 use Rattle.sharing.specs.Sharing.{heldAt, Rows}
-use Rattle.heights.specs.Workspace.{spot, Id}
 use Rattle.standing.specs.Seen.{Memory, memory}
 use Rattle.standing.specs.Standing.{Stands, InHand}
 use Rattle.words.specs.declared.Block.{Block}
 use Rattle.words.specs.Kept.{Kepts}
 use Rattle.steps.specs.declared.Setting.{Setting}
 use Rattle.steps.specs.declared.Tally.{Tally}
-use Rattle.steps.specs.Steps.{BlockIs, committed}
-use Rattle.reading.specs.declared.Ran.{Ran}
+use Rattle.steps.specs.Steps.{BlockIs}
 use Rattle.start.specs.Start.{firstHeld, InTables}
 use Rattle.start.proofs.Begun.{Zeros}
-use Rattle.reading.specs.Running.{arraysOf, Running, RanIs}
+use Rattle.reading.specs.Before.{Before}
+use Rattle.reading.specs.Running.{arraysOf, Running}
 use Rattle.extraction.specs.Extraction.{Extracting}
-use Rattle.reading.specs.Ending.{Ending}
 use Rattle.reading.proofs.First.{first-stands}
-use Rattle.reading.proofs.Walks.{Walks, Long, Noted}
+use Rattle.reading.proofs.Walks.{Long, Noted}
 use Rattle.extraction.proofs.Counts.{blocks-few}
 use Rattle.reading.proofs.Bounded.{blocks-some}
-use Rattle.reading.proofs.Going.{Going, going-first, going-blocks, going-within, going-fuel, going-some, going-next, last-final, last-count, last-crowded, last-outrun, last-walks}
+use Rattle.reading.proofs.Going.{Going, going-first, going-blocks, going-within, going-fuel, going-some, going-next, going-before}
 
 -- r is block b of any book in these tables that has it
 abbrev pub ReadAt : List ℕ → List ℕ → List ℤ → ℕ → Block → Type 0
@@ -89,7 +83,7 @@ module _ {s : Setting} {values : List ℤ} {kinds terms heights starts : List �
     pub run-first : 1 ≤ s .paths → s .paths ≤ 256 → (old : List ℕ) → Zeros old → Rows 1 old → rows ≡ set old (s .m) 1 →
         ((h i : ℕ) → h ≤ 9 → i ≤ 256 → heldAt holders h i ≡ firstHeld (s .m) h i) → ((k : ℕ) → k + 1 < s .paths → getD vacant k 0 ≡ k + 1) →
         Packed e (record { score = pos 0; blocks = 0; number = 0 }) 0 → arraysOf (s .m) numbers bytes .vals (s .m) 1 ≡ values →
-        Going (c .book) values (s .visits) (s .paths) (R.runOf (c .book) (s .visits) (s .paths) (arraysOf (s .m) numbers bytes))
+        Going (c .book) values (s .visits) (s .paths) (arraysOf (s .m) numbers bytes)
         (memory rows holders numbers bytes) order vacant (replicate 512 0) kept
         (record { queued = 0; next = 1; extractions = 0; crowded = 0; outrun = 0 }) e path₀ blocks₀ score₀ path₀ blocks₀ score₀
     run-first some′ most old none size is held free p root =
@@ -101,8 +95,8 @@ module _ {s : Setting} {values : List ℤ} {kinds terms heights starts : List �
 
   -- ---- under way
 
-  module _ {whole : R.Run} {x : Memory} {order vacant visits kept : List ℕ} {t : Tally} {e : ℕ} {path₀ blocks₀ score₀ path blocks score : List ℤ}
-      (g : Going (c .book) values (s .visits) (s .paths) whole x order vacant visits kept t e path₀ blocks₀ score₀ path blocks score) where
+  module _ {A : Arrays} {x : Memory} {order vacant visits kept : List ℕ} {t : Tally} {e : ℕ} {path₀ blocks₀ score₀ path blocks score : List ℤ}
+      (g : Going (c .book) values (s .visits) (s .paths) A x order vacant visits kept t e path₀ blocks₀ score₀ path blocks score) where
     -- the path in hand
     abbrev pub run-hand : InHand (s .m) (s .paths) x e (queueOf order (t .queued)) (queueOf vacant (s .paths - (t .queued + 1)))
     run-hand = record { book = c .book; arrays = g .arrays; taken = g .taken; rest = g .rest; deep = c .deep; stands = g .stands }
@@ -153,7 +147,7 @@ module _ {s : Setting} {values : List ℤ} {kinds terms heights starts : List �
         let e : s .visits * length (c .book .blocks) ≡ s .visits * s .blocks = ap (λ n. s .visits * n) (c .blocks) in
         record { path-long = omega (arith, l .0); blocks-long = omega (arith, l .1); score-long = omega (arith, l .2) }
 
-    module _ (two : 2 ≤ s .paths) (most : s .paths ≤ 256) (found : (f : Final) × (whole .final ≡ some f)) (d : keyAt e .blocks ≡ s .blocks → ⊥) (r : Tally) where
+    module _ (two : 2 ≤ s .paths) (most : s .paths ≤ 256) (found : (f : Final) × (R.runOf (c .book) (s .visits) (s .paths) A .final ≡ some f)) (d : keyAt e .blocks ≡ s .blocks → ⊥) (r : Tally) where
       -- a path is queued after it
       pub run-some : r .queued ≡ length (run-made .state .queue) → 1 ≤ r .queued
       run-some q = going-some g ok (c .size ∙ ap (λ n. 2 ^ n) (sym (c .deep))) two most (found .0) (found .1) (run-next d) r q
@@ -166,69 +160,15 @@ module _ {s : Setting} {values : List ℤ} {kinds terms heights starts : List �
           r .extractions ≡ t .extractions + 1 →
           (s .visits * s .blocks + 1 ≤ length path₀) × (s .visits * s .blocks + 1 ≤ length blocks₀) × (s .visits * s .blocks + 1 ≤ length score₀) →
           {path′ blocks′ score′ : List ℤ} → Noted (t .extractions) (keyAt e) path blocks score path′ blocks′ score′ →
-          Going (c .book) values (s .visits) (s .paths) whole y order′ vacant′ visits′ kept′
+          Going (c .book) values (s .visits) (s .paths) A y order′ vacant′ visits′ kept′
           (record { queued = r .queued - 1; next = r .next; extractions = r .extractions; crowded = r .crowded; outrun = r .outrun })
           (getD order′ (r .queued - 1) 0) path₀ blocks₀ score₀ path′ blocks′ score′
       run-turn y order′ vacant′ visits′ kept′ x more l n =
           going-next g ok (c .size ∙ ap (λ n. 2 ^ n) (sym (c .deep))) two most (found .0) (found .1) (run-next d) r (x .0) y order′ vacant′ visits′ kept′ (x .1) (x .2) (x .3) (x .4) more (x .5) (x .6)
           (long-enough l) n
 
-    -- ---- the end
+    -- ---- what the contract says of it
 
-    module _ (d : keyAt e .blocks ≡ s .blocks) where
-      run-all : g .taken .blocks ≡ length (c .book .blocks)
-      run-all = sym (going-blocks g) ∙ d ∙ sym (c .blocks)
-
-      -- the path has a last block
-      pub last-index : g .taken .blocks ≡ suc (s .blocks - 1)
-      last-index = omega (arith, run-all, c .blocks, run-blocks .0)
-
-      pub last-fit : Fit (c .book) (g .arrays) (g .taken) (s .blocks - 1)
-      unfolding FitFor
-      last-fit =
-          subst (FitFor (c .book) (g .arrays) (g .taken)) last-index
-          (reached-fit (c .book) values ok (c .size ∙ ap (λ n. 2 ^ n) (sym (c .deep))) (c .range) (s .paths) (g .arrays) (g .taken) (g .rest) (g .reached))
-
-      abbrev pub run-ending : (last : Block) (i : ℕ) → i ≡ s .blocks - 1 → ReadAt heights starts biases i last →
-          Ending (s .m) (s .paths) x e (queueOf order (t .queued)) (queueOf vacant (s .paths - (t .queued + 1))) last
-      run-ending last i q l =
-          record {
-            hand = run-hand;
-            valid = ok;
-            b = s .blocks - 1;
-            own =
-                record {
-                  blocks = last-index;
-                  block =
-                      subst (λ n. BlockIs (c .book) n last) q (l (c .book) kinds terms ok (c .tables) (omega (arith, run-blocks .0, c .blocks)));
-                  fit = last-fit;
-                };
-            whole = omega (arith, run-blocks .0, c .blocks);
-          }
-
-      -- its walk
-      pub run-walks :
-          (s .visits * s .blocks + 1 ≤ length path₀) × (s .visits * s .blocks + 1 ≤ length blocks₀) × (s .visits * s .blocks + 1 ≤ length score₀) →
-          {path′ blocks′ score′ : List ℤ} → Noted (t .extractions) (keyAt e) path blocks score path′ blocks′ score′ →
-          Walks (whole .steps) path₀ blocks₀ score₀ path′ blocks′ score′
-      run-walks l n = last-walks g run-all (long-enough l) n
-
-      -- what the run answers
-      pub run-ran : (r : Ran) (bytes : List ℕ) → (r .extractions ≡ t .extractions + 1) × (r .crowded ≡ t .crowded) × (r .outrun ≡ t .outrun) →
-          (r .discrepancy ≡ g .taken .spent + g .taken .cost) × Id (s .paths) (r .id)
-          × (part (spot (s .m) (r .id) (s .m)) (2 ^ (s .m)) bytes ≡ sumsOf (committed run-hand) (s .m)) → RanIs (s .m) (s .paths) whole r bytes
-      unfolding R.stopped
-      run-ran r bytes n w =
-          let B : Book = c .book in
-          let word : List ℕ = sumsOf (R.commit B (idsOf (g .rest)) (g .taken) (g .taken .blocks) (viewOf (g .arrays) (g .taken))) (B .m) in
-          record {
-            final = record { word = word; bits = readData B word; discrepancy = g .taken .spent + g .taken .cost };
-            ends = last-final g run-all;
-            extractions = n .0 ∙ last-count g run-all;
-            crowded = n .1 ∙ last-crowded g run-all;
-            outrun = n .2 ∙ last-outrun g run-all;
-            discrepancy = w .0;
-            id = w .1;
-            word =
-                w .2 ∙ ap (sumsOf (R.commit B (idsOf (g .rest)) (g .taken) (g .taken .blocks) (viewOf (g .arrays) (g .taken)))) (sym (c .deep));
-          }
+    pub run-before : Rising order (t .queued) → (most : ℕ) → t .extractions ≤ most → (t .extractions < most → keyAt e .blocks ≡ s .blocks) →
+        Before (c .book) (s .visits) (s .paths) A most x order vacant visits kept t e path₀ blocks₀ score₀ path blocks score
+    run-before up most l d = going-before g up most l (λ k. sym (going-blocks g) ∙ d k ∙ sym (c .blocks))

@@ -1,2 +1,4 @@
 pub mod Running
 pub mod Ending
+pub mod Before
+pub mod Turning

@@ -20,9 +20,15 @@ use Rattle.runs.proofs.Ends.{run-steps}
 use Rattle.checks.proofs.Fitting.{settings-tell, settings-fit}
 use Rattle.attempts.specs.Attempt.{fitsFor, Attempted, ranOf, answerOf, noRun, unbarred, attemptWith, attempted}
 use Rattle.attempts.proofs.Unbarred.{nothing-bars}
-use Rattle.decoder.proofs.Whole.{Left}
 use Rattle.room.specs.Room.{fewWith, few}
 use Rattle.screen.specs.Screen.{stepsUnbarred, stepsWith, stepsOf, Fitting}
+
+-- counts and walk as an attempt leaves them
+pub record Left (hook : Bool) (c : Input) (l : Lent) (counts : Counts) (after : Lent) : Type 0 where
+  pub counted : counts ≡ attempted hook c l .answer .counts
+  pub paths : after .walkPath ≡ attempted hook c l .lent .walkPath
+  pub blocks : after .walkBlocks ≡ attempted hook c l .lent .walkBlocks
+  pub scores : after .walkScore ≡ attempted hook c l .lent .walkScore
 
 -- so many extractions are counted, and the walk's buffers hold these
 pub record Extracted (steps : List Step) (l : Lent) (count : ℕ) (after : Lent) : Type 0 where

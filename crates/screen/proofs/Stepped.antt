@@ -12,13 +12,12 @@ use Rattle.machine.specs.declared.Decoded.{Decoded}
 use Rattle.queue.specs.Queue.{Step}
 use Rattle.machine.specs.Calls.{Input, Lent, plainCall}
 use Rattle.attempts.specs.Attempt.{fitsFor}
-use Rattle.decoder.specs.WholeRun.{WholeRun}
-use Rattle.decoder.proofs.Whole.{Left}
+use Rattle.attempts.specs.WholeRun.{WholeRun}
 use Rattle.steprecords.specs.declared.StepRecord.{StepRecord}
 use Rattle.steprecords.specs.Records.{blank, nthRecord, recordAt}
-use Rattle.steprecords.proofs.Copied.{past, record-at}
 use Rattle.screen.specs.Screen.{stepsOf, plainStep, WholeStep}
-use Rattle.screen.proofs.Extracted.{left-extracted, left-long}
+use Rattle.steprecords.proofs.Copied.{past, record-at}
+use Rattle.screen.proofs.Extracted.{Left, left-extracted, left-long}
 use Rattle.screen.proofs.Shown.{plain-left, ran-steps}
 
 -- the call's answer and what it leaves

@@ -18,7 +18,7 @@ use Rattle.queue.specs.Queue.{Step}
 use Rattle.machine.specs.Machine.{runOf}
 use Rattle.machine.specs.Calls.{Input, Lent, Called, barred, plainCall, plainRefused, hookCall, hookRefused}
 use Rattle.attempts.specs.Attempt.{fitsFor}
-use Rattle.decoder.specs.WholeRun.{readerRun, Agreed}
+use Rattle.attempts.specs.WholeRun.{readerRun, Agreed, WholeRun}
 use Rattle.room.specs.Room.{few}
 use Rattle.steprecords.specs.declared.StepRecord.{StepRecord}
 use Rattle.steprecords.specs.Records.{nthRecord, recorded}
@@ -60,7 +60,11 @@ Fitting counts room l =
 unfoldable pub recordsAfter : Bool → Input → Lent → List StepRecord → List StepRecord
 recordsAfter hook c l old = cond (few c (length old)) old (recorded (stepsOf hook c l) old)
 
--- Demand 3 where the call makes a run: the reader's run is the machine's, the counts and the walk are the reader's (decoder/specs/WholeRun), and the records
+-- Demand 3 of a call with room for so many records, as the decoding call promises it
+unfoldable pub WholeWithin : Bool → Input → Lent → ℕ → Counts → Lent → Type 0
+WholeWithin hook c l room counts after = few c room ≡ false → WholeRun (fitsFor hook) c l counts after
+
+-- Demand 3 where the call makes a run: the reader's run is the machine's, the counts and the walk are the reader's (attempts/specs/WholeRun), and the records
 -- are those of the reader's extractions.
 unfoldable pub WholeScreen : Bool → Input → Lent → List StepRecord → Counts → Lent → List StepRecord → Type 0
 WholeScreen hook c l old counts after steps =

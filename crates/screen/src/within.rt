@@ -10,8 +10,9 @@ use machine::Decoded;
 use machine::HookDecoded;
 use room::few;
 ghost use mathlib.Core.Path.{_≡_};
+ghost use mathlib.Core.Bool.{true, false};
 ghost use Rattle.machine.specs.Calls.{given, lent, noCounts};
-ghost use Rattle.screen.specs.Screen.{plainWithin, hookWithin, Fitting};
+ghost use Rattle.screen.specs.Screen.{plainWithin, hookWithin, Fitting, WholeWithin};
 
 // The counts of a call that makes no run.
 fn no_counts() -> Counts
@@ -41,11 +42,11 @@ pub fn decode_within(
     walk_score: &mut [i32],
     room: usize,
 ) -> Decoded
-    ensures { λ r. ⌜ (let w = plainWithin (given (now (book .entry)) visits paths limit (now (values .entry)))
-        (lent (now (word .entry)) (now (bits .entry)) (now (numbers .entry)) (now (bytes .entry)) (now («walk_path» .entry)) (now («walk_blocks» .entry)) (now («walk_score» .entry))) room in
-        (r ≡ w .answer)
-        × (lent (now (word .exit)) (now (bits .exit)) (now (numbers .exit)) (now (bytes .exit)) (now («walk_path» .exit)) (now («walk_blocks» .exit)) (now («walk_score» .exit)) ≡ w .lent)
-        × Fitting (r .counts) room (lent (now (word .exit)) (now (bits .exit)) (now (numbers .exit)) (now (bytes .exit)) (now («walk_path» .exit)) (now («walk_blocks» .exit)) (now («walk_score» .exit)))) ⌝ }
+    ensures { λ r. ⌜ (let c = given (now (book .entry)) visits paths limit (now (values .entry)) in
+        let l = lent (now (word .entry)) (now (bits .entry)) (now (numbers .entry)) (now (bytes .entry)) (now («walk_path» .entry)) (now («walk_blocks» .entry)) (now («walk_score» .entry)) in
+        let after = lent (now (word .exit)) (now (bits .exit)) (now (numbers .exit)) (now (bytes .exit)) (now («walk_path» .exit)) (now («walk_blocks» .exit)) (now («walk_score» .exit)) in
+        let w = plainWithin c l room in
+        (r ≡ w .answer) × (after ≡ w .lent) × Fitting (r .counts) room after × WholeWithin false c l room (r .counts) after) ⌝ }
 {
     if few(book, visits, paths, limit, room) {
         return Decoded {
@@ -85,11 +86,11 @@ pub fn decode_hook_within(
     walk_score: &mut [i32],
     room: usize,
 ) -> HookDecoded
-    ensures { λ r. ⌜ (let w = hookWithin (given (now (book .entry)) visits paths limit (now (values .entry)))
-        (lent (now (word .entry)) (now (bits .entry)) (now (numbers .entry)) (now (bytes .entry)) (now («walk_path» .entry)) (now («walk_blocks» .entry)) (now («walk_score» .entry))) room in
-        (r ≡ w .answer)
-        × (lent (now (word .exit)) (now (bits .exit)) (now (numbers .exit)) (now (bytes .exit)) (now («walk_path» .exit)) (now («walk_blocks» .exit)) (now («walk_score» .exit)) ≡ w .lent)
-        × Fitting (r .counts) room (lent (now (word .exit)) (now (bits .exit)) (now (numbers .exit)) (now (bytes .exit)) (now («walk_path» .exit)) (now («walk_blocks» .exit)) (now («walk_score» .exit)))) ⌝ }
+    ensures { λ r. ⌜ (let c = given (now (book .entry)) visits paths limit (now (values .entry)) in
+        let l = lent (now (word .entry)) (now (bits .entry)) (now (numbers .entry)) (now (bytes .entry)) (now («walk_path» .entry)) (now («walk_blocks» .entry)) (now («walk_score» .entry)) in
+        let after = lent (now (word .exit)) (now (bits .exit)) (now (numbers .exit)) (now (bytes .exit)) (now («walk_path» .exit)) (now («walk_blocks» .exit)) (now («walk_score» .exit)) in
+        let w = hookWithin c l room in
+        (r ≡ w .answer) × (after ≡ w .lent) × Fitting (r .counts) room after × WholeWithin true c l room (r .counts) after) ⌝ }
 {
     if few(book, visits, paths, limit, room) {
         return HookDecoded {

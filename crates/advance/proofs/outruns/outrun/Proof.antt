@@ -13,6 +13,7 @@ use Rattle.order.specs.Entries.{keyAt, queueOf}
 use Rattle.order.proofs.Queues.{queue-length}
 use Rattle.standing.proofs.Sizes.{stands-length}
 use Rattle.advance.proofs.Sides.{sides-length, stay-all, stay-ahead}
+use Rattle.advance.proofs.Losses.{outruns}
 use Rattle.advance.proofs.outruns.outrun.Statement.{statement}
 use Rattle.advance.proofs.outruns.outrun.Tie as tie
 
@@ -59,7 +60,12 @@ returns c =
             let stay = stay-all (keyOf (x .book)) (a .s .visits) (a .b) (visit (a .visits .now) (a .b)) (x .paths) (omega (arith, seen, c .if1 .taken)) in
             let level : a .t .queued ≡ length (x .paths) = omega (arith, stands-length (x .stands), queue-length (a .t .queued) (a .order .now)) in
             (rw (stay .0) level, rw (stay .1) (omega arith), rw (stay .0) (x .stands)),
-        t .pre .1 .1 .1,
+        (
+          t .pre .1 .1 .1,
+          λ numbers bytes x.
+              let stay = stay-all (keyOf (x .book)) (a .s .visits) (a .b) (visit (a .visits .now) (a .b)) (x .paths) (omega (arith, seen, c .if1 .taken)) in
+              outruns (x .book) (a .s .visits) (a .s .paths) (a .b) (visit (a .visits .now) (a .b)) (x .paths) (x .stands) (x .stands) (sym (stay .0)) refl,
+        ),
       ),
     )
 
@@ -112,7 +118,14 @@ returns-2 c =
             let slots : a .s .paths - left .result ≡ a .s .paths - a .t .queued + gone .result =
             omega (arith, sides-length (keyOf (x .book)) (a .b) (x .paths), w .0) in
             (rw (stay .0) many, rw (stay .1) (ap (λ n. a .t .outrun + n) (w .0)), rw (stay .0, slots, left .ensures .0 .2) (w .1)),
-        left .ensures .1 (t .pre .1 .1 .1),
+        (
+          left .ensures .1 (t .pre .1 .1 .1),
+          λ numbers bytes x.
+              let w = gone .ensures .1 numbers bytes x in
+              let stay =
+              stay-ahead (keyOf (x .book)) (a .s .visits) (a .b) (visit (a .visits .now) (a .b)) (x .paths) lth in
+              outruns (x .book) (a .s .visits) (a .s .paths) (a .b) (visit (a .visits .now) (a .b)) (x .paths) (x .stands) (w .1) (sym (stay .0)) (left .ensures .0 .2),
+        ),
       ),
     )
 

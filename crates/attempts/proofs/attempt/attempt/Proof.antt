@@ -17,6 +17,7 @@ use Rattle.attempts.proofs.Attempts.{yields-refused, yields-barred, yie
 use Rattle.attempts.proofs.Judged.{ready-small, ready-free}
 use Rattle.attempts.proofs.Readied.{admission, admission-same, is-barred, not-barred, sized-same, fits-any, fits-record, known-blocks, known-few, load-long, ready}
 use Rattle.attempts.proofs.Unbarred.{Free, nothing-bars}
+use Rattle.attempts.proofs.Whole.{whole-refused, whole-barred, whole-run}
 use Rattle.attempts.proofs.attempt.attempt.Statement.{statement}
 use Rattle.attempts.proofs.attempt.attempt.Tie as tie
 
@@ -76,8 +77,10 @@ returns c =
     let s = start l in
     let a = s .args in
     let r = o .outcome .given in
-    yields-refused (a .hook) (call s) (buffers s) (r .0 .0) (c .refused .result) (a .found .now) (a .info .now)
-    (sizes-refused (a .book .now) (l .load-tables .result) (r .0 .0) (l .load-tables .ensures .0) (r .1)) (c .refused .ensures .0) (c .refused .ensures .1)
+    let e = sizes-refused (a .book .now) (l .load-tables .result) (r .0 .0) (l .load-tables .ensures .0) (r .1) in (
+      yields-refused (a .hook) (call s) (buffers s) (r .0 .0) (c .refused .result) (a .found .now) (a .info .now) e (c .refused .ensures .0) (c .refused .ensures .1),
+      whole-refused (a .hook) (call s) (buffers s) (c .refused .result .counts) (buffers s) (r .0 .0) e,
+    )
 
 enum-told : tie.Need-enum-told
 enum-told c = search needs
@@ -112,8 +115,10 @@ returns-2 c =
     let a = s .args in
     let K = known t in
     let r = o .admitted .given in
-    yields-barred (a .hook) (call s) (buffers s) (K .is) (K .loads) (r .0 .0) (c .refused2 .result) (a .found .now) (a .info .now)
-    (is-barred (K .is) (call s) (buffers s) (fitsFor (a .hook) (K .is)) (r .0 .0) (sym (tested m) ∙ r .1)) (c .refused2 .ensures .0) (c .refused2 .ensures .1)
+    let b = is-barred (K .is) (call s) (buffers s) (fitsFor (a .hook) (K .is)) (r .0 .0) (sym (tested m) ∙ r .1) in (
+      yields-barred (a .hook) (call s) (buffers s) (K .is) (K .loads) (r .0 .0) (c .refused2 .result) (a .found .now) (a .info .now) b (c .refused2 .ensures .0) (c .refused2 .ensures .1),
+      whole-barred (a .hook) (call s) (buffers s) (c .refused2 .result .counts) (buffers s) (K .is) (K .loads) (r .0 .0) b,
+    )
 
 enum-told-2 : tie.Need-enum-told-2
 enum-told-2 c = search needs
@@ -205,12 +210,15 @@ returns-3 c =
     let K = known t in
     let z = sized-same (K .is) (call s) (buffers s) (fitsFor (a .hook) (K .is)) (K .size) (K .free) (blocks t) (free e) in
     let l = j .judge .last .1 .1 .1 .1 .1 .1 .1 .1 .1 .1 in
-    let o = j .judge .ensures .1 (readied e) in
+    let o = j .judge .ensures .1 .0 (readied e) in
     let y = runOf (K .is) (a .visits) (a .paths) (a .values .now) in
-    yields-ran (a .hook) (call s) (buffers s) (K .is) (K .loads) (j .judge .result)
-    (lent (a .word .now) (a .bits .now) (l .0) (l .1 .0) (l .1 .1 .0) (l .1 .1 .1 .0) (l .1 .1 .1 .1 .0)) (l .1 .1 .1 .1 .1 .0) (l .1 .1 .1 .1 .1 .1 .0) (x .n) (x .k) (clear e) (o .0)
-    (yields-lent (K .is) (call s) (buffers s) (y .steps) _ (x .n) (K .size) refl refl (j .judge .ensures .0 .0) (j .judge .ensures .0 .1) (o .1) (o .2) (o .3))
-    (sym (z .word)) (sym (z .bits)) (ready-small (readied e)) (ready-free (readied e)) (o .4)
+    let after = lent (a .word .now) (a .bits .now) (l .0) (l .1 .0) (l .1 .1 .0) (l .1 .1 .1 .0) (l .1 .1 .1 .1 .0) in (
+      yields-ran (a .hook) (call s) (buffers s) (K .is) (K .loads) (j .judge .result) after (l .1 .1 .1 .1 .1 .0) (l .1 .1 .1 .1 .1 .1 .0) (x .n) (x .k) (clear e) (o .0)
+          (yields-lent (K .is) (call s) (buffers s) (y .steps) _ (x .n) (K .size) refl refl (j .judge .ensures .0 .0) (j .judge .ensures .0 .1) (o .1) (o .2) (o .3))
+          (sym (z .word)) (sym (z .bits)) (ready-small (readied e)) (ready-free (readied e)) (o .4),
+      whole-run (a .hook) (call s) (buffers s) (j .judge .result .counts) after (K .is) (K .loads) (x .m) (x .n) (K .height) (K .size) (free e)
+          (j .judge .ensures .1 .1 (readied e)),
+    )
 
 pub attempt-spec : {M : Type 1} → statement M
 attempt-spec =

@@ -16,7 +16,10 @@ use Rattle.codebook.specs.Book.{freeCount}
 use Rattle.codec.specs.Code.{freeBits, readData}
 use Rattle.coding.proofs.Told.{zeros-part}
 use Rattle.machine.specs.Machine as M
+use Rattle.reader.specs.Reader as R
+use Rattle.reading.specs.Running.{arraysOf, received}
 use Rattle.attempts.specs.Attempt.{Ready}
+use Rattle.attempts.specs.WholeRun.{LeftBy}
 use Rattle.attempts.proofs.Judged.{lent-length, written-part, part-cleared, ready-small, ready-free, ready-size, ready-running, numbers-room, bytes-room, found, exact, above, within}
 use Rattle.attempts.proofs.attempt.judge.Statement.{statement}
 use Rattle.attempts.proofs.attempt.judge.Tie as tie
@@ -118,7 +121,7 @@ cleared c =
 -- the word that the run left is the machine's, for each input
 word-is : (c : tie.After-run-cleared) (r : Input (start (c .before))) → let a = start (c .before) .args in
     c .run-cleared .last .1 .1 .1 .1 .1 .1 .1 .1 .1 .1 .1 .1 .0 ≡ found r (a .visits) (a .paths) (start (c .before) .pre .0 .0) .word
-word-is c r = let a = start (c .before) .args in c .run-cleared .ensures .1 (ready-running r (a .visits) (a .paths)) .1
+word-is c r = let a = start (c .before) .args in c .run-cleared .ensures .1 .0 (ready-running r (a .visits) (a .paths)) .1
 
 word-size : (c : tie.After-run-cleared) → length (c .run-cleared .last .1 .1 .1 .1 .1 .1 .1 .1 .1 .1 .1 .1 .0) ≡ start (c .before) .args .x .n
 word-size c =
@@ -144,19 +147,6 @@ same-length-5 c = search needs
 same-length-6 : tie.Need-same-length-6
 same-length-6 c = search needs
 
-returns : tie.Need-returns
-returns c =
-    let x = made (c .before) in
-    let s = start (x .before) in
-    let a = s .args in (
-      cleared x,
-      λ r.
-          let o = x .run-cleared .ensures .1 (ready-running r (a .visits) (a .paths)) in
-          let y = M.runOf (r .book) (a .visits) (a .paths) (a .values .now) in
-          let q = above (a .limit) y (found r (a .visits) (a .paths) (s .pre .0 .0)) (x .run-cleared .result) (o .0) (c .if1 .taken) in
-          (q .1, o .2, o .3, o .4, λ t. absurd (q .0 t)),
-    )
-
 -- the word's buffer after the run: the word, and what was behind it
 abbrev left : tie.After-run-cleared → List ℕ
 left c =
@@ -175,6 +165,33 @@ left-word : (c : tie.After-run-cleared) (r : Input (start (c .before))) → let 
 left-word c r =
     let a = start (c .before) .args in
     take-at (c .run-cleared .last .1 .1 .1 .1 .1 .1 .1 .1 .1 .1 .1 .1 .0) (drop (a .x .n) (a .found .now)) (a .x .n) (word-size c) ∙ word-is c r
+
+-- what the reader's run left
+reader-left : (c : tie.After-run-cleared) (r : Input (start (c .before))) → let a = start (c .before) .args in let l = c .run-cleared .last .1 .1 .1 .1 .1 .1 .1 .1 .1 in
+    LeftBy (R.runOf (r .book) (a .visits) (a .paths) (arraysOf (a .x .m) (received (a .x .m) (a .values .now) (take (a .paths * (2 * a .x .n + 32)) (a .numbers .now)))
+    (take (a .paths * (2 * a .x .n)) (a .bytes .now)))) (c .run-cleared .result) (part 0 (a .x .n) (left c))
+    (a .walk-path .now) (a .walk-blocks .now) (a .walk-score .now) (l .0) (l .1 .0) (l .1 .1 .0)
+reader-left c r =
+    let a = start (c .before) .args in
+    let o = c .run-cleared .ensures .1 .1 (ready-running r (a .visits) (a .paths)) in
+    let w = written-part (a .x .n) (c .run-cleared .last .1 .1 .1 .1 .1 .1 .1 .1 .1 .1 .1 .1 .0) (drop (a .x .n) (a .found .now)) (word-size c) in
+    record { counted = o .counted; found = λ f q. w ∙ o .found f q; path-is = o .path-is; blocks-is = o .blocks-is; score-is = o .score-is }
+
+returns : tie.Need-returns
+returns c =
+    let x = made (c .before) in
+    let s = start (x .before) in
+    let a = s .args in (
+      cleared x,
+      (
+        λ r.
+            let o = x .run-cleared .ensures .1 .0 (ready-running r (a .visits) (a .paths)) in
+            let y = M.runOf (r .book) (a .visits) (a .paths) (a .values .now) in
+            let q = above (a .limit) y (found r (a .visits) (a .paths) (s .pre .0 .0)) (x .run-cleared .result) (o .0) (c .if1 .taken) in
+            (q .1, o .2, o .3, o .4, λ t. absurd (q .0 t)),
+        reader-left x,
+      ),
+    )
 
 slice-reshare-prefix-data-of : tie.Need-slice-reshare-prefix-data-of
 slice-reshare-prefix-data-of c = left-room (made (c .before))
@@ -253,23 +270,26 @@ returns-2 c =
     let a = s .args in
     let bits = d .data-of .last .1 .1 .1 .1 .0 in (
       cleared x,
-      λ r.
-          let o = x .run-cleared .ensures .1 (ready-running r (a .visits) (a .paths)) in
-          let y = M.runOf (r .book) (a .visits) (a .paths) (a .values .now) in
-          let f = kinds-fit x r in
-          let free = d .data-of .ensures (r .book .kinds) (r .tables .booked .tabled .coded) (f .0) (f .1) in (
-            within (a .limit) y (found r (a .visits) (a .paths) (s .pre .0 .0)) (x .run-cleared .result) (o .0) (e .if1 .left),
-            o .2,
-            o .3,
-            o .4,
-            λ t. (
-              left-word x r,
-              written-part (a .x .k) bits (drop (a .x .k) (a .info .now)) (omega (arith, c .before .info .given, f .1, r .free))
-                  ∙ free
-                  ∙ ap₂ (λ m w. freeBits (r .book .kinds) (transform m w)) (r .deep) (left-word x r)
-                  ∙ sym (exact r (a .visits) (a .paths) (s .pre .0 .0) .databits),
+      (
+        λ r.
+            let o = x .run-cleared .ensures .1 .0 (ready-running r (a .visits) (a .paths)) in
+            let y = M.runOf (r .book) (a .visits) (a .paths) (a .values .now) in
+            let f = kinds-fit x r in
+            let free = d .data-of .ensures (r .book .kinds) (r .tables .booked .tabled .coded) (f .0) (f .1) in (
+              within (a .limit) y (found r (a .visits) (a .paths) (s .pre .0 .0)) (x .run-cleared .result) (o .0) (e .if1 .left),
+              o .2,
+              o .3,
+              o .4,
+              λ t. (
+                left-word x r,
+                written-part (a .x .k) bits (drop (a .x .k) (a .info .now)) (omega (arith, c .before .info .given, f .1, r .free))
+                    ∙ free
+                    ∙ ap₂ (λ m w. freeBits (r .book .kinds) (transform m w)) (r .deep) (left-word x r)
+                    ∙ sym (exact r (a .visits) (a .paths) (s .pre .0 .0) .databits),
+              ),
             ),
-          ),
+        reader-left x,
+      ),
     )
 
 pub judge-spec : {M : Type 1} → statement M

@@ -1,4 +1,4 @@
--- `attempts::ran::run_cleared` meets its contract: the run's counts, walk and final word are the machine's, and the workspace is cleared at its whole length.
+-- `attempts::ran::run_cleared` meets its contract: the run's counts, walk and final word are the reader's and the machine's, and the workspace is cleared at its whole length.
 -- Assumes nothing.
 use mathlib.Core.Path.{refl, ap, ap₂, _∙_}
 use native.Mathlib.Omega.{arith}
@@ -11,7 +11,7 @@ use borrow.Author.Needs.{needs}
 use Rattle.heights.proofs.Spots.{spot-room}
 use Rattle.reading.specs.Running.{arraysOf, received, RanIs}
 use Rattle.reader.specs.Reader as R
-use Rattle.attempts.proofs.Machine.{all-cleared, deep-enough, runs-agree, machine-counts, machine-word}
+use Rattle.attempts.proofs.Machine.{all-cleared, deep-enough, runs-agree, machine-counts, machine-word, reader-left}
 use Rattle.attempts.proofs.ran.run_cleared.Statement.{statement}
 use Rattle.attempts.proofs.ran.run_cleared.Tie as tie
 
@@ -80,22 +80,26 @@ returns c =
     let b = h .before .before .before .before .before .before .before .before in
     let a = start r .args in
     let p = start r .pre in
-    let l = r .run .last .1 .1 .1 .1 .1 .1 .1 in (
+    let l = r .run .last .1 .1 .1 .1 .1 .1 .1 in
+    let word = h .hand-out .ensures ∙ ap₂ (λ i n. part i n (l .1 .0)) (h .before .spot-of .ensures) (p .1 .0 .3) in (
       (
         n .clear-numbers .ensures ∙ all-cleared (pos 0) (l .0) (length (l .0)) refl (length (a .numbers .now)) (omega (arith, b .before .numbers .given)),
         y .clear-bytes .ensures ∙ all-cleared 0 (l .1 .0) (length (l .1 .0)) refl (length (a .bytes .now)) (omega (arith, b .bytes .given)),
       ),
-      λ x.
-          let o = r .run .ensures x in
-          let g = runs-agree x (a .numbers .now) (a .bytes .now) (p .1 .1 .0 .0) (p .0 .0) (p .0 .2) in (
-            machine-counts x (a .numbers .now) (a .bytes .now) (p .1 .1 .0 .0) (p .0 .0) (p .0 .2) (r .run .result) (l .1 .0) (o .0),
-            h .hand-out .ensures
-                ∙ ap₂ (λ i n. part i n (l .1 .0)) (h .before .spot-of .ensures) (p .1 .0 .3)
-                ∙ machine-word x (a .numbers .now) (a .bytes .now) (p .1 .1 .0 .0) (p .0 .0) (p .0 .2) (r .run .result) (l .1 .0) (o .0),
-            o .1 ∙ ap (λ st. walked (λ (y : Step). pos (y .path)) st (a .walk-path .now)) (g .0),
-            o .2 ∙ ap (λ st. walked (λ (y : Step). pos (y .blocks)) st (a .walk-blocks .now)) (g .0),
-            o .3 ∙ ap (λ st. walked (λ (y : Step). y .score) st (a .walk-score .now)) (g .0),
-          ),
+      (
+        λ x.
+            let o = r .run .ensures x in
+            let g = runs-agree x (a .numbers .now) (a .bytes .now) (p .1 .1 .0 .0) (p .0 .0) (p .0 .2) in (
+              machine-counts x (a .numbers .now) (a .bytes .now) (p .1 .1 .0 .0) (p .0 .0) (p .0 .2) (r .run .result) (l .1 .0) (o .0),
+              word ∙ machine-word x (a .numbers .now) (a .bytes .now) (p .1 .1 .0 .0) (p .0 .0) (p .0 .2) (r .run .result) (l .1 .0) (o .0),
+              o .1 ∙ ap (λ st. walked (λ (y : Step). pos (y .path)) st (a .walk-path .now)) (g .0),
+              o .2 ∙ ap (λ st. walked (λ (y : Step). pos (y .blocks)) st (a .walk-blocks .now)) (g .0),
+              o .3 ∙ ap (λ st. walked (λ (y : Step). y .score) st (a .walk-score .now)) (g .0),
+            ),
+        λ x.
+            let o = r .run .ensures x in
+            reader-left x (a .numbers .now) (a .bytes .now) (p .1 .1 .0 .0) (p .0 .0) (p .0 .2) (r .run .result) (l .1 .0) (o .0) (word) (o .1) (o .2) (o .3),
+      ),
     )
 
 pub run-cleared-spec : {M : Type 1} → statement M

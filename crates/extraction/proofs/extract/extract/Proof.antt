@@ -12,7 +12,7 @@ use Rattle.order.specs.Entries.{queueOf, Rising}
 use Rattle.standing.specs.Seen.{Memory, memory}
 use Rattle.steps.specs.Steps.{CopiedTo}
 use Rattle.extraction.specs.Extraction.{Extracting}
-use Rattle.extraction.proofs.Extracts.{visit-length, extract-blocks, extract-seconding, extract-thirding, MovedTo, extract-queued, extract-done}
+use Rattle.extraction.proofs.Extracts.{visit-length, extract-blocks, extract-seconding, extract-thirding, MovedTo, extract-queued, extract-done, extract-passed}
 use Rattle.extraction.proofs.extract.extract.Statement.{statement}
 use Rattle.extraction.proofs.extract.extract.Tie as tie
 
@@ -66,7 +66,7 @@ third-requires c κs =
     let a = start t .args in
     let f = t .second .ensures in (
       (f .0 .0, f .0 .1, f .1 .0 .2, f .0 .3, f .0 .4),
-      ((vacants t, extract-thirding (own (start t)) (a .t .next) (a .t .crowded) (words t) (copied t (own (start t)))), f .1 .1 .1),
+      ((vacants t, extract-thirding (own (start t)) (a .t .next) (a .t .crowded) (words t) (copied t (own (start t)))), f .1 .1 .1 .0),
     )
 
 -- after the move, for any state; and the words kept
@@ -135,7 +135,7 @@ returns c =
               extract-done o (a .t .next) (a .t .crowded) (words t) (copied t o) (kept u) (moved u o) (a .s .visits) (a .visits .now) (t .second .result .outrun) b (c .before .blocks-of .ensures) (f .0 .8)
               (f .1 .0 (u .third .last .1 .1 .1 .0) (u .third .last .1 .1 .1 .1 .0) q) in
               (k .0, f .0 .4 ∙ k .1, f .0 .3 ∙ k .2, f .0 .6 ∙ k .3, omega (arith, k .4, t .second .ensures .1 .0 .1), k .5, k .6),
-          f .1 .1,
+          (f .1 .1 .0, λ o. extract-passed o (a .t .next) (a .t .crowded) (words t) (copied t o) (kept u) (moved u o)),
         ),
       ),
     )

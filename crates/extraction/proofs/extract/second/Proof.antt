@@ -7,7 +7,7 @@ use native.Mathlib.Omega.{arith}
 use borrow.Author.Needs.{needs}
 use Rattle.order.specs.Entries.{keyAt}
 use Rattle.order.proofs.Queues.{queue-length}
-use Rattle.extraction.proofs.Seconds.{second-none, second-copying, second-done}
+use Rattle.extraction.proofs.Seconds.{second-none, second-copying, second-done, second-crowds}
 use Rattle.extraction.proofs.extract.second.Statement.{statement}
 use Rattle.extraction.proofs.extract.second.Tie as tie
 
@@ -26,7 +26,7 @@ returns c =
           λ o.
               let k = second-none o (a .t .next) (a .t .crowded) none in
               (sym (queue-length (a .t .queued) (a .order .now)) ∙ k .0, k .1, k .2, k .3, k .4),
-          s .pre .1 .1 .1,
+          (s .pre .1 .1 .1, λ o visits. second-crowds o (a .t .next) (second-none o (a .t .next) (a .t .crowded) none .3) visits),
         ),
       ),
     )
@@ -57,7 +57,7 @@ returns-2 c =
         f .1 .0,
         (
           λ o. second-done o (some-blocks t .1) (a .t .next) (a .t .crowded) (c .before .before .before .before .before .copy .last .1 .1 .1 .1 .1 .1 .1 .1 .1 .1 .1 .1 .1 .0) (f .1 .1 .0 _ (second-copying o (some-blocks t .1)) (some-blocks t .0)),
-          f .1 .1 .1,
+          (f .1 .1 .1, λ o visits. second-crowds o (a .t .next) (second-done o (some-blocks t .1) (a .t .next) (a .t .crowded) (c .before .before .before .before .before .copy .last .1 .1 .1 .1 .1 .1 .1 .1 .1 .1 .1 .1 .1 .0) (f .1 .1 .0 _ (second-copying o (some-blocks t .1)) (some-blocks t .0)) .3) visits),
         ),
       ),
     )

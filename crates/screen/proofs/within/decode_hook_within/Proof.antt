@@ -64,7 +64,7 @@ returns-2 c =
     let d = c .before .before .before .before .before .before .before .before .before .before in
     let t = d .before .before .before .before .before .before .before .before in
     let s = start (t .before) in
-    hook-enough (call s) (buffers s) (s .args .room) (sym (asked (t .before)) ∙ t .if1 .left) (d .decode-hook .result) _ (d .decode-hook .ensures .0) (d .decode-hook .ensures .1)
+    hook-enough (call s) (buffers s) (s .args .room) (sym (asked (t .before)) ∙ t .if1 .left) (d .decode-hook .result) _ (d .decode-hook .ensures .0) (d .decode-hook .ensures .1) (d .decode-hook .ensures .2)
 
 pub decode-hook-within-spec : {M : Type 1} → statement M
 decode-hook-within-spec =

@@ -64,7 +64,7 @@ returns-2 c =
     let d = c .before .before .before .before .before .before .before .before .before .before in
     let t = d .before .before .before .before .before .before .before .before in
     let s = start (t .before) in
-    plain-enough (call s) (buffers s) (s .args .room) (sym (asked (t .before)) ∙ t .if1 .left) (d .decode .result) _ (d .decode .ensures .0) (d .decode .ensures .1)
+    plain-enough (call s) (buffers s) (s .args .room) (sym (asked (t .before)) ∙ t .if1 .left) (d .decode .result) _ (d .decode .ensures .0) (d .decode .ensures .1) (d .decode .ensures .2)
 
 pub decode-within-spec : {M : Type 1} → statement M
 decode-within-spec =

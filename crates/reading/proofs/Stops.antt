@@ -1,0 +1,230 @@
+-- The end of a run, from what the contract of its extractions says (specs/Before): the moment at which a path with all blocks is taken is the run's last,
+-- so the steps of the moments before it and its own are all the run's, and its word is the final one. By induction on the moments. Assumes nothing.
+use mathlib.Core.Path.{_≡_, refl, sym, ap, _∙_, subst}
+use mathlib.Core.Bool.{Bool, true, false, cond}
+use mathlib.Core.List.{List, [], _∷_, _++_, map, map-append}
+use Prim.Native.Nat.{ℕ, zero, suc, _+_, _-_, _*_, _^_, _≤_, _<_}
+use native.Mathlib.Nat.{mul-le-mul}
+use native.Mathlib.Omega.{arith}
+use lib.IntN.{ℤ}
+use lib.ListN.{length, length-map}
+use lib.Dec.{eqb}
+use borrow.Author.Tests.{eq-eqb}
+use Rattle.laws.specs.Lists.{All, sum}
+use Rattle.laws.proofs.Lists.{length-snoc}
+use Rattle.laws.specs.Pairs.{Paired}
+use Rattle.polar.specs.Layers.{part}
+use Rattle.codebook.specs.Book.{Book}
+use Rattle.codebook.specs.Limits.{Valid}
+use Rattle.codec.specs.Code.{readData}
+use Rattle.queue.specs.Queue.{Step}
+use Rattle.reader.specs.Arrays.{Arrays, sumsOf}
+use Rattle.reader.specs.Paths.{Path, scoreOf, keyOf, firstPath, idsOf, viewOf}
+use Rattle.reader.specs.Fit.{Fit, FitFor}
+use Rattle.reader.specs.Reached.{Reached}
+use Rattle.reader.specs.Reader as R
+use Rattle.reader.specs.Moments.{Moment, moments, momentsOf, stepAt}
+use Rattle.reader.proofs.Moments.{run-steps-are}
+use Rattle.reader.proofs.Reached.{reached-fit, run-reached}
+use Rattle.order.specs.Entries.{keyAt, queueOf}
+use Rattle.heights.specs.Workspace.{spot, Id}
+use Rattle.standing.specs.Seen.{Memory}
+use Rattle.standing.specs.Standing.{InHand}
+use Rattle.standing.proofs.Taken.{taken-key, taken-blocks}
+use Rattle.words.specs.declared.Block.{Block}
+use Rattle.steps.specs.declared.Setting.{Setting}
+use Rattle.steps.specs.declared.Tally.{Tally}
+use Rattle.steps.specs.Steps.{BlockIs, committed}
+use Rattle.extraction.proofs.Counts.{blocks-few}
+use Rattle.reading.specs.declared.Ran.{Ran}
+use Rattle.reading.specs.Before.{Before}
+use Rattle.reading.specs.Ending.{Ending}
+use Rattle.reading.specs.Running.{Running, RanIs}
+use Rattle.reading.proofs.Walks.{Walks, Noted, walks-next, sum-next}
+use Rattle.reading.proofs.Going.{crowdedCount, outrunCount}
+use Rattle.reading.proofs.Turns.{ReadAt, run-blocks}
+
+-- ---- the moment at which the run stops
+
+pub none-here : (made : List Moment) (here : Moment) (later : List Moment) → [] ≡ made ++ here ∷ later → ⊥
+none-here [] here later e = let z : _≡_ {A = ℕ} 0 1 = cc in omega arith
+none-here (m ∷ made) here later e = let z : _≡_ {A = ℕ} 0 1 = cc in omega arith
+
+-- what holds of all of them holds of it
+pub here-of : (P : Moment → Type 0) (made : List Moment) (here : Moment) (later : List Moment) → All P (made ++ here ∷ later) → P here
+unfolding All
+here-of P [] here later h = h .0
+here-of P (m ∷ made) here later h = here-of P made here later (h .1)
+
+module _ (B : Book) (L D : ℕ) where
+  -- nothing comes after it, and its word is the run's
+  abbrev LastOf : ℕ → Arrays → List Path → ℕ → List ℕ → Moment → List Moment → Type 0
+  LastOf fuel A ps n visits here later =
+      (later ≡ []) × (R.run fuel B L D A ps n visits .final ≡ R.stopped B (here .state .arrays) (here .path) (here .state .queue) .final)
+
+  moments-last : (fuel : ℕ) (A : Arrays) (ps : List Path) (n : ℕ) (visits : List ℕ) (made : List Moment) (here : Moment) (later : List Moment) →
+      moments fuel B L D A ps n visits ≡ made ++ here ∷ later → here .path .blocks ≡ length (B .blocks) → LastOf fuel A ps n visits here later
+  unfolding moments R.run R.after
+  moments-last zero A ps n visits made here later e d = absurd (none-here made here later e)
+  moments-last (suc fuel) A [] n visits made here later e d = absurd (none-here made here later e)
+  moments-last (suc fuel) A (p ∷ ps) n visits [] here later e d =
+      let x = R.extract B L D A p ps n visits in
+      let h : record { path = p; state = record { arrays = A; queue = ps; next = n; visits = visits } } ≡ here = cc in
+      let l : cond (eqb (p .blocks) (length (B .blocks))) [] (moments fuel B L D (x .state .arrays) (x .state .queue) (x .state .next) (x .state .visits)) ≡ later = cc in
+      let q : eqb (p .blocks) (length (B .blocks)) ≡ true = eq-eqb (p .blocks) (length (B .blocks)) (ap (λ (m : Moment). m .path .blocks) h ∙ d) in (
+        sym l ∙ ap (λ (t : Bool). cond t [] (moments fuel B L D (x .state .arrays) (x .state .queue) (x .state .next) (x .state .visits))) q,
+        ap (λ (t : Bool). cond t (R.stopped B A p ps) (R.after (x .step) (R.run fuel B L D (x .state .arrays) (x .state .queue) (x .state .next) (x .state .visits))) .final) q
+            ∙ ap (λ (m : Moment). R.stopped B (m .state .arrays) (m .path) (m .state .queue) .final) h,
+      )
+  moments-last (suc fuel) A (p ∷ ps) n visits (m ∷ made) here later e d =
+      go (eqb (p .blocks) (length (B .blocks))) (cc) (λ k. moments-last fuel _ _ _ _ made here later k d)
+    where
+      x : R.Extracted
+      x = R.extract B L D A p ps n visits
+
+      more : List Moment
+      more = moments fuel B L D (x .state .arrays) (x .state .queue) (x .state .next) (x .state .visits)
+
+      rest : R.Run
+      rest = R.run fuel B L D (x .state .arrays) (x .state .queue) (x .state .next) (x .state .visits)
+
+      end : R.Run
+      end = R.stopped B (here .state .arrays) (here .path) (here .state .queue)
+
+      go : (t : Bool) → cond t [] more ≡ made ++ here ∷ later → (more ≡ made ++ here ∷ later → (later ≡ []) × (rest .final ≡ end .final)) →
+          (later ≡ []) × (cond t (R.stopped B A p ps) (R.after (x .step) rest) .final ≡ end .final)
+      go true k ih = absurd (none-here made here later k)
+      go false k ih = ih k
+
+  -- its step
+  last-step : (t : Moment) → t .path .blocks ≡ length (B .blocks) →
+      stepAt B L D t ≡ record { path = t .path .number; blocks = t .path .blocks; score = scoreOf B (t .path) (t .path .blocks); crowded = []; outrun = [] }
+  unfolding stepAt
+  last-step t d = rw (eq-eqb (t .path .blocks) (length (B .blocks)) d)
+
+-- ---- the end of a run on its tables
+
+module _ {s : Setting} {values : List ℤ} {kinds terms heights starts : List ℕ} {biases : List ℤ} (c : Running s values kinds terms heights starts biases)
+    {A : Arrays} {most : ℕ} {x : Memory} {order vacant visits kept : List ℕ} {t : Tally} {e : ℕ} {path₀ blocks₀ score₀ path blocks score : List ℤ}
+    (g : Before (c .book) (s .visits) (s .paths) A most x order vacant visits kept t e path₀ blocks₀ score₀ path blocks score) where
+  abbrev ok : Valid (c .book)
+  ok = c .tables .booked .valid
+
+  -- the path in hand
+  abbrev pub stop-hand : InHand (s .m) (s .paths) x e (queueOf order (t .queued)) (queueOf vacant (s .paths - (t .queued + 1)))
+  stop-hand =
+      record { book = c .book; arrays = g .here .state .arrays; taken = g .here .path; rest = g .here .state .queue; deep = c .deep; stands = g .stands }
+
+  pub stop-small : e < 36028797018963968
+  unfolding Paired
+  stop-small = g .stands .queue .0 .small
+
+  -- extractions still to come
+  pub stop-left : t .extractions < s .visits * s .blocks + 1
+  stop-left = omega (arith, g .few, ap (λ n. s .visits * n) (c .blocks))
+
+  -- the most that there are
+  pub stop-few : s .visits ≤ 32 → t .extractions < 16385
+  stop-few l = let m : s .visits * length (c .book .blocks) ≤ 32 * 512 = mul-le-mul l (blocks-few (c .book) ok) in omega (arith, g .few)
+
+  module _ (more : t .extractions < most) where
+    all : g .here .path .blocks ≡ length (c .book .blocks)
+    all = g .stops more
+
+    -- the last step, and the whole run
+    abbrev lastStep : Step
+    lastStep =
+        record {
+          path = g .here .path .number;
+          blocks = g .here .path .blocks;
+          score = scoreOf (c .book) (g .here .path) (g .here .path .blocks);
+          crowded = [];
+          outrun = [];
+        }
+
+    abbrev whole : R.Run
+    whole = R.runOf (c .book) (s .visits) (s .paths) A
+
+    abbrev done : List Step
+    done = map (stepAt (c .book) (s .visits) (s .paths)) (g .made)
+
+    last-of : (g .later ≡ []) × (whole .final ≡ R.stopped (c .book) (g .here .state .arrays) (g .here .path) (g .here .state .queue) .final)
+    unfolding momentsOf R.runOf
+    last-of = moments-last (c .book) (s .visits) (s .paths) _ _ _ _ _ (g .made) (g .here) (g .later) (g .moments) all
+
+    last-steps : whole .steps ≡ done ++ lastStep ∷ []
+    last-steps =
+        let step : Moment → Step = stepAt (c .book) (s .visits) (s .paths) in
+        run-steps-are (c .book) (s .visits) (s .paths) A ∙ ap (map step) (g .moments ∙ ap (λ l. g .made ++ g .here ∷ l) (last-of .0))
+        ∙ map-append step (g .made) (g .here ∷ []) ∙ ap (λ y. done ++ y ∷ []) (last-step (c .book) (s .visits) (s .paths) (g .here) all)
+
+    -- the path has a last block
+    pub last-index : g .here .path .blocks ≡ suc (s .blocks - 1)
+    last-index = omega (arith, all, c .blocks, run-blocks c .0)
+
+    -- and it is fit, as every path is when it is taken
+    pub last-fit : A .vals (s .m) 1 ≡ values → 2 ≤ s .paths → Fit (c .book) (g .here .state .arrays) (g .here .path) (s .blocks - 1)
+    unfolding FitFor
+    last-fit root two =
+        let size : length values ≡ 2 ^ (c .book .m) = c .size ∙ ap (λ n. 2 ^ n) (sym (c .deep)) in
+        let reached = here-of (λ (m : Moment). Reached (c .book) values (s .paths) (m .state .arrays) (m .path ∷ m .state .queue)) (g .made) (g .here) (g .later)
+        (subst (All (λ (m : Moment). Reached (c .book) values (s .paths) (m .state .arrays) (m .path ∷ m .state .queue))) (g .moments)
+        (run-reached (c .book) values ok size (s .visits) (s .paths) two A (ap (λ n. A .vals n 1) (c .deep) ∙ root))) in
+        subst (FitFor (c .book) (g .here .state .arrays) (g .here .path)) last-index
+        (reached-fit (c .book) values ok size (c .range) (s .paths) (g .here .state .arrays) (g .here .path) (g .here .state .queue) reached)
+
+    abbrev pub stop-ending : A .vals (s .m) 1 ≡ values → 2 ≤ s .paths → (last : Block) (i : ℕ) → i ≡ s .blocks - 1 → ReadAt heights starts biases i last →
+        Ending (s .m) (s .paths) x e (queueOf order (t .queued)) (queueOf vacant (s .paths - (t .queued + 1))) last
+    stop-ending root two last i q l =
+        record {
+          hand = stop-hand;
+          valid = ok;
+          b = s .blocks - 1;
+          own =
+              record {
+                blocks = last-index;
+                block =
+                    subst (λ n. BlockIs (c .book) n last) q (l (c .book) kinds terms ok (c .tables) (omega (arith, run-blocks c .0, c .blocks)));
+                fit = last-fit root two;
+              };
+          whole = omega (arith, run-blocks c .0, c .blocks);
+        }
+
+    -- its walk
+    pub stop-walks :
+        (s .visits * s .blocks + 1 ≤ length path₀) × (s .visits * s .blocks + 1 ≤ length blocks₀) × (s .visits * s .blocks + 1 ≤ length score₀) →
+        {path′ blocks′ score′ : List ℤ} → Noted (t .extractions) (keyAt e) path blocks score path′ blocks′ score′ →
+        Walks (whole .steps) path₀ blocks₀ score₀ path′ blocks′ score′
+    unfolding keyOf
+    stop-walks long {path′} {blocks′} {score′} noted =
+        subst (λ l. Walks l path₀ blocks₀ score₀ path′ blocks′ score′) (sym last-steps)
+        (walks-next lastStep (taken-key (g .stands)) (g .extractions ∙ sym (length-map (g .made) (stepAt (c .book) (s .visits) (s .paths))))
+        (record {
+          path-long = omega (arith, long .0, stop-left);
+          blocks-long = omega (arith, long .1, stop-left);
+          score-long = omega (arith, long .2, stop-left);
+        }) (record { path-is = g .path-is; blocks-is = g .blocks-is; score-is = g .score-is }) noted)
+
+    -- what the run answers
+    pub stop-ran : (r : Ran) (bytes : List ℕ) → (r .extractions ≡ t .extractions + 1) × (r .crowded ≡ t .crowded) × (r .outrun ≡ t .outrun) →
+        (r .discrepancy ≡ g .here .path .spent + g .here .path .cost) × Id (s .paths) (r .id)
+        × (part (spot (s .m) (r .id) (s .m)) (2 ^ (s .m)) bytes ≡ sumsOf (committed stop-hand) (s .m)) → RanIs (s .m) (s .paths) whole r bytes
+    unfolding R.stopped
+    stop-ran r bytes n w =
+        let B : Book = c .book in
+        let p : Path = g .here .path in
+        let word : List ℕ = sumsOf (R.commit B (idsOf (g .here .state .queue)) p (p .blocks) (viewOf (g .here .state .arrays) p)) (B .m) in
+        record {
+          final = record { word = word; bits = readData B word; discrepancy = p .spent + p .cost };
+          ends = last-of .1;
+          extractions =
+              omega (arith, n .0, g .extractions, ap length last-steps, length-snoc done lastStep, length-map (g .made) (stepAt B (s .visits) (s .paths)));
+          crowded =
+              omega (arith, n .1, g .crowded, ap (λ l. sum (map crowdedCount l)) last-steps, sum-next crowdedCount done lastStep);
+          outrun =
+              omega (arith, n .2, g .outrun, ap (λ l. sum (map outrunCount l)) last-steps, sum-next outrunCount done lastStep);
+          discrepancy = w .0;
+          id = w .1;
+          word =
+              w .2 ∙ ap (sumsOf (R.commit B (idsOf (g .here .state .queue)) p (p .blocks) (viewOf (g .here .state .arrays) p))) (sym (c .deep));
+        }
