@@ -13,34 +13,33 @@ use Rattle.reader.specs.Paths.{Path, keyOf}
 use Rattle.reader.specs.Reader as R
 use Rattle.reader.specs.Moments.{Moment, stepAt, copyAt, movedAt, queuedAt, extractAt, Removes}
 use Rattle.reader.proofs.Queue.{numbers-paired}
+use Rattle.reader.proofs.During.{during-removed}
 use Rattle.order.specs.Entries.{keyAt}
 use Rattle.standing.specs.Seen.{Memory}
 use Rattle.standing.specs.Standing.{EntryOf, Stands}
-use Rattle.advance.specs.Outruns.{Outruns}
+use Rattle.advance.specs.Outruns.{Outrunning}
 
 -- the numbers that entries hold are those of the paths that memory stands for
 pub stands-numbers : {B : Book} {N : ℕ} {x : Memory} {es vs : List ℕ} {A : Arrays} {ps : List Path} → Stands B N x es vs A ps → numbers keyAt es ≡ numbers (keyOf B) ps
 stands-numbers {B} {x = x} {es = es} {ps = ps} s = numbers-paired keyAt (keyOf B) (EntryOf B (x .rows)) (λ d p h. h .key) es ps (s .queue)
 
-pub rest-numbers : {B : Book} {N : ℕ} {x : Memory} {e : ℕ} {es vs : List ℕ} {A : Arrays} {p : Path} {ps : List Path} → Stands B N x (e ∷ es) vs A (p ∷ ps) →
-    numbers keyAt es ≡ numbers (keyOf B) ps
-unfolding Paired
-rest-numbers {B} {x = x} {es = es} {ps = ps} s = numbers-paired keyAt (keyOf B) (EntryOf B (x .rows)) (λ d p h. h .key) es ps (s .queue .1)
-
 -- ---- step 4
 
-module _ (B : Book) (L D b : ℕ) (visits : List ℕ) (paths : List Path) where
-  -- what stays at a moment
-  left-is : (t : Moment) → t .path .blocks ≡ b → queuedAt B D t ≡ paths → getD (visit (t .state .visits) b) b 0 ≡ getD visits b 0 →
-      extractAt B L D t .state .queue ≡ staying (keyOf B) L b visits paths
-  unfolding extractAt R.extract queuedAt movedAt copyAt staying
-  left-is t is q same =
-      ap (λ i. staying (keyOf B) L i (visit (t .state .visits) i) (queuedAt B D t)) is
-      ∙ ap (λ v. cond (eqb v L) (ahead (keyOf B) b (queuedAt B D t)) (queuedAt B D t)) same
-      ∙ ap (λ ps. staying (keyOf B) L b visits ps) q
+module _ {m L N k b : ℕ} {x : Memory} {es vs visits : List ℕ} (c : Outrunning m L N k b x es vs visits) where
+  abbrev B : Book
+  B = c .queued .book
 
-  pub outruns : {x y : Memory} {es vs es′ vs′ : List ℕ} {A F : Arrays} {left : List Path} {new : List ℕ} → Stands B D x es vs A paths → Stands B D y es′ vs′ F left →
-      left ≡ staying (keyOf B) L b visits paths → new ≡ es′ → Outruns B L D b visits paths es new
-  outruns s u stay same′ t is q same m =
-      subst₂ (λ (old new : List ℕ). Removes (stepAt B L D t .outrun) old new) (ap (numbers (keyOf B)) q ∙ sym (stands-numbers s))
-      (ap (numbers (keyOf B)) (left-is t is q same ∙ sym stay) ∙ sym (stands-numbers u) ∙ ap (numbers keyAt) (sym same′)) (m .outrun)
+  -- what stays
+  left-is : extractAt B L N (c .here) .state .queue ≡ staying (keyOf B) L b (visit visits b) (c .queued .paths)
+  unfolding extractAt R.extract queuedAt movedAt copyAt staying
+  left-is =
+      ap (λ i. staying (keyOf B) L i (visit (c .here .state .visits) i) (queuedAt B N (c .here))) (c .block)
+      ∙ ap (λ v. cond (eqb v L) (ahead (keyOf B) b (queuedAt B N (c .here))) (queuedAt B N (c .here))) (c .visited)
+      ∙ ap (λ ps. staying (keyOf B) L b (visit visits b) ps) (c .paths)
+
+  -- entries with the numbers of what stays lack what the step gives as outrun
+  pub outruns : (es′ : List ℕ) → numbers keyAt es′ ≡ numbers (keyOf B) (staying (keyOf B) L b (visit visits b) (c .queued .paths)) →
+      Removes (stepAt B L N (c .here) .outrun) (numbers keyAt es) (numbers keyAt es′)
+  outruns es′ q =
+      subst₂ (λ (old new : List ℕ). Removes (stepAt B L N (c .here) .outrun) old new) (ap (numbers (keyOf B)) (c .paths) ∙ sym (stands-numbers (c .queued .stands)))
+      (ap (numbers (keyOf B)) left-is ∙ sym q) (during-removed (c .valid) (c .at) (c .more) .outrun)

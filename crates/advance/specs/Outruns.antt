@@ -1,17 +1,22 @@
--- What step 4 takes from the code's queue. Assumes nothing.
+-- What step 4 starts from. Assumes nothing.
 use mathlib.Core.Path.{_≡_}
 use mathlib.Core.List.{List}
 use Prim.Native.Nat.{ℕ}
-use lib.ListN.{getD}
-use Rattle.codebook.specs.Book.{Book}
-use Rattle.queue.specs.Queue.{numbers, visit}
-use Rattle.reader.specs.Paths.{Path}
-use Rattle.reader.specs.Moments.{Moment, stepAt, queuedAt, Removes, Removed}
-use Rattle.order.specs.Entries.{keyAt}
+use lib.ListN.{length, getD}
+use Rattle.codebook.specs.Limits.{Valid}
+use Rattle.queue.specs.Queue.{visit}
+use Rattle.reader.specs.Moments.{Moment, RunMoment, queuedAt}
+use Rattle.standing.specs.Seen.{Memory}
+use Rattle.steps.specs.Steps.{Queued}
 
--- For every moment of the reader at which block b is visited and step 4 finds these paths queued, and whose visits of block b are these: the numbers that the entries `old` hold
--- and `new` do not are exactly those that the moment's step gives as outrun, if the reader's queue loses those (Removed: every moment of a run, reader/proofs/Removed).
-abbrev pub Outruns : Book → ℕ → ℕ → ℕ → List ℕ → List Path → List ℕ → List ℕ → Type 0
-Outruns B L D b visits paths old new =
-    (t : Moment) → t .path .blocks ≡ b → queuedAt B D t ≡ paths → getD (visit (t .state .visits) b) b 0 ≡ getD visits b 0 → Removed B L D t →
-    Removes (stepAt B L D t .outrun) (numbers keyAt old) (numbers keyAt new)
+-- Memory x, with the entries es queued and the slots vs vacant, is what step 3 leaves at the moment `here` of a run, k extractions being done: the paths that
+-- it stands for are those that the reader's step 4 finds then. The path taken, which has a next block, visits block b, and the table counts this visit as the reader does.
+pub record Outrunning (m L N k b : ℕ) (x : Memory) (es vs visits : List ℕ) : Type 0 where
+  pub queued : Queued m N x es vs
+  pub valid : Valid (queued .book)
+  pub here : Moment
+  pub at : RunMoment (queued .book) L N k here
+  pub more : here .path .blocks ≡ length (queued .book .blocks) → ⊥
+  pub block : here .path .blocks ≡ b
+  pub paths : queuedAt (queued .book) N here ≡ queued .paths
+  pub visited : getD (visit (here .state .visits) b) b 0 ≡ getD (visit visits b) b 0

@@ -4,14 +4,16 @@ ghost use mathlib.Core.List.{List};
 ghost use Prim.Native.Nat.{ℕ, _+_, _-_, _≤_, _<_};
 ghost use lib.IntN.{ℤ};
 ghost use lib.ListN.{length, getD};
+ghost use Rattle.queue.specs.Queue as Q;
 ghost use Rattle.queue.specs.Queue.{ahead, behind, staying, outrunBy, visit};
+ghost use Rattle.reader.specs.Moments.{stepAt, Removes};
 ghost use Rattle.reader.specs.Paths.{keyOf};
 ghost use Rattle.order.specs.Entries.{keyAt, queueOf, Rising};
 ghost use Rattle.sharing.specs.Sharing.{Held, Rows};
 ghost use Rattle.standing.specs.Seen.{memory};
 ghost use Rattle.standing.specs.Standing.{Stands};
 ghost use Rattle.steps.specs.Steps.{Queued};
-ghost use Rattle.advance.specs.Outruns.{Outruns};
+ghost use Rattle.advance.specs.Outruns.{Outrunning};
 use order::entries::blocks_of;
 use order::entries::slot_of;
 use order::moves::sift;
@@ -54,7 +56,8 @@ fn dismiss(
     gone
 }
 
-// The visit to block b: the number of paths queued then, and the count.
+// The visit to block b, at a moment of the reader's run: the number of paths queued then, and the count. The numbers that the order's entries hold before it and not
+// after are those that the reader's step at that moment gives as outrun.
 pub fn outrun(
     rows: &[u32],
     holders: &mut [u16; 2580],
@@ -67,23 +70,24 @@ pub fn outrun(
 ) -> Tally
     requires { ⌜ Rows (s .paths) (now rows) × Held (now holders) × (length (now order) ≡ 256) × (length (now vacant) ≡ 256) × (length (now visits) ≡ 512) × (s .m ≤ 9) ⌝ }
     requires { ⌜ (s .paths ≤ 256) × (t .queued ≤ s .paths) × (b < 512) × (getD (now visits) b 0 < 65536) × (t .outrun < 16777216) ⌝ }
-    requires { ⌜ ((numbers : List ℤ) × (bytes : List ℕ) × Queued (s .m) (s .paths) (memory (now rows) (now holders) numbers bytes) (queueOf (now order) (t .queued)) (queueOf (now vacant) (s .paths - t .queued))) ⌝ }
+    requires { ⌜ ((numbers : List ℤ) × (bytes : List ℕ) × Outrunning (s .m) (s .visits) (s .paths) (t .extractions) b (memory (now rows) (now holders) numbers bytes)
+        (queueOf (now order) (t .queued)) (queueOf (now vacant) (s .paths - t .queued)) (now visits)) ⌝ }
     requires { ⌜ Rising (now order) (t .queued) ⌝ }
     ensures { λ r. ⌜ Held (now (holders .exit)) × (length (now (order .exit)) ≡ 256) × (length (now (vacant .exit)) ≡ 256)
         × (now (visits .exit) ≡ visit (now (visits .entry)) b) × (r .next ≡ t .next) × (r .extractions ≡ t .extractions) × (r .crowded ≡ t .crowded)
         × (r .queued ≤ s .paths)
         × (queueOf (now (order .exit)) (r .queued) ≡ staying keyAt (s .visits) b (visit (now (visits .entry)) b) (queueOf (now (order .entry)) (t .queued))) ⌝ }
     ensures { λ r. ⌜ ((numbers : List ℤ) (bytes : List ℕ)
-        (c : Queued (s .m) (s .paths) (memory (now (rows .entry)) (now (holders .entry)) numbers bytes) (queueOf (now (order .entry)) (t .queued)) (queueOf (now (vacant .entry)) (s .paths - t .queued)))
-        → (let left = staying (keyOf (c .book)) (s .visits) b (visit (now (visits .entry)) b) (c .paths) in
+        (c : Outrunning (s .m) (s .visits) (s .paths) (t .extractions) b (memory (now (rows .entry)) (now (holders .entry)) numbers bytes)
+        (queueOf (now (order .entry)) (t .queued)) (queueOf (now (vacant .entry)) (s .paths - t .queued)) (now (visits .entry)))
+        → (let B = c .queued .book in
+        let left = staying (keyOf B) (s .visits) b (visit (now (visits .entry)) b) (c .queued .paths) in
         (r .queued ≡ length left)
-        × (r .outrun ≡ t .outrun + length (outrunBy (keyOf (c .book)) (s .visits) b (visit (now (visits .entry)) b) (c .paths)))
-        × Stands (c .book) (s .paths) (memory (now (rows .entry)) (now (holders .exit)) numbers bytes) (queueOf (now (order .exit)) (r .queued))
-        (queueOf (now (vacant .exit)) (s .paths - r .queued)) (c .arrays) left)) ⌝ }
+        × (r .outrun ≡ t .outrun + length (outrunBy (keyOf B) (s .visits) b (visit (now (visits .entry)) b) (c .queued .paths)))
+        × Stands B (s .paths) (memory (now (rows .entry)) (now (holders .exit)) numbers bytes) (queueOf (now (order .exit)) (r .queued))
+        (queueOf (now (vacant .exit)) (s .paths - r .queued)) (c .queued .arrays) left
+        × Removes (stepAt B (s .visits) (s .paths) (c .here) .outrun) (Q.numbers keyAt (queueOf (now (order .entry)) (t .queued))) (Q.numbers keyAt (queueOf (now (order .exit)) (r .queued))))) ⌝ }
     ensures { λ r. ⌜ Rising (now (order .exit)) (r .queued) ⌝ }
-    ensures { λ r. ⌜ ((numbers : List ℤ) (bytes : List ℕ)
-        (c : Queued (s .m) (s .paths) (memory (now (rows .entry)) (now (holders .entry)) numbers bytes) (queueOf (now (order .entry)) (t .queued)) (queueOf (now (vacant .entry)) (s .paths - t .queued)))
-        → Outruns (c .book) (s .visits) (s .paths) b (visit (now (visits .entry)) b) (c .paths) (queueOf (now (order .entry)) (t .queued)) (queueOf (now (order .exit)) (r .queued))) ⌝ }
 {
     let seen = visits[b] + 1;
     visits[b] = seen;

@@ -7,12 +7,13 @@ ghost use Rattle.queue.specs.Queue as Q;
 ghost use Rattle.outer.specs.Search.{Scratch};
 ghost use Rattle.reader.specs.Reader as R;
 ghost use Rattle.reader.specs.Paths.{keyOf};
-ghost use Rattle.order.specs.Entries.{queueOf, Rising};
+ghost use Rattle.reader.specs.Moments.{stepAt, Removes};
+ghost use Rattle.order.specs.Entries.{keyAt, queueOf, Rising};
 ghost use Rattle.standing.specs.Seen.{memory, Lent};
 ghost use Rattle.standing.specs.Standing.{Stands};
 ghost use Rattle.words.specs.Kept.{Cells, Kepts};
 ghost use Rattle.steps.specs.Steps.{CopiedTo};
-ghost use Rattle.extraction.specs.Extraction.{Seconding, Crowds, Thirding, Extracting, Passed};
+ghost use Rattle.extraction.specs.Extraction.{momentIn, Seconding, Thirding, Extracting};
 use advance::outruns::outrun;
 use advance::values::calculate;
 use order::entries::blocks_of;
@@ -29,7 +30,8 @@ use words::nearest_words;
 use words::put;
 use words::score;
 
-// Step 2 for a path with so many blocks; the empty path has no copy.
+// Step 2 for the path of entry e, taken at a moment of the reader's run; the empty path has no copy. The numbers that the order's entries hold before it and not after are those that the reader's
+// step at that moment gives as crowded out.
 fn second(
     rows: &mut [u32],
     holders: &mut [u16; 2580],
@@ -50,21 +52,20 @@ fn second(
 ) -> Tally
     requires { ⌜ Lent (s .m) (s .paths) (memory (now rows) (now holders) (now numbers) (now bytes)) × (length (now order) ≡ 256) × (length (now vacant) ≡ 256) × Cells (s .paths) (now kept) ⌝ }
     requires { ⌜ Scratch (now words) (now sets) (now sums) × (2 ≤ s .paths) × (t .queued + 1 ≤ s .paths) × (t .next < 32768) × (t .crowded < 65536) ⌝ }
-    requires { ⌜ Seconding (s .m) (s .paths) (memory (now rows) (now holders) (now numbers) (now bytes)) e (queueOf (now order) (t .queued))
+    requires { ⌜ Seconding (s .m) (s .visits) (s .paths) (t .extractions) (t .next) (memory (now rows) (now holders) (now numbers) (now bytes)) e (queueOf (now order) (t .queued))
         (queueOf (now vacant) (s .paths - (t .queued + 1))) (now kinds) (now terms) last (now kept) ⌝ }
     requires { ⌜ Rising (now order) (t .queued) ⌝ }
     ensures { λ _. ⌜ Lent (s .m) (s .paths) (memory (now (rows .exit)) (now (holders .exit)) (now (numbers .exit)) (now (bytes .entry)))
         × (length (now (order .exit)) ≡ 256) × (length (now (vacant .exit)) ≡ 256) × Cells (s .paths) (now (kept .exit)) × Scratch (now (words .exit)) (now (sets .exit)) (now (sums .exit)) ⌝ }
     ensures { λ r. ⌜ (r .extractions ≡ t .extractions) × (r .outrun ≡ t .outrun) × (r .queued + 1 ≤ s .paths) ⌝ }
-    ensures { λ r. ⌜ ((c : Seconding (s .m) (s .paths) (memory (now (rows .entry)) (now (holders .entry)) (now (numbers .entry)) (now (bytes .entry))) e (queueOf (now (order .entry)) (t .queued))
-        (queueOf (now (vacant .entry)) (s .paths - (t .queued + 1))) (now (kinds .entry)) (now (terms .entry)) last (now (kept .entry)))
+    ensures { λ r. ⌜ ((c : Seconding (s .m) (s .visits) (s .paths) (t .extractions) (t .next) (memory (now (rows .entry)) (now (holders .entry)) (now (numbers .entry)) (now (bytes .entry))) e
+        (queueOf (now (order .entry)) (t .queued)) (queueOf (now (vacant .entry)) (s .paths - (t .queued + 1))) (now (kinds .entry)) (now (terms .entry)) last (now (kept .entry)))
         → (let k = R.copy (c .hand .book) (s .paths) (c .hand .arrays) (c .hand .taken) (c .hand .rest) (t .next) (c .hand .taken .blocks) in
         CopiedTo (c .hand .book) (s .paths) e (c .hand .taken) k (t .crowded) (r .queued) (r .next) (r .crowded) (memory (now (rows .exit)) (now (holders .exit)) (now (numbers .exit)) (now (bytes .entry)))
-        (queueOf (now (order .exit)) (r .queued)) (queueOf (now (vacant .exit)) (s .paths - (r .queued + 1))) (now (kept .exit)))) ⌝ }
+        (queueOf (now (order .exit)) (r .queued)) (queueOf (now (vacant .exit)) (s .paths - (r .queued + 1))) (now (kept .exit))
+        × Removes (stepAt (c .hand .book) (s .visits) (s .paths) (momentIn (c .hand) (t .next) (c .visits)) .crowded) (Q.numbers keyAt (queueOf (now (order .entry)) (t .queued)))
+        (Q.numbers keyAt (queueOf (now (order .exit)) (r .queued))))) ⌝ }
     ensures { λ r. ⌜ Rising (now (order .exit)) (r .queued) ⌝ }
-    ensures { λ r. ⌜ ((c : Seconding (s .m) (s .paths) (memory (now (rows .entry)) (now (holders .entry)) (now (numbers .entry)) (now (bytes .entry))) e (queueOf (now (order .entry)) (t .queued))
-        (queueOf (now (vacant .entry)) (s .paths - (t .queued + 1))) (now (kinds .entry)) (now (terms .entry)) last (now (kept .entry))) (visits : ℕ)
-        → Crowds (c .hand .book) visits (s .paths) (c .hand .arrays) (c .hand .taken) (c .hand .rest) (t .next) (queueOf (now (order .entry)) (t .queued)) (queueOf (now (order .exit)) (r .queued))) ⌝ }
 {
     let blocks = blocks_of(e);
     if blocks == 0 {
@@ -150,7 +151,7 @@ fn third(
     keep(kept, slot, next);
 }
 
-// Steps 2 to 4 for the path of entry e, which is no longer queued.
+// Steps 2 to 4 for the path of entry e, which is taken at a moment of the reader's run and no longer queued.
 pub fn extract(
     rows: &mut [u32],
     holders: &mut [u16; 2580],
@@ -174,14 +175,14 @@ pub fn extract(
     requires { ⌜ Lent (s .m) (s .paths) (memory (now rows) (now holders) (now numbers) (now bytes)) × (length (now order) ≡ 256) × (length (now vacant) ≡ 256) × (length (now visits) ≡ 512) × Cells (s .paths) (now kept) ⌝ }
     requires { ⌜ Scratch (now words) (now sets) (now sums) × (2 ≤ s .paths) × (t .queued + 1 ≤ s .paths) × (t .next < 32768) × (t .crowded < 65536) × (t .outrun < 16777216) ⌝ }
     requires { ⌜ ((b : ℕ) → getD (now visits) b 0 < 65536) ⌝ }
-    requires { ⌜ Extracting (s .m) (s .paths) (memory (now rows) (now holders) (now numbers) (now bytes)) e (queueOf (now order) (t .queued))
-        (queueOf (now vacant) (s .paths - (t .queued + 1))) (now kinds) (now terms) last at (now kept) ⌝ }
+    requires { ⌜ Extracting (s .m) (s .visits) (s .paths) (t .extractions) (t .next) (memory (now rows) (now holders) (now numbers) (now bytes)) e (queueOf (now order) (t .queued))
+        (queueOf (now vacant) (s .paths - (t .queued + 1))) (now kinds) (now terms) last at (now kept) (now visits) ⌝ }
     requires { ⌜ Rising (now order) (t .queued) ⌝ }
     ensures { λ _. ⌜ Lent (s .m) (s .paths) (memory (now (rows .exit)) (now (holders .exit)) (now (numbers .exit)) (now (bytes .exit)))
         × (length (now (order .exit)) ≡ 256) × (length (now (vacant .exit)) ≡ 256) × (length (now (visits .exit)) ≡ 512) × Cells (s .paths) (now (kept .exit)) × Scratch (now (words .exit)) (now (sets .exit)) (now (sums .exit)) ⌝ }
     ensures { λ r. ⌜ (r .extractions ≡ t .extractions) × (r .queued ≤ s .paths) ⌝ }
-    ensures { λ r. ⌜ ((c : Extracting (s .m) (s .paths) (memory (now (rows .entry)) (now (holders .entry)) (now (numbers .entry)) (now (bytes .entry))) e (queueOf (now (order .entry)) (t .queued))
-        (queueOf (now (vacant .entry)) (s .paths - (t .queued + 1))) (now (kinds .entry)) (now (terms .entry)) last at (now (kept .entry)))
+    ensures { λ r. ⌜ ((c : Extracting (s .m) (s .visits) (s .paths) (t .extractions) (t .next) (memory (now (rows .entry)) (now (holders .entry)) (now (numbers .entry)) (now (bytes .entry))) e (queueOf (now (order .entry)) (t .queued))
+        (queueOf (now (vacant .entry)) (s .paths - (t .queued + 1))) (now (kinds .entry)) (now (terms .entry)) last at (now (kept .entry)) (now (visits .entry)))
         → (let k = R.extract (c .hand .book) (s .visits) (s .paths) (c .hand .arrays) (c .hand .taken) (c .hand .rest) (t .next) (now (visits .entry)) in
         (r .queued ≡ length (k .state .queue)) × (r .next ≡ k .state .next) × (now (visits .exit) ≡ k .state .visits)
         × (r .crowded ≡ t .crowded + length (k .step .crowded)) × (r .outrun ≡ t .outrun + length (k .step .outrun))
@@ -189,9 +190,6 @@ pub fn extract(
         (queueOf (now (vacant .exit)) (s .paths - r .queued)) (k .state .arrays) (k .state .queue)
         × Kepts (c .hand .book) (k .state .arrays) (now (kept .exit)) (queueOf (now (order .exit)) (r .queued)) (k .state .queue))) ⌝ }
     ensures { λ r. ⌜ Rising (now (order .exit)) (r .queued) ⌝ }
-    ensures { λ _. ⌜ ((c : Extracting (s .m) (s .paths) (memory (now (rows .entry)) (now (holders .entry)) (now (numbers .entry)) (now (bytes .entry))) e (queueOf (now (order .entry)) (t .queued))
-        (queueOf (now (vacant .entry)) (s .paths - (t .queued + 1))) (now (kinds .entry)) (now (terms .entry)) last at (now (kept .entry)))
-        → Passed (c .hand .book) (s .paths) (c .hand .arrays) e (c .hand .taken) (c .hand .rest) (t .next)) ⌝ }
 {
     let m = s.m;
     let paths = s.paths;

@@ -18,3 +18,4 @@ pub mod Fit
 pub mod Reached
 pub mod Next
 pub mod Found
+pub mod During

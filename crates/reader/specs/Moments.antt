@@ -1,11 +1,15 @@
 -- The moments of the reader's run: at each extraction, the path taken and what the reader then holds; what step 2 leaves of the queue, what step 4
 -- finds, and the extraction's step; and what a step says of the numbers that the queue loses. Of the reader alone. Assumes nothing.
+use mathlib.Core.Path.{_≡_}
 use mathlib.Core.Bool.{cond}
-use mathlib.Core.List.{List, [], _∷_, List·Memᴰ}
+use mathlib.Core.List.{List, [], _∷_, _++_, List·Memᴰ}
 use mathlib.Core.Logic.{_↔_}
-use Prim.Native.Nat.{ℕ, zero, suc, _+_, _*_}
+use Prim.Native.Nat.{ℕ, zero, suc, _+_, _*_, _^_}
 use lib.ListN.{length, replicate}
+use lib.IntN.{ℤ}
 use lib.Dec.{eqb}
+use Rattle.laws.specs.Lists.{All}
+use Rattle.polar.specs.Layers.{Within}
 use Rattle.codebook.specs.Book.{Book}
 use Rattle.queue.specs.Queue.{insert, numbers, Step}
 use Rattle.reader.specs.Arrays.{Arrays}
@@ -31,6 +35,22 @@ unfoldable pub momentsOf : Book → ℕ → ℕ → Arrays → List Moment
 momentsOf B L D A =
     let V′ = length (B .blocks) in
     moments (L * V′ + 1) B L D A (firstPath B ∷ []) 1 (replicate V′ 0)
+
+-- `here` is the moment of the run from the arrays A at which k extractions are done
+pub record MomentOf (B : Book) (L D : ℕ) (A : Arrays) (k : ℕ) (here : Moment) : Type 0 where
+  pub made : List Moment
+  pub later : List Moment
+  pub moments : momentsOf B L D A ≡ made ++ here ∷ later
+  pub extractions : k ≡ length made
+
+-- so it is in a run from received values within range, which are the root values of array 1
+pub record RunMoment (B : Book) (L D k : ℕ) (here : Moment) : Type 0 where
+  pub values : List ℤ
+  pub size : length values ≡ 2 ^ (B .m)
+  pub range : All (Within 2047) values
+  pub arrays : Arrays
+  pub root : arrays .vals (B .m) 1 ≡ values
+  pub moment : MomentOf B L D arrays k here
 
 -- ---- the run's steps
 

@@ -20,7 +20,7 @@ use Rattle.queue.specs.Queue.{Step, Final}
 use Rattle.reader.specs.Arrays.{Arrays}
 use Rattle.reader.specs.Paths.{Path, keyOf, firstPath}
 use Rattle.reader.specs.Reader as R
-use Rattle.reader.specs.Moments.{Moment, moments, momentsOf, extractAt, stepAt}
+use Rattle.reader.specs.Moments.{Moment, moments, momentsOf, MomentOf, extractAt, stepAt}
 use Rattle.reader.specs.Reached.{Reached}
 use Rattle.reader.proofs.Moments.{step-more}
 use Rattle.reader.proofs.Queue.{numbers-paired}
@@ -319,16 +319,18 @@ module _ {B : Book} {values : List ℤ} {L N : ℕ} {A : Arrays} {x : Memory} {o
 
   -- ---- what the contract says of it
 
+  -- the moment that it is at
+  pub going-moment : MomentOf B L N A (t .extractions) (momentOf (g .arrays) (g .taken) (g .rest) (t .next) (g .own))
+  unfolding moments
+  going-moment = record { made = g .done; later = _; moments = g .at; extractions = g .extractions }
+
   pub going-before : Rising order (t .queued) → (most : ℕ) → t .extractions ≤ most → (t .extractions < most → g .taken .blocks ≡ length (B .blocks)) →
       Before B L N A most x order vacant visits kept t e path₀ blocks₀ score₀ path blocks score
-  unfolding moments Paired
+  unfolding going-moment Paired
   going-before up most l d =
       record {
-        made = g .done;
         here = momentOf (g .arrays) (g .taken) (g .rest) (t .next) (g .own);
-        later = _;
-        moments = g .at;
-        extractions = g .extractions;
+        moment = going-moment;
         bound = l;
         stops = d;
         few = going-fuel;

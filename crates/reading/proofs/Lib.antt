@@ -8,4 +8,3 @@ pub mod Going
 pub mod Turns
 pub mod Stops
 pub mod Resumed
-pub mod Lost

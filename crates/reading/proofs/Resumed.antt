@@ -8,7 +8,6 @@ use native.Mathlib.Omega.{arith}
 use lib.IntN.{ℤ}
 use lib.ListN.{length, replicate, length-replicate}
 use lib.Dec.{eqb}
-use Rattle.laws.specs.Lists.{All}
 use Rattle.codebook.specs.Book.{Book}
 use Rattle.codebook.specs.Limits.{Valid}
 use Rattle.queue.specs.Queue.{visit}
@@ -17,7 +16,7 @@ use Rattle.reader.specs.Paths.{Path, firstPath}
 use Rattle.reader.specs.Reader as R
 use Rattle.reader.specs.Moments.{Moment, moments, momentsOf}
 use Rattle.reader.specs.Reached.{Reached}
-use Rattle.reader.proofs.Reached.{run-reached}
+use Rattle.reader.proofs.During.{during-reached}
 use Rattle.order.specs.Entries.{keyAt, queueOf}
 use Rattle.standing.specs.Seen.{Memory}
 use Rattle.standing.proofs.Taken.{taken-blocks}
@@ -30,7 +29,8 @@ use Rattle.reading.specs.Running.{Running}
 use Rattle.reading.specs.Turning.{Turning}
 use Rattle.reading.proofs.Visits.{Alike}
 use Rattle.reading.proofs.Going.{Going}
-use Rattle.reading.proofs.Stops.{none-here, here-of}
+use Rattle.reading.proofs.Turns.{input-moment}
+use Rattle.reading.proofs.Stops.{none-here}
 
 -- ---- what is left of the moments
 
@@ -100,9 +100,9 @@ module _ (B : Book) (L D : ℕ) where
 
 module _ {B : Book} {L N : ℕ} {A : Arrays} {most : ℕ} {x : Memory} {order vacant visits kept : List ℕ} {t : Tally} {e : ℕ} {path₀ blocks₀ score₀ path blocks score : List ℤ}
     (g : Before B L N A most x order vacant visits kept t e path₀ blocks₀ score₀ path blocks score) where
-  pub left : Left B L N (L * length (B .blocks) + 1) A (firstPath B ∷ []) 1 (replicate (length (B .blocks)) 0) (g .made) (g .here) (g .later)
+  pub left : Left B L N (L * length (B .blocks) + 1) A (firstPath B ∷ []) 1 (replicate (length (B .blocks)) 0) (g .moment .made) (g .here) (g .moment .later)
   unfolding momentsOf
-  left = moments-left B L N _ A _ _ _ (g .made) (g .here) (g .later) (g .moments)
+  left = moments-left B L N _ A _ _ _ (g .moment .made) (g .here) (g .moment .later) (g .moment .moments)
 
   -- its visits are those of the tables
   pub before-alike : Valid B → length visits ≡ 512 → Alike (length (B .blocks)) (g .here .state .visits) visits
@@ -113,14 +113,6 @@ module _ {B : Book} {L N : ℕ} {A : Arrays} {most : ℕ} {x : Memory} {order va
         same = λ i h. sym (g .visited i h);
       }
 
-  -- its paths are such as the run reaches
-  pub before-reached : (values : List ℤ) → Valid B → length values ≡ 2 ^ (B .m) → 2 ≤ N → A .vals (B .m) 1 ≡ values →
-      Reached B values N (g .here .state .arrays) (g .here .path ∷ g .here .state .queue)
-  before-reached values ok size two root =
-      here-of (λ (m : Moment). Reached B values N (m .state .arrays) (m .path ∷ m .state .queue)) (g .made) (g .here) (g .later)
-      (subst (All (λ (m : Moment). Reached B values N (m .state .arrays) (m .path ∷ m .state .queue))) (g .moments)
-      (run-reached B values ok size L N two A root))
-
   -- the run from there has its final word
   pub before-ends : R.runOf B L N A .final
       ≡ R.run (suc (left .less)) B L N (g .here .state .arrays) (g .here .path ∷ g .here .state .queue) (t .next) (g .here .state .visits) .final
@@ -128,9 +120,9 @@ module _ {B : Book} {L N : ℕ} {A : Arrays} {most : ℕ} {x : Memory} {order va
   before-ends =
       left .ends ∙ ap (λ k. R.run (suc (left .less)) B L N (g .here .state .arrays) (g .here .path ∷ g .here .state .queue) k (g .here .state .visits) .final) (sym (g .next))
 
-  abbrev pub before-going : (values : List ℤ) → Valid B → length values ≡ 2 ^ (B .m) → 2 ≤ N → A .vals (B .m) 1 ≡ values → length visits ≡ 512 →
+  abbrev pub before-going : (values : List ℤ) → Valid B → Reached B values N (g .here .state .arrays) (g .here .path ∷ g .here .state .queue) → length visits ≡ 512 →
       Going B values L N A x order vacant visits kept t e path₀ blocks₀ score₀ path blocks score
-  before-going values ok size two root long =
+  before-going values ok reached long =
       let m : Moment = g .here in
       let s = m .state in
       let n : ℕ = left .less in
@@ -140,22 +132,22 @@ module _ {B : Book} {L N : ℕ} {A : Arrays} {most : ℕ} {x : Memory} {order va
         rest = s .queue;
         own = s .visits;
         fuel = n;
-        done = g .made;
+        done = g .moment .made;
         stands = g .stands;
-        reached = before-reached values ok size two root;
+        reached = reached;
         known = g .known;
         alike = before-alike ok long;
         count = sym (left .count);
         at =
-            g .moments ∙ ap (λ ms. g .made ++ ms) (left .rest ∙ ap (λ k. moments (suc n) B L N (s .arrays) (m .path ∷ s .queue) k (s .visits)) (sym (g .next)));
+            g .moment .moments ∙ ap (λ ms. g .moment .made ++ ms) (left .rest ∙ ap (λ k. moments (suc n) B L N (s .arrays) (m .path ∷ s .queue) k (s .visits)) (sym (g .next)));
         ends = before-ends;
-        extractions = g .extractions;
+        extractions = g .moment .extractions;
         crowded = g .crowded;
         outrun = g .outrun;
-        next-few = omega (arith, g .next-few, g .extractions);
-        crowded-few = omega (arith, g .crowded-few, g .extractions);
-        outrun-few = omega (arith, g .outrun-few, g .extractions);
-        visits-few = λ b. omega (arith, g .visits-few b, g .extractions);
+        next-few = omega (arith, g .next-few, g .moment .extractions);
+        crowded-few = omega (arith, g .crowded-few, g .moment .extractions);
+        outrun-few = omega (arith, g .outrun-few, g .moment .extractions);
+        visits-few = λ b. omega (arith, g .visits-few b, g .moment .extractions);
         walks = record { path-is = g .path-is; blocks-is = g .blocks-is; score-is = g .score-is };
       }
 
@@ -164,11 +156,8 @@ module _ {B : Book} {L N : ℕ} {A : Arrays} {most : ℕ} {x : Memory} {order va
       Before B L N A bound x order vacant visits kept t e path₀ blocks₀ score₀ path blocks score
   before-most bound l d =
       record {
-        made = g .made;
         here = g .here;
-        later = g .later;
-        moments = g .moments;
-        extractions = g .extractions;
+        moment = g .moment;
         bound = l;
         stops = λ k. sym (taken-blocks (g .stands)) ∙ d k;
         few = g .few;
@@ -196,8 +185,8 @@ module _ {s : Setting} {kinds terms heights starts : List ℕ} {biases : List �
   abbrev pub turning-going : 2 ≤ s .paths → length visits ≡ 512 →
       Going (c .input .book) (c .values) (s .visits) (s .paths) (c .arrays) x order vacant visits kept t e (c .path₀) (c .blocks₀) (c .score₀) path blocks score
   turning-going two long =
-      let r = c .input in
-      before-going (c .at) (c .values) (r .tables .booked .valid) (r .size ∙ ap (λ n. 2 ^ n) (sym (r .deep))) two (ap (λ n. c .arrays .vals n 1) (r .deep) ∙ c .root) long
+      let ok = c .input .tables .booked .valid in
+      before-going (c .at) (c .values) ok (during-reached ok (input-moment (c .input) (c .root) (c .at .moment)) two) long
 
   -- the path in hand has not all blocks
   pub turning-more : keyAt e .blocks ≡ s .blocks → ⊥

@@ -10,7 +10,7 @@ use lib.IntN.{ℤ}
 use lib.ListN.{length, length-map}
 use lib.Dec.{eqb}
 use borrow.Author.Tests.{eq-eqb}
-use Rattle.laws.specs.Lists.{All, sum}
+use Rattle.laws.specs.Lists.{sum}
 use Rattle.laws.proofs.Lists.{length-snoc}
 use Rattle.laws.specs.Pairs.{Paired}
 use Rattle.polar.specs.Layers.{part}
@@ -21,11 +21,10 @@ use Rattle.queue.specs.Queue.{Step}
 use Rattle.reader.specs.Arrays.{Arrays, sumsOf}
 use Rattle.reader.specs.Paths.{Path, scoreOf, keyOf, firstPath, idsOf, viewOf}
 use Rattle.reader.specs.Fit.{Fit, FitFor}
-use Rattle.reader.specs.Reached.{Reached}
 use Rattle.reader.specs.Reader as R
 use Rattle.reader.specs.Moments.{Moment, moments, momentsOf, stepAt}
 use Rattle.reader.proofs.Moments.{run-steps-are}
-use Rattle.reader.proofs.Reached.{reached-fit, run-reached}
+use Rattle.reader.proofs.During.{during-fit}
 use Rattle.order.specs.Entries.{keyAt, queueOf}
 use Rattle.heights.specs.Workspace.{spot, Id}
 use Rattle.standing.specs.Seen.{Memory}
@@ -42,19 +41,13 @@ use Rattle.reading.specs.Ending.{Ending}
 use Rattle.reading.specs.Running.{Running, RanIs}
 use Rattle.reading.proofs.Walks.{Walks, Noted, walks-next, sum-next}
 use Rattle.reading.proofs.Going.{crowdedCount, outrunCount}
-use Rattle.reading.proofs.Turns.{ReadAt, run-blocks}
+use Rattle.reading.proofs.Turns.{ReadAt, run-blocks, input-moment}
 
 -- ---- the moment at which the run stops
 
 pub none-here : (made : List Moment) (here : Moment) (later : List Moment) → [] ≡ made ++ here ∷ later → ⊥
 none-here [] here later e = let z : _≡_ {A = ℕ} 0 1 = cc in omega arith
 none-here (m ∷ made) here later e = let z : _≡_ {A = ℕ} 0 1 = cc in omega arith
-
--- what holds of all of them holds of it
-pub here-of : (P : Moment → Type 0) (made : List Moment) (here : Moment) (later : List Moment) → All P (made ++ here ∷ later) → P here
-unfolding All
-here-of P [] here later h = h .0
-here-of P (m ∷ made) here later h = here-of P made here later (h .1)
 
 module _ (B : Book) (L D : ℕ) where
   -- nothing comes after it, and its word is the run's
@@ -146,17 +139,17 @@ module _ {s : Setting} {values : List ℤ} {kinds terms heights starts : List �
     whole = R.runOf (c .book) (s .visits) (s .paths) A
 
     abbrev done : List Step
-    done = map (stepAt (c .book) (s .visits) (s .paths)) (g .made)
+    done = map (stepAt (c .book) (s .visits) (s .paths)) (g .moment .made)
 
-    last-of : (g .later ≡ []) × (whole .final ≡ R.stopped (c .book) (g .here .state .arrays) (g .here .path) (g .here .state .queue) .final)
+    last-of : (g .moment .later ≡ []) × (whole .final ≡ R.stopped (c .book) (g .here .state .arrays) (g .here .path) (g .here .state .queue) .final)
     unfolding momentsOf R.runOf
-    last-of = moments-last (c .book) (s .visits) (s .paths) _ _ _ _ _ (g .made) (g .here) (g .later) (g .moments) all
+    last-of = moments-last (c .book) (s .visits) (s .paths) _ _ _ _ _ (g .moment .made) (g .here) (g .moment .later) (g .moment .moments) all
 
     last-steps : whole .steps ≡ done ++ lastStep ∷ []
     last-steps =
         let step : Moment → Step = stepAt (c .book) (s .visits) (s .paths) in
-        run-steps-are (c .book) (s .visits) (s .paths) A ∙ ap (map step) (g .moments ∙ ap (λ l. g .made ++ g .here ∷ l) (last-of .0))
-        ∙ map-append step (g .made) (g .here ∷ []) ∙ ap (λ y. done ++ y ∷ []) (last-step (c .book) (s .visits) (s .paths) (g .here) all)
+        run-steps-are (c .book) (s .visits) (s .paths) A ∙ ap (map step) (g .moment .moments ∙ ap (λ l. g .moment .made ++ g .here ∷ l) (last-of .0))
+        ∙ map-append step (g .moment .made) (g .here ∷ []) ∙ ap (λ y. done ++ y ∷ []) (last-step (c .book) (s .visits) (s .paths) (g .here) all)
 
     -- the path has a last block
     pub last-index : g .here .path .blocks ≡ suc (s .blocks - 1)
@@ -165,13 +158,7 @@ module _ {s : Setting} {values : List ℤ} {kinds terms heights starts : List �
     -- and it is fit, as every path is when it is taken
     pub last-fit : A .vals (s .m) 1 ≡ values → 2 ≤ s .paths → Fit (c .book) (g .here .state .arrays) (g .here .path) (s .blocks - 1)
     unfolding FitFor
-    last-fit root two =
-        let size : length values ≡ 2 ^ (c .book .m) = c .size ∙ ap (λ n. 2 ^ n) (sym (c .deep)) in
-        let reached = here-of (λ (m : Moment). Reached (c .book) values (s .paths) (m .state .arrays) (m .path ∷ m .state .queue)) (g .made) (g .here) (g .later)
-        (subst (All (λ (m : Moment). Reached (c .book) values (s .paths) (m .state .arrays) (m .path ∷ m .state .queue))) (g .moments)
-        (run-reached (c .book) values ok size (s .visits) (s .paths) two A (ap (λ n. A .vals n 1) (c .deep) ∙ root))) in
-        subst (FitFor (c .book) (g .here .state .arrays) (g .here .path)) last-index
-        (reached-fit (c .book) values ok size (c .range) (s .paths) (g .here .state .arrays) (g .here .path) (g .here .state .queue) reached)
+    last-fit root two = subst (FitFor (c .book) (g .here .state .arrays) (g .here .path)) last-index (during-fit ok (input-moment c root (g .moment)) two)
 
     abbrev pub stop-ending : A .vals (s .m) 1 ≡ values → 2 ≤ s .paths → (last : Block) (i : ℕ) → i ≡ s .blocks - 1 → ReadAt heights starts biases i last →
         Ending (s .m) (s .paths) x e (queueOf order (t .queued)) (queueOf vacant (s .paths - (t .queued + 1))) last
@@ -198,7 +185,7 @@ module _ {s : Setting} {values : List ℤ} {kinds terms heights starts : List �
     unfolding keyOf
     stop-walks long {path′} {blocks′} {score′} noted =
         subst (λ l. Walks l path₀ blocks₀ score₀ path′ blocks′ score′) (sym last-steps)
-        (walks-next lastStep (taken-key (g .stands)) (g .extractions ∙ sym (length-map (g .made) (stepAt (c .book) (s .visits) (s .paths))))
+        (walks-next lastStep (taken-key (g .stands)) (g .moment .extractions ∙ sym (length-map (g .moment .made) (stepAt (c .book) (s .visits) (s .paths))))
         (record {
           path-long = omega (arith, long .0, stop-left);
           blocks-long = omega (arith, long .1, stop-left);
@@ -218,7 +205,7 @@ module _ {s : Setting} {values : List ℤ} {kinds terms heights starts : List �
           final = record { word = word; bits = readData B word; discrepancy = p .spent + p .cost };
           ends = last-of .1;
           extractions =
-              omega (arith, n .0, g .extractions, ap length last-steps, length-snoc done lastStep, length-map (g .made) (stepAt B (s .visits) (s .paths)));
+              omega (arith, n .0, g .moment .extractions, ap length last-steps, length-snoc done lastStep, length-map (g .moment .made) (stepAt B (s .visits) (s .paths)));
           crowded =
               omega (arith, n .1, g .crowded, ap (λ l. sum (map crowdedCount l)) last-steps, sum-next crowdedCount done lastStep);
           outrun =

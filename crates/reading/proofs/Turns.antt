@@ -15,6 +15,7 @@ use Rattle.machine.specs.Machine as M
 use Rattle.machine.specs.Calls.{finalOf}
 use Rattle.reader.specs.Arrays.{Arrays}
 use Rattle.reader.specs.Paths.{scoreOf, keyOf, firstPath}
+use Rattle.reader.specs.Moments.{Moment, MomentOf, RunMoment}
 use Rattle.reader.specs.Reader as R
 use Rattle.reader.proofs.Agree.{valid-agree}
 use Rattle.order.specs.Entries.{keyAt, Packed, queueOf, Rising}
@@ -34,8 +35,9 @@ use Rattle.extraction.specs.Extraction.{Extracting}
 use Rattle.reading.proofs.First.{first-stands}
 use Rattle.reading.proofs.Walks.{Long, Noted}
 use Rattle.extraction.proofs.Counts.{blocks-few}
+use Rattle.reading.proofs.Visits.{alike-visit}
 use Rattle.reading.proofs.Bounded.{blocks-some}
-use Rattle.reading.proofs.Going.{Going, going-first, going-blocks, going-within, going-fuel, going-some, going-next, going-before}
+use Rattle.reading.proofs.Going.{Going, going-first, going-blocks, going-within, going-fuel, going-some, going-next, going-moment, going-before}
 
 -- r is block b of any book in these tables that has it
 abbrev pub ReadAt : List ℕ → List ℕ → List ℤ → ℕ → Block → Type 0
@@ -50,6 +52,10 @@ first-key B e p = p
 module _ {s : Setting} {values : List ℤ} {kinds terms heights starts : List ℕ} {biases : List ℤ} (c : Running s values kinds terms heights starts biases) where
   abbrev ok : Valid (c .book)
   ok = c .tables .booked .valid
+
+  -- as many values as the book asks for
+  abbrev size : length values ≡ 2 ^ (c .book .m)
+  size = c .size ∙ ap (λ n. 2 ^ n) (sym (c .deep))
 
   -- the book's shape
   pub run-deep : s .m ≤ 9
@@ -69,12 +75,18 @@ module _ {s : Setting} {values : List ℤ} {kinds terms heights starts : List �
         omega (arith, c .tables .start b h, ap (λ j. 2 ^ j) e, o .within, pow-mono (ok .high)),
       )
 
+  -- a moment of its run from arrays whose root holds the received values
+  pub input-moment : {A : Arrays} → A .vals (s .m) 1 ≡ values → {k : ℕ} {here : Moment} → MomentOf (c .book) (s .visits) (s .paths) A k here →
+      RunMoment (c .book) (s .visits) (s .paths) k here
+  input-moment {A} root h =
+      record { values = values; size = size; range = c .range; arrays = A; root = ap (λ n. A .vals n 1) (c .deep) ∙ root; moment = h }
+
   -- the run has a final word
   pub run-found : (A : Arrays) → 1 ≤ s .visits → A .vals (s .m) 1 ≡ values → (f : Final) × (R.runOf (c .book) (s .visits) (s .paths) A .final ≡ some f)
   run-found A l root =
       let B : Book = c .book in (
         finalOf B values (M.runOf B (s .visits) (s .paths) values .final),
-        valid-agree B ok (s .visits) (s .paths) values A l (c .size ∙ ap (λ n. 2 ^ n) (sym (c .deep))) (ap (λ n. A .vals n 1) (c .deep) ∙ root) .1,
+        valid-agree B ok (s .visits) (s .paths) values A l size (ap (λ n. A .vals n 1) (c .deep) ∙ root) .1,
       )
 
   -- ---- at first
@@ -115,23 +127,22 @@ module _ {s : Setting} {values : List ℤ} {kinds terms heights starts : List �
     run-within d = omega (arith, run-next d, going-blocks g, c .blocks)
 
     -- what an extraction needs
-    abbrev pub run-extracting : (last at : Block) (i b : ℕ) → b ≡ keyAt e .blocks → i ≡ b - 1 → (keyAt e .blocks ≡ s .blocks → ⊥) →
+    abbrev pub run-extracting : A .vals (s .m) 1 ≡ values → (last at : Block) (i b : ℕ) → b ≡ keyAt e .blocks → i ≡ b - 1 → (keyAt e .blocks ≡ s .blocks → ⊥) →
         ReadAt heights starts biases i last → ReadAt heights starts biases b at →
-        Extracting (s .m) (s .paths) x e (queueOf order (t .queued)) (queueOf vacant (s .paths - (t .queued + 1))) kinds terms last at kept
-    run-extracting last at i b p q d l a =
+        Extracting (s .m) (s .visits) (s .paths) (t .extractions) (t .next) x e (queueOf order (t .queued)) (queueOf vacant (s .paths - (t .queued + 1))) kinds terms last at kept visits
+    run-extracting root last at i b p q d l a =
         record {
           hand = run-hand;
           booked = c .tables .booked;
-          values = values;
-          size = c .size ∙ ap (λ n. 2 ^ n) (sym (c .deep));
-          range = c .range;
-          reached = g .reached;
+          visits = g .own;
+          moment = input-moment root (going-moment g);
           known = g .known;
           next =
               subst (λ n. BlockIs (c .book) n at) (p ∙ going-blocks g) (a (c .book) kinds terms ok (c .tables) (omega (arith, run-within d, c .blocks)));
           last-is = λ k h.
               let j : i ≡ k = omega (arith, going-blocks g) in
               subst (λ n. BlockIs (c .book) n last) j (l (c .book) kinds terms ok (c .tables) (omega (arith, run-within d, c .blocks)));
+          visited = alike-visit (g .own) visits (g .taken .blocks) (run-next d) (g .alike) .same (g .taken .blocks) (run-next d);
         }
 
     -- ---- an extraction
@@ -150,7 +161,7 @@ module _ {s : Setting} {values : List ℤ} {kinds terms heights starts : List �
     module _ (two : 2 ≤ s .paths) (most : s .paths ≤ 256) (found : (f : Final) × (R.runOf (c .book) (s .visits) (s .paths) A .final ≡ some f)) (d : keyAt e .blocks ≡ s .blocks → ⊥) (r : Tally) where
       -- a path is queued after it
       pub run-some : r .queued ≡ length (run-made .state .queue) → 1 ≤ r .queued
-      run-some q = going-some g ok (c .size ∙ ap (λ n. 2 ^ n) (sym (c .deep))) two most (found .0) (found .1) (run-next d) r q
+      run-some q = going-some g ok size two most (found .0) (found .1) (run-next d) r q
 
       pub run-turn : (y : Memory) (order′ vacant′ visits′ kept′ : List ℕ) →
           (r .queued ≡ length (run-made .state .queue)) × (r .next ≡ run-made .state .next) × (visits′ ≡ run-made .state .visits)
@@ -164,7 +175,7 @@ module _ {s : Setting} {values : List ℤ} {kinds terms heights starts : List �
           (record { queued = r .queued - 1; next = r .next; extractions = r .extractions; crowded = r .crowded; outrun = r .outrun })
           (getD order′ (r .queued - 1) 0) path₀ blocks₀ score₀ path′ blocks′ score′
       run-turn y order′ vacant′ visits′ kept′ x more l n =
-          going-next g ok (c .size ∙ ap (λ n. 2 ^ n) (sym (c .deep))) two most (found .0) (found .1) (run-next d) r (x .0) y order′ vacant′ visits′ kept′ (x .1) (x .2) (x .3) (x .4) more (x .5) (x .6)
+          going-next g ok size two most (found .0) (found .1) (run-next d) r (x .0) y order′ vacant′ visits′ kept′ (x .1) (x .2) (x .3) (x .4) more (x .5) (x .6)
           (long-enough l) n
 
     -- ---- what the contract says of it

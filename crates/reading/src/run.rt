@@ -19,7 +19,7 @@ ghost use Rattle.steps.specs.Steps.{committed};
 ghost use Rattle.reading.specs.Before.{Before};
 ghost use Rattle.reading.specs.Ending.{Ending};
 ghost use Rattle.reading.specs.Running.{arraysOf, received, Running, RanIs};
-ghost use Rattle.reading.specs.Turning.{Turning, Losing};
+ghost use Rattle.reading.specs.Turning.{Turning};
 use crate::Ran;
 use crate::Stage;
 use extraction::extract::extract;
@@ -88,7 +88,8 @@ fn finish(
 }
 
 // One extraction of the run, of a path that has a next block: its entry of the walk, steps 2 to 4, and step 1 of the next. The memory before it stands for one of
-// the reader's moments, and after it for the next one (specs/Before); what the queue loses in between is what the reader's step at that moment says (specs/Turning).
+// the reader's moments, and after it for the next one (specs/Before). The functions that make steps 2 and 4 (extraction::second, advance::outrun) are called with that moment in their
+// `requires`, and say what the queue loses.
 fn turn(
     rows: &mut [u32],
     holders: &mut [u16; 2580],
@@ -131,10 +132,6 @@ fn turn(
         → Before (c .input .book) (s .visits) (s .paths) (c .arrays) (t .extractions + 1)
         (memory (now (rows .exit)) (now (holders .exit)) (now (numbers .exit)) (now (bytes .exit))) (now (order .exit)) (now (vacant .exit)) (now (visits .exit)) (now (kept .exit))
         (r .tally) (r .entry) (c .path₀) (c .blocks₀) (c .score₀) (now («walk_path» .exit)) (now («walk_blocks» .exit)) (now («walk_score» .exit))) ⌝ }
-    ensures { λ r. ⌜ ((c : Turning s (now (kinds .entry)) (now (terms .entry)) (now (heights .entry)) (now (starts .entry)) (now (biases .entry))
-        (memory (now (rows .entry)) (now (holders .entry)) (now (numbers .entry)) (now (bytes .entry))) (now (order .entry)) (now (vacant .entry)) (now (visits .entry)) (now (kept .entry))
-        t e (now («walk_path» .entry)) (now («walk_blocks» .entry)) (now («walk_score» .entry)))
-        → Losing (c .input .book) (s .visits) (s .paths) (c .at .here) (queueOf (now (order .entry)) (t .queued)) (r .entry ∷ queueOf (now (order .exit)) (r .tally .queued))) ⌝ }
 {
     note(
         walk_path,

@@ -6,14 +6,14 @@ use native.Mathlib.Numerals.{add-one}
 use native.Mathlib.Omega.{arith}
 use borrow.Author.Needs.{needs}
 use lib.ListN.{length, getD, set}
-use Rattle.queue.specs.Queue.{ahead, visit}
+use Rattle.queue.specs.Queue.{ahead, numbers, visit}
 use Rattle.runs.proofs.Ends.{visit-same}
 use Rattle.reader.specs.Paths.{keyOf}
 use Rattle.order.specs.Entries.{keyAt, queueOf}
 use Rattle.order.proofs.Queues.{queue-length}
 use Rattle.standing.proofs.Sizes.{stands-length}
 use Rattle.advance.proofs.Sides.{sides-length, stay-all, stay-ahead}
-use Rattle.advance.proofs.Losses.{outruns}
+use Rattle.advance.proofs.Losses.{stands-numbers, outruns}
 use Rattle.advance.proofs.outruns.outrun.Statement.{statement}
 use Rattle.advance.proofs.outruns.outrun.Tie as tie
 
@@ -56,16 +56,12 @@ returns c =
         sym (stay-all keyAt (a .s .visits) (a .b) (visit (a .visits .now) (a .b)) entries (omega (arith, seen, c .if1 .taken)) .0),
       ),
       (
-        λ numbers bytes x.
-            let stay = stay-all (keyOf (x .book)) (a .s .visits) (a .b) (visit (a .visits .now) (a .b)) (x .paths) (omega (arith, seen, c .if1 .taken)) in
-            let level : a .t .queued ≡ length (x .paths) = omega (arith, stands-length (x .stands), queue-length (a .t .queued) (a .order .now)) in
-            (rw (stay .0) level, rw (stay .1) (omega arith), rw (stay .0) (x .stands)),
-        (
-          t .pre .1 .1 .1,
-          λ numbers bytes x.
-              let stay = stay-all (keyOf (x .book)) (a .s .visits) (a .b) (visit (a .visits .now) (a .b)) (x .paths) (omega (arith, seen, c .if1 .taken)) in
-              outruns (x .book) (a .s .visits) (a .s .paths) (a .b) (visit (a .visits .now) (a .b)) (x .paths) (x .stands) (x .stands) (sym (stay .0)) refl,
-        ),
+        λ values bytes x.
+            let q = x .queued in
+            let stay = stay-all (keyOf (q .book)) (a .s .visits) (a .b) (visit (a .visits .now) (a .b)) (q .paths) (omega (arith, seen, c .if1 .taken)) in
+            let level : a .t .queued ≡ length (q .paths) = omega (arith, stands-length (q .stands), queue-length (a .t .queued) (a .order .now)) in
+            (rw (stay .0) level, rw (stay .1) (omega arith), rw (stay .0) (q .stands), outruns x entries (stands-numbers (q .stands) ∙ ap (numbers (keyOf (q .book))) (sym (stay .0)))),
+        t .pre .1 .1 .1,
       ),
     )
 
@@ -108,24 +104,24 @@ returns-2 c =
         left .ensures .0 .2 ∙ sym (stay-ahead keyAt (a .s .visits) (a .b) (visit (a .visits .now) (a .b)) entries lth .0),
       ),
       (
-        λ numbers bytes x.
-            let w = gone .ensures .1 numbers bytes x in
+        λ values bytes x.
+            let q = x .queued in
+            let w = gone .ensures .1 values bytes q in
             let stay =
-            stay-ahead (keyOf (x .book)) (a .s .visits) (a .b) (visit (a .visits .now) (a .b)) (x .paths) lth in
-            let level : length (x .paths) ≡ a .t .queued = omega (arith, stands-length (x .stands), queue-length (a .t .queued) (a .order .now)) in
-            let many : left .result ≡ length (ahead (keyOf (x .book)) (a .b) (x .paths)) =
+            stay-ahead (keyOf (q .book)) (a .s .visits) (a .b) (visit (a .visits .now) (a .b)) (q .paths) lth in
+            let level : length (q .paths) ≡ a .t .queued = omega (arith, stands-length (q .stands), queue-length (a .t .queued) (a .order .now)) in
+            let many : left .result ≡ length (ahead (keyOf (q .book)) (a .b) (q .paths)) =
             sym (queue-length (left .result) (left .last .0)) ∙ ap length (left .ensures .0 .2) ∙ stands-length (w .1) in
             let slots : a .s .paths - left .result ≡ a .s .paths - a .t .queued + gone .result =
-            omega (arith, sides-length (keyOf (x .book)) (a .b) (x .paths), w .0) in
-            (rw (stay .0) many, rw (stay .1) (ap (λ n. a .t .outrun + n) (w .0)), rw (stay .0, slots, left .ensures .0 .2) (w .1)),
-        (
-          left .ensures .1 (t .pre .1 .1 .1),
-          λ numbers bytes x.
-              let w = gone .ensures .1 numbers bytes x in
-              let stay =
-              stay-ahead (keyOf (x .book)) (a .s .visits) (a .b) (visit (a .visits .now) (a .b)) (x .paths) lth in
-              outruns (x .book) (a .s .visits) (a .s .paths) (a .b) (visit (a .visits .now) (a .b)) (x .paths) (x .stands) (w .1) (sym (stay .0)) (left .ensures .0 .2),
-        ),
+            omega (arith, sides-length (keyOf (q .book)) (a .b) (q .paths), w .0) in
+            let same : numbers keyAt (queueOf (left .last .0) (left .result)) ≡ numbers (keyOf (q .book)) (ahead (keyOf (q .book)) (a .b) (q .paths)) =
+            ap (numbers keyAt) (left .ensures .0 .2) ∙ stands-numbers (w .1) in (
+              rw (stay .0) many,
+              rw (stay .1) (ap (λ n. a .t .outrun + n) (w .0)),
+              rw (stay .0, slots, left .ensures .0 .2) (w .1),
+              outruns x _ (same ∙ ap (numbers (keyOf (q .book))) (sym (stay .0))),
+            ),
+        left .ensures .1 (t .pre .1 .1 .1),
       ),
     )
 

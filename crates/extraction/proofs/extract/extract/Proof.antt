@@ -3,7 +3,7 @@
 -- need. Assumes nothing.
 use mathlib.Core.Path.{_≡_, ap, _∙_, subst}
 use mathlib.Core.List.{List}
-use Prim.Native.Nat.{ℕ, suc, _+_, _-_}
+use Prim.Native.Nat.{ℕ, suc, _+_, _-_, _≤_}
 use native.Mathlib.Omega.{arith}
 use borrow.Author.Needs.{needs}
 use lib.ListN.{length}
@@ -11,8 +11,9 @@ use Rattle.reader.specs.Reader.{copy}
 use Rattle.order.specs.Entries.{queueOf, Rising}
 use Rattle.standing.specs.Seen.{Memory, memory}
 use Rattle.steps.specs.Steps.{CopiedTo}
+use Rattle.advance.specs.Outruns.{Outrunning}
 use Rattle.extraction.specs.Extraction.{Extracting}
-use Rattle.extraction.proofs.Extracts.{visit-length, extract-blocks, extract-seconding, extract-thirding, MovedTo, extract-queued, extract-done, extract-passed}
+use Rattle.extraction.proofs.Extracts.{visit-length, extract-blocks, extract-seconding, extract-thirding, MovedTo, extract-outrunning, extract-done}
 use Rattle.extraction.proofs.extract.extract.Statement.{statement}
 use Rattle.extraction.proofs.extract.extract.Tie as tie
 
@@ -23,8 +24,8 @@ at-start s = memory (s .args .rows .now) (s .args .holders .now) (s .args .numbe
 abbrev Extract : tie.Start → Type 0
 Extract s =
     let a = s .args in
-    Extracting (a .s .m) (a .s .paths) (at-start s) (a .e) (queueOf (a .order .now) (a .t .queued)) (queueOf (a .vacant .now) (a .s .paths - (a .t .queued + 1)))
-    (a .kinds .now) (a .terms .now) (a .last) (a .at) (a .kept .now)
+    Extracting (a .s .m) (a .s .visits) (a .s .paths) (a .t .extractions) (a .t .next) (at-start s) (a .e) (queueOf (a .order .now) (a .t .queued))
+    (queueOf (a .vacant .now) (a .s .paths - (a .t .queued + 1))) (a .kinds .now) (a .terms .now) (a .last) (a .at) (a .kept .now) (a .visits .now)
 
 own : (s : tie.Start) → Extract s
 own s = s .pre .1 .1 .1 .0
@@ -58,7 +59,10 @@ copied : (c : tie.After-second) (o : Extract (start c)) → let a = start c .arg
     let k = copy (d .hand .book) (a .s .paths) (d .hand .arrays) (d .hand .taken) (d .hand .rest) (a .t .next) (d .hand .taken .blocks) in
     let r = c .second .result in
     CopiedTo (d .hand .book) (a .s .paths) (a .e) (d .hand .taken) k (a .t .crowded) (r .queued) (r .next) (r .crowded) (at-second c) (entries c) (vacants c) (words c)
-copied c o = c .second .ensures .1 .1 .0 (extract-seconding o)
+copied c o = c .second .ensures .1 .1 .0 (extract-seconding o) .0
+
+abbrev two : (c : tie.After-second) → 2 ≤ start c .args .s .paths
+two c = start c .pre .1 .0 .1
 
 third-requires : tie.Need-third-requires
 third-requires c κs =
@@ -66,7 +70,7 @@ third-requires c κs =
     let a = start t .args in
     let f = t .second .ensures in (
       (f .0 .0, f .0 .1, f .1 .0 .2, f .0 .3, f .0 .4),
-      ((vacants t, extract-thirding (own (start t)) (a .t .next) (a .t .crowded) (words t) (copied t (own (start t)))), f .1 .1 .1 .0),
+      ((vacants t, extract-thirding (own (start t)) (two t) (a .t .crowded) (words t) (copied t (own (start t)))), f .1 .1 .1),
     )
 
 -- after the move, for any state; and the words kept
@@ -81,13 +85,13 @@ kept c = c .third .last .1 .1 .1 .1 .1 .1 .1 .1 .1 .1 .1 .1 .1 .0
 
 moved : (c : tie.After-third) (o : Extract (start (seconded c))) → let t = seconded c in
     let a = start t .args in
-    MovedTo o (a .t .next) (a .t .crowded) (words t) (copied t o) (at-third c) (queueOf (c .third .last .1 .1 .0) (t .second .result .queued + 1)) (kept c)
+    MovedTo o (two t) (a .t .crowded) (words t) (copied t o) (at-third c) (queueOf (c .third .last .1 .1 .0) (t .second .result .queued + 1)) (kept c)
 moved c o =
     let t = seconded c in
     let a = start t .args in
     let one : suc (t .second .result .queued) ≡ t .second .result .queued + 1 = omega arith in
-    subst (λ (i : ℕ). MovedTo o (a .t .next) (a .t .crowded) (words t) (copied t o) (at-third c) (queueOf (c .third .last .1 .1 .0) i) (kept c)) one
-    (c .third .ensures .1 .0 (vacants t) (extract-thirding o (a .t .next) (a .t .crowded) (words t) (copied t o)))
+    subst (λ (i : ℕ). MovedTo o (two t) (a .t .crowded) (words t) (copied t o) (at-third c) (queueOf (c .third .last .1 .1 .0) i) (kept c)) one
+    (c .third .ensures .1 .0 (vacants t) (extract-thirding o (two t) (a .t .crowded) (words t) (copied t o)))
 
 add-x : tie.Need-add-x
 add-x c = search needs
@@ -100,6 +104,17 @@ cast-outrun c = search needs
 
 abbrev thirded : tie.After-blocks-of → tie.After-third
 thirded c = c .before .before .before .before .before .before .before .before .before .before .before .before .before
+
+-- what step 4 starts from
+abbrev outrunning : (c : tie.After-blocks-of) (o : Extract (start (seconded (thirded c)))) → let u = thirded c in
+    let t = seconded u in
+    let a = start t .args in
+    Outrunning (a .s .m) (a .s .visits) (a .s .paths) (t .second .result .extractions) (c .blocks-of .result) (at-third u) (queueOf (u .third .last .1 .1 .0) (t .second .result .queued + 1))
+    (vacants t) (a .visits .now)
+outrunning c o =
+    let u = thirded c in
+    let t = seconded u in
+    extract-outrunning o (two t) (start t .args .t .crowded) (words t) (copied t o) (kept u) (moved u o) _ (t .second .ensures .1 .0 .0) _ (c .blocks-of .ensures)
 
 returns : tie.Need-returns
 unfolding memory
@@ -130,12 +145,12 @@ returns c =
         (f .0 .5 ∙ t .second .ensures .1 .0 .0, f .0 .7),
         (
           λ o.
-              let q = extract-queued o (a .t .next) (a .t .crowded) (words t) (copied t o) (kept u) (moved u o) in
+              let w = f .1 .0 (u .third .last .1 .1 .1 .0) (u .third .last .1 .1 .1 .1 .0) (outrunning (c .before) o) in
               let k =
-              extract-done o (a .t .next) (a .t .crowded) (words t) (copied t o) (kept u) (moved u o) (a .s .visits) (a .visits .now) (t .second .result .outrun) b (c .before .blocks-of .ensures) (f .0 .8)
-              (f .1 .0 (u .third .last .1 .1 .1 .0) (u .third .last .1 .1 .1 .1 .0) q) in
+              extract-done o (two t) (a .t .crowded) (words t) (copied t o) (kept u) (moved u o) (t .second .result .outrun) b (c .before .blocks-of .ensures) _ (t .second .ensures .1 .0 .0) (f .0 .8)
+              (w .0, w .1, w .2) in
               (k .0, f .0 .4 ∙ k .1, f .0 .3 ∙ k .2, f .0 .6 ∙ k .3, omega (arith, k .4, t .second .ensures .1 .0 .1), k .5, k .6),
-          (f .1 .1 .0, λ o. extract-passed o (a .t .next) (a .t .crowded) (words t) (copied t o) (kept u) (moved u o)),
+          f .1 .1,
         ),
       ),
     )
@@ -163,7 +178,7 @@ outrun-requires c κs =
           (
             u .third .last .1 .1 .1 .0,
             u .third .last .1 .1 .1 .1 .0,
-            extract-queued o (a .t .next) (a .t .crowded) (words t) (copied t o) (kept u) (moved u o),
+            outrunning c o,
           ),
           subst (Rising (u .third .last .1 .1 .0)) one (u .third .ensures .1 .1),
         ),

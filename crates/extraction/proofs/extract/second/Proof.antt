@@ -24,9 +24,9 @@ returns c =
         (refl, refl, s .pre .1 .0 .2),
         (
           λ o.
-              let k = second-none o (a .t .next) (a .t .crowded) none in
-              (sym (queue-length (a .t .queued) (a .order .now)) ∙ k .0, k .1, k .2, k .3, k .4),
-          (s .pre .1 .1 .1, λ o visits. second-crowds o (a .t .next) (second-none o (a .t .next) (a .t .crowded) none .3) visits),
+              let k = second-none o (a .t .crowded) none in
+              ((sym (queue-length (a .t .queued) (a .order .now)) ∙ k .0, k .1, k .2, k .3, k .4), second-crowds o (k .3)),
+          s .pre .1 .1 .1,
         ),
       ),
     )
@@ -42,7 +42,7 @@ copy-requires : tie.Need-copy-requires
 copy-requires c κs =
     let t = c .before .before .before .before .before .before .before .before .before in
     let s = start t in
-    (s .pre .0, (s .pre .1 .0, ((_, some-blocks t .0, second-copying (s .pre .1 .1 .0) (some-blocks t .1)), s .pre .1 .1 .1)))
+    (s .pre .0, (s .pre .1 .0, ((_, some-blocks t .0, second-copying (s .pre .1 .1 .0) (s .pre .1 .0 .1) (some-blocks t .1)), s .pre .1 .1 .1)))
 
 same-length : tie.Need-same-length
 same-length c = search needs
@@ -51,13 +51,18 @@ returns-2 : tie.Need-returns-2
 returns-2 c =
     let f = c .before .before .before .before .before .copy .ensures in
     let t = c .before .before .before .before .before .before .before .before .before .before .before .before .before .before .before in
-    let a = start t .args in (
+    let a = start t .args in
+    let two = start t .pre .1 .0 .1 in (
       f .0,
       (
         f .1 .0,
         (
-          λ o. second-done o (some-blocks t .1) (a .t .next) (a .t .crowded) (c .before .before .before .before .before .copy .last .1 .1 .1 .1 .1 .1 .1 .1 .1 .1 .1 .1 .1 .0) (f .1 .1 .0 _ (second-copying o (some-blocks t .1)) (some-blocks t .0)),
-          (f .1 .1 .1, λ o visits. second-crowds o (a .t .next) (second-done o (some-blocks t .1) (a .t .next) (a .t .crowded) (c .before .before .before .before .before .copy .last .1 .1 .1 .1 .1 .1 .1 .1 .1 .1 .1 .1 .1 .0) (f .1 .1 .0 _ (second-copying o (some-blocks t .1)) (some-blocks t .0)) .3) visits),
+          λ o.
+              let k =
+              second-done o two (some-blocks t .1) (a .t .crowded) (c .before .before .before .before .before .copy .last .1 .1 .1 .1 .1 .1 .1 .1 .1 .1 .1 .1 .1 .0)
+              (f .1 .1 .0 _ (second-copying o two (some-blocks t .1)) (some-blocks t .0)) in
+              (k, second-crowds o (k .3)),
+          f .1 .1 .1,
         ),
       ),
     )

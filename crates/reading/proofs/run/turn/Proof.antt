@@ -10,15 +10,14 @@ use lib.ListN.{length, getD}
 use Rattle.queue.specs.Queue.{Final}
 use Rattle.reader.specs.Reader as R
 use Rattle.order.specs.Entries.{keyAt, queueOf, Rising}
-use Rattle.order.proofs.Queues.{queue-first, rising-less}
+use Rattle.order.proofs.Queues.{rising-less}
 use Rattle.standing.specs.Seen.{Memory, memory}
 use Rattle.steps.specs.declared.Tally.{Tally}
 use Rattle.extraction.specs.Extraction.{Extracting}
-use Rattle.reading.specs.Turning.{Turning, Losing}
+use Rattle.reading.specs.Turning.{Turning}
 use Rattle.reading.proofs.Going.{Going, going-small, going-room, going-limits}
 use Rattle.reading.proofs.Turns.{table-fits, run-found, run-left, run-within, run-extracting, run-some, run-turn, run-before}
 use Rattle.reading.proofs.Resumed.{turning-going, turning-more}
-use Rattle.reading.proofs.Lost.{lost-between}
 use Rattle.reading.proofs.run.turn.Statement.{statement}
 use Rattle.reading.proofs.run.turn.Tie as tie
 
@@ -89,11 +88,12 @@ block-at-requires-2 c κs =
 
 -- what it needs
 abbrev extracting : (c : tie.After-block-at2) (r : Turn (began (c .before .before))) → let a = began (c .before .before) .args in
-    Extracting (a .s .m) (a .s .paths) (memory (a .rows .now) (a .holders .now) (a .numbers .now) (a .bytes .now)) (a .e) (queueOf (a .order .now) (a .t .queued))
-    (queueOf (a .vacant .now) (a .s .paths - (a .t .queued + 1))) (a .kinds .now) (a .terms .now) (c .before .block-at .result) (c .block-at2 .result) (a .kept .now)
+    Extracting (a .s .m) (a .s .visits) (a .s .paths) (a .t .extractions) (a .t .next) (memory (a .rows .now) (a .holders .now) (a .numbers .now) (a .bytes .now)) (a .e)
+    (queueOf (a .order .now) (a .t .queued)) (queueOf (a .vacant .now) (a .s .paths - (a .t .queued + 1))) (a .kinds .now) (a .terms .now) (c .before .block-at .result) (c .block-at2 .result)
+    (a .kept .now) (a .visits .now)
 extracting c r =
     let u = c .before .before in
-    run-extracting (r .input) (going (began u) r) (c .before .block-at .result) (c .block-at2 .result) (u .before2 .result) (u .before .blocks-of .result)
+    run-extracting (r .input) (going (began u) r) (r .root) (c .before .block-at .result) (c .block-at2 .result) (u .before2 .result) (u .before .blocks-of .result)
     (u .before .blocks-of .ensures) (u .before2 .ensures) (turning-more r) (c .before .block-at .ensures) (c .block-at2 .ensures)
 
 extract-requires : tie.Need-extract-requires
@@ -180,22 +180,14 @@ returns c =
       (o .0 .0, o .0 .1, o .0 .2, o .0 .3, o .0 .4, o .0 .5),
       (
         omega (arith, o .1 .0 .0),
-        (
-          λ r.
-              let made = o .1 .1 .0 (extracting (read x) r) in
-              run-before (r .input)
-              (run-turn (r .input) (going s r) (s .pre .1 .0 .2) (s .pre .1 .0 .3) (found s r) (turning-more r) (counted (x .extract .result))
-              (memory (l .0) (l .1 .0) (l .1 .1 .1 .1 .1 .0) (l .1 .1 .1 .1 .1 .1 .0)) (l .1 .1 .0) (l .1 .1 .1 .0) (l .1 .1 .1 .1 .0) (l .1 .1 .1 .1 .1 .1 .1 .1 .1 .1 .1 .1 .1 .1 .0)
-              (made .0, made .1, made .2, made .3, made .4, made .5, made .6) (omega (arith, o .1 .0 .0)) (r .room)
-              (record { path-set = n .note .ensures .0; blocks-set = n .note .ensures .1; score-set = n .note .ensures .2 }))
-              (rising-less (l .1 .1 .0) (x .extract .result .queued) _ (o .1 .1 .1 .0) (omega arith)) (s .args .t .extractions + 1) (omega (arith, o .1 .0 .0)) (λ k. absurd (omega (arith, o .1 .0 .0))),
-          λ r.
-              let made = o .1 .1 .0 (extracting (read x) r) in
-              subst
-              (Losing (r .input .book) (s .args .s .visits) (s .args .s .paths) (r .at .here) (queueOf (s .args .order .now) (s .args .t .queued)))
-              (queue-first (x .extract .result .queued) (l .1 .1 .0) (queued-some x))
-              (lost-between r (s .pre .1 .0 .2) (s .pre .0 .3) (o .1 .1 .1 .1 (extracting (read x) r)) (made .5)),
-        ),
+        λ r.
+            let made = o .1 .1 .0 (extracting (read x) r) in
+            run-before (r .input)
+            (run-turn (r .input) (going s r) (s .pre .1 .0 .2) (s .pre .1 .0 .3) (found s r) (turning-more r) (counted (x .extract .result))
+            (memory (l .0) (l .1 .0) (l .1 .1 .1 .1 .1 .0) (l .1 .1 .1 .1 .1 .1 .0)) (l .1 .1 .0) (l .1 .1 .1 .0) (l .1 .1 .1 .1 .0) (l .1 .1 .1 .1 .1 .1 .1 .1 .1 .1 .1 .1 .1 .1 .0)
+            (made .0, made .1, made .2, made .3, made .4, made .5, made .6) (omega (arith, o .1 .0 .0)) (r .room)
+            (record { path-set = n .note .ensures .0; blocks-set = n .note .ensures .1; score-set = n .note .ensures .2 }))
+            (rising-less (l .1 .1 .0) (x .extract .result .queued) _ (o .1 .1 .1) (omega arith)) (s .args .t .extractions + 1) (omega (arith, o .1 .0 .0)) (λ k. absurd (omega (arith, o .1 .0 .0))),
       ),
     )
 
