@@ -76,7 +76,7 @@ module _ {s : Setting} {values : List ℤ} {kinds terms heights starts : List �
       )
 
   -- a moment of its run from arrays whose root holds the received values
-  pub input-moment : {A : Arrays} → A .vals (s .m) 1 ≡ values → {k : ℕ} {here : Moment} → MomentOf (c .book) (s .visits) (s .paths) A k here →
+  abbrev pub input-moment : {A : Arrays} → A .vals (s .m) 1 ≡ values → {k : ℕ} {here : Moment} → MomentOf (c .book) (s .visits) (s .paths) A k here →
       RunMoment (c .book) (s .visits) (s .paths) k here
   input-moment {A} root h =
       record { values = values; size = size; range = c .range; arrays = A; root = ap (λ n. A .vals n 1) (c .deep) ∙ root; moment = h }

@@ -217,7 +217,7 @@ loop-again c =
         omega (arith, i .5, c .before .before .before .before .before .before .before .before .before .before .rows2 .given),
         omega (arith, i .6, c .before .before .before .before .before .before .before .before .kept .given),
       ),
-      λ r. before-most (o .1 .1 .0 (turning (turned x) r)) (x .turn .result .tally .extractions) (omega arith) (λ k. absurd (omega arith)),
+      λ r. before-most (o .1 .1 (turning (turned x) r)) (x .turn .result .tally .extractions) (omega arith) (λ k. absurd (omega arith)),
       omega (arith, o .1 .0, turned x .before .before .if1 .taken),
     )
 
