@@ -9,7 +9,7 @@ use mathlib.Core.Option.{Option, none, some}
 use Prim.Native.Nat.{ℕ, suc, _+_, _-_, _^_, _%_, _≤_, _<_, zero-le}
 use native.Mathlib.Nat.{le-refl}
 use native.Mathlib.Omega.{arith}
-use lib.ListN.{length, set, replicate, length-append, length-set}
+use lib.ListN.{length, take, drop, set, replicate, length-append, length-set}
 use lib.Seq.{getD-at, getD-set-same}
 use lib.IntN.{natAbs}
 use lib.Dec.{T, leb, ltb, eqb, leb→le, ltb→lt, eqb→eq}
@@ -19,7 +19,7 @@ use Rattle.codebook.specs.declared.Refusal.{Refusal}
 use Rattle.codebook.specs.declared.Command.{Command}
 use Rattle.codebook.specs.declared.Command.the-variants.{Length, Free, Zero, Tie, Term, Block as NextBlock, End}
 use Rattle.codebook.specs.Refusals.{unless}
-use Rattle.codebook.specs.Book.{Kind, free, frozen, tied, Block, tiedCount, startOf}
+use Rattle.codebook.specs.Book.{Kind, free, frozen, tied, Block, freeCount, tiedCount, startOf}
 use Rattle.codebook.specs.Loading.{Loading, total, lastTerms, member, fault, grown, next}
 use Rattle.codebook.specs.Limits.{KindOk, KindsOk}
 use Rattle.codebook.proofs.Indices.{kinds-append, kinds-replicate, kinds-set, kind-at, Tied, LastTied, term-ok, tied-append, tied-replicate, tied-set}
@@ -173,30 +173,28 @@ pub next-ok : (s : Loading) (c : Command) → Ok s → Placed s c → Passed (fa
 unfolding fault next Placed KindOk tiedCount
 next-ok s (Length m) ok p f =
     let t = passed-test _ _ _ f in
-    empty-ok m (λ _. leb→le 2 m (and-left (leb 2 m) (leb m 9) t)) (leb→le m 9 (and-right (leb 2 m) (leb m 9) t))
+    empty-ok m (λ _. omega (arith, leb→le _ m (and-left (leb _ m) (leb m _) t))) (omega (arith, leb→le m _ (and-right (leb _ m) (leb m _) t)))
 next-ok s (Free count) ok p f = grown-ok s ok count free (λ _. tt) (λ _. refl) p
 next-ok s (Zero count) ok p f = grown-ok s ok count frozen (λ _. tt) (λ _. refl) p
-next-ok s (Tie i) ok p f = tied-ok s ok i p (ltb→lt _ _ (passed-test _ _ _ f)) (ltb→lt _ _ (passed-test _ _ _ (passed-rest _ _ _ f)))
+next-ok s (Tie i) ok p f = tied-ok s ok i p (ltb→lt _ _ (passed-test _ _ _ f)) (omega (arith, ltb→lt (s .ties) _ (passed-test _ _ _ (passed-rest _ _ _ f))))
 next-ok s (Term i) ok p f =
-    let earlier = ltb (suc i) (length (s .kinds)) in
+    let n = length (s .kinds) in
     let fresh = not (member i (lastTerms (s .kinds))) in
     let t = passed-test _ _ _ f in
-    more-ok s ok i p (ltb→lt _ _ (and-left earlier fresh t)) (and-right earlier fresh t)
+    more-ok s ok i p (omega (arith, ltb→lt _ n (and-left (ltb _ n) fresh t))) (and-right (ltb _ n) fresh t)
 next-ok s (NextBlock j bias) ok p f =
-    let short = leb j 5 in
     let aligned = eqb (s .covered % 2 ^ j) 0 in
     let within = leb (s .covered + 2 ^ j) (total s) in
-    let ranged = leb (natAbs bias) 1048576 in
     let t₄ = passed-test _ _ _ f in
-    let t₃ = and-left (short && aligned && within) ranged t₄ in
-    let t₂ = and-left (short && aligned) within t₃ in
-    let room = leb→le (s .covered + 2 ^ j) (total s) (and-right (short && aligned) within t₃) in
+    let t₃ = and-left (leb j _ && aligned && within) (leb (natAbs bias) _) t₄ in
+    let t₂ = and-left (leb j _ && aligned) within t₃ in
+    let room = leb→le (s .covered + 2 ^ j) (total s) (and-right (leb j _ && aligned) within t₃) in
     block-ok s ok (record { j = j; bias = bias }) p
     (record {
-      short = leb→le j 5 (and-left short aligned t₂);
-      aligned = eqb→eq (s .covered % 2 ^ j) 0 (and-right short aligned t₂);
+      short = omega (arith, leb→le j _ (and-left (leb j _) aligned t₂));
+      aligned = eqb→eq (s .covered % 2 ^ j) 0 (and-right (leb j _) aligned t₂);
       within = omega (arith, total-le s);
-      light = leb→le _ 8 (passed-test _ _ _ (passed-rest _ _ _ f));
-      bias = leb→le (natAbs bias) 1048576 (and-right (short && aligned && within) ranged t₄);
+      light = omega (arith, leb→le (freeCount (take (2 ^ j) (drop (s .covered) (s .kinds)))) _ (passed-test _ _ _ (passed-rest _ _ _ f)));
+      bias = omega (arith, leb→le (natAbs bias) _ (and-right (leb j _ && aligned && within) (leb (natAbs bias) _) t₄));
     })
 next-ok s End ok p f = ok

@@ -6,3 +6,8 @@ pub mod Fuel
 pub mod Codes
 pub mod Placing
 pub mod Refused
+pub mod Operands
+pub mod Obeyed
+pub mod Runs
+pub mod Covering
+pub mod Written

@@ -1,4 +1,4 @@
--- The limits of document 01, "The code" and "The code book", that every loaded book keeps: proofs/Loaded.antt shows it. Assumes nothing.
+-- The limits of document 01, "The code" and "The code book". The books that load are exactly those that keep them: proofs/Loaded.antt and proofs/Written.antt show it. Assumes nothing.
 use mathlib.Core.Path.{_≡_}
 use mathlib.Core.List.{List, [], _∷_}
 use Prim.Native.Nat.{ℕ, suc, _+_, _^_, _%_, _≤_, _<_}

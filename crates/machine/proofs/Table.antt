@@ -23,11 +23,11 @@ clean-rows-holds = (refl, (refl, (refl, (refl, (refl, (refl, (refl, (refl, (refl
 
 good-books-holds : All Holds goodBooks
 unfolding computing
-good-books-holds = (refl, (refl, (refl, (refl, (refl, (refl, (refl, (refl, tt))))))))
+good-books-holds = (refl, (refl, (refl, (refl, (refl, (refl, (refl, (refl, (refl, (refl, tt))))))))))
 
 truncated-books-holds : All Holds truncatedBooks
 unfolding computing
-truncated-books-holds = (refl, (refl, (refl, (refl, (refl, (refl, tt))))))
+truncated-books-holds = (refl, (refl, (refl, (refl, (refl, (refl, (refl, tt)))))))
 
 unknown-commands-holds : All Holds unknownCommands
 unfolding computing
@@ -39,7 +39,7 @@ misplaced-books-holds = (refl, (refl, (refl, (refl, (refl, (refl, (refl, (refl, 
 
 out-of-range-books-holds : All Holds outOfRangeBooks
 unfolding computing
-out-of-range-books-holds = (refl, (refl, (refl, (refl, (refl, (refl, (refl, (refl, (refl, (refl, (refl, (refl, (refl, (refl, (refl, tt)))))))))))))))
+out-of-range-books-holds = (refl, (refl, (refl, (refl, (refl, (refl, (refl, (refl, (refl, (refl, (refl, (refl, (refl, (refl, (refl, (refl, (refl, (refl, (refl, (refl, tt))))))))))))))))))))
 
 too-many-tied-or-free-holds : All Holds tooManyTiedOrFree
 unfolding computing

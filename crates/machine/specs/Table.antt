@@ -37,6 +37,10 @@ tie i = 0x03 ∷ 0 ∷ i ∷ []
 unfoldable pub term : ℕ → List ℕ
 term i = 0x04 ∷ 0 ∷ i ∷ []
 
+-- an index command by its byte and both bytes of its operand, the higher first
+unfoldable pub wide : ℕ → ℕ → ℕ → List ℕ
+wide byte high low = byte ∷ high ∷ low ∷ []
+
 -- a block with a bias of 0 to 255, with one of -256 to -1 by its lowest byte, and with any bias by its four bytes
 unfoldable pub block : ℕ → ℕ → List ℕ
 block j bias = 0x05 ∷ j ∷ 0 ∷ 0 ∷ 0 ∷ bias ∷ []
@@ -92,6 +96,14 @@ repeatBook = size 6 ++ (zeros 32 ++ (frees 32 ++ (block 5 0 ++ (times 16 (block 
 -- m = 6, index 0 zero, then so many ties to it
 unfoldable pub tiesBook : ℕ → List ℕ
 tiesBook n = size 6 ++ (zeros 1 ++ times n (tie 0))
+
+-- m = 9, 260 indices free and 252 zero, blocks of eight
+unfoldable pub wideRuns : List ℕ
+wideRuns = size 9 ++ (wide 0x01 1 4 ++ (zeros 252 ++ (times 64 (block 3 0) ++ end)))
+
+-- m = 9, the first 257 indices zero, then a tie to 256 and 0 and one to 0 and 256: their terms differ in the high byte alone
+unfoldable pub wideTies : List ℕ
+wideTies = size 9 ++ (wide 0x02 1 1 ++ (wide 0x03 1 0 ++ (term 0 ++ (tie 0 ++ (wide 0x04 1 0 ++ (zeros 253 ++ (times 16 (block 5 0) ++ end)))))))
 
 -- ---- inputs
 
@@ -236,7 +248,7 @@ cleanRows =
     ∷ decodes (given lastZeroBook 1 8 0 (negℤ (pos 1) ∷ pos 1 ∷ pos 1 ∷ pos 0 ∷ [])) (room 4 3 320 64 9) (keptBack 10 (counts 5 0 3 3) (room 4 3 320 64 9))
     ∷ []
 
--- books that load, at the limits: bias, 8 free, 32 ties, a term after the tie that fills the last index
+-- books that load, at the limits: bias, 8 free, 32 ties, a term after the tie that fills the last index; counts, ties and terms above 255
 unfoldable pub goodBooks : List Row
 goodBooks =
     loads hookBook (shape 0 16 10 3)
@@ -247,6 +259,8 @@ goodBooks =
     ∷ loads (size 4 ++ (frees 8 ++ (zeros 8 ++ (block 4 0 ++ end)))) (shape 0 16 8 1)
     ∷ loads (tiesBook 32 ++ (zeros 31 ++ (block 5 0 ++ (block 5 0 ++ end)))) (shape 0 64 0 2)
     ∷ loads (size 2 ++ (zeros 3 ++ (tie 0 ++ (term 1 ++ (block 2 0 ++ end))))) (shape 0 4 0 1)
+    ∷ loads wideRuns (shape 0 512 260 64)
+    ∷ loads wideTies (shape 0 512 0 16)
     ∷ []
 
 -- 1, short: the book ends in a command, or where one is due
@@ -255,6 +269,7 @@ truncatedBooks =
     loads [] (shape 1 0 0 0)
     ∷ loads ((0x10 ∷ [])) (shape 1 0 0 0)
     ∷ loads (size 2) (shape 1 0 0 0)
+    ∷ loads (size 9) (shape 1 0 0 0)
     ∷ loads (size 2 ++ (0x01 ∷ 0 ∷ [])) (shape 1 0 0 0)
     ∷ loads (size 2 ++ (zeros 4 ++ (0x05 ∷ 2 ∷ 0 ∷ 0 ∷ 0 ∷ []))) (shape 1 0 0 0)
     ∷ loads (size 2 ++ (zeros 4 ++ block 2 0)) (shape 1 0 0 0)
@@ -290,7 +305,7 @@ misplacedBooks =
     ∷ []
 
 -- 4, off range: m; a count of 0, or past n; a tie or term that names no earlier index, or one twice; a block too long, at no multiple of its length, past n;
--- a bias
+-- a bias; a count, a tie and a term whose low byte alone would pass
 unfoldable pub outOfRangeBooks : List Row
 outOfRangeBooks =
     loads (size 1) (shape 4 0 0 0)
@@ -308,6 +323,11 @@ outOfRangeBooks =
     ∷ loads (size 6 ++ (zeros 64 ++ block 6 0)) (shape 4 0 0 0)
     ∷ loads (size 2 ++ (zeros 4 ++ blockWith 2 0 16 0 1)) (shape 4 0 0 0)
     ∷ loads (size 2 ++ (zeros 4 ++ blockWith 2 0xff 0xef 0xff 0xff)) (shape 4 0 0 0)
+    ∷ loads (size 2 ++ wide 0x01 1 4) (shape 4 0 0 0)
+    ∷ loads (size 2 ++ wide 0x02 1 4) (shape 4 0 0 0)
+    ∷ loads (size 9 ++ (zeros 5 ++ wide 0x03 1 0)) (shape 4 0 0 0)
+    ∷ loads (size 9 ++ (wide 0x02 1 0 ++ wide 0x03 1 0)) (shape 4 0 0 0)
+    ∷ loads (size 9 ++ (zeros 5 ++ (tie 1 ++ wide 0x04 1 0))) (shape 4 0 0 0)
     ∷ []
 
 -- 5, overtied, and 6, heavy
