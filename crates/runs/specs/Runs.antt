@@ -13,7 +13,7 @@ use Rattle.polar.specs.Soft.{discrepancy}
 use Rattle.codebook.specs.Book.{Book}
 use Rattle.codec.specs.Code.{inCode, readData}
 use Rattle.queue.specs.Queue.{Key, before, numbers, Step, Final}
-use Rattle.machine.specs.Machine.{Path, State, Run, keyOf, emptyPath, extract}
+use Rattle.machine.specs.Machine.{Path, State, Run, keyOf, scoreOf, emptyPath, extract}
 
 -- ---- the states before the extractions
 
@@ -57,6 +57,14 @@ pub record Alive (D : ℕ) (s : State) : Type 0 where
 pub record Numbered (s : State) : Type 0 where
   pub below : All (λ (p : Path). p .number < s .next) (s .queue)
   pub distinct : Distinct (numbers keyOf (s .queue))
+
+-- the score kept beside a path's bits is that of its bits
+abbrev pub OwnScore : Book → List ℤ → Path → Type 0
+OwnScore B ys p = p .score ≡ scoreOf B ys (p .blocks) (p .bits)
+
+-- and so of every queued path, ys the received values
+pub record Scored (B : Book) (ys : List ℤ) (s : State) : Type 0 where
+  pub queued : All (OwnScore B ys) (s .queue)
 
 -- ---- how the run ends, and what it finds
 
