@@ -40,6 +40,15 @@ statesOf B L D ys =
     let V′ = length (B .blocks) in
     states (L * V′ + 1) B L D ys (emptyPath ∷ []) 1 (replicate V′ 0)
 
+-- the extraction t takes the first path of the queue in the state s
+pub record Takes (s : State) (t : Step) : Type 0 where
+  pub taken : Path
+  pub others : List Path
+  pub queue : s .queue ≡ taken ∷ others
+  pub path : t .path ≡ taken .number
+  pub blocks : t .blocks ≡ taken .blocks
+  pub score : t .score ≡ taken .score
+
 -- ---- what holds of each
 
 module _ {A : Type 0} (key : A → Key) where
