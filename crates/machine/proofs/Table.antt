@@ -15,7 +15,7 @@ marked-runs-holds = (refl, (refl, (refl, (refl, (refl, (refl, (refl, (refl, (ref
 
 queue-rows-holds : All Holds queueRows
 unfolding computing
-queue-rows-holds = (refl, (refl, (refl, (refl, tt))))
+queue-rows-holds = (refl, (refl, (refl, (refl, (refl, (refl, tt))))))
 
 clean-rows-holds : All Holds cleanRows
 unfolding computing
@@ -59,7 +59,7 @@ record-rows-holds = (refl, (refl, (refl, (refl, (refl, (refl, ((refl, refl), ((r
 
 lent-rows-holds : All Holds lentRows
 unfolding computing
-lent-rows-holds = (refl, (refl, (refl, (refl, (refl, (refl, (refl, (refl, (refl, (refl, (refl, (refl, (refl, (refl, (refl, (refl, (refl, tt)))))))))))))))))
+lent-rows-holds = (refl, (refl, (refl, (refl, (refl, (refl, (refl, (refl, (refl, (refl, (refl, (refl, (refl, (refl, (refl, (refl, (refl, (refl, (refl, tt)))))))))))))))))))
 
 hook-rows-holds : All Holds hookRows
 unfolding computing

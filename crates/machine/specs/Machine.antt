@@ -13,7 +13,7 @@ use Rattle.machine.specs.Words.{Ranked, nearest, nextAfter}
 
 -- ---- paths
 
--- a path is its number, its blocks and its bits of u so far; its score is kept beside them
+-- a path is its number, its blocks and its bits of u so far; its score is kept beside them, and is always `scoreOf` of them (runs/proofs/Scores)
 pub record Path : Type 0 where
   pub number : ℕ
   pub blocks : ℕ

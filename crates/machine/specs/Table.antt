@@ -13,7 +13,6 @@ use Rattle.codec.specs.declared.Status.{Status}
 use Rattle.codec.specs.declared.Status.the-variants.{Passed, HeldForLaboratory, Condemned}
 use Rattle.codec.specs.declared.HookRecord.{HookRecord}
 use Rattle.codec.specs.declared.Tested.the-variants.{InCode, NotInCode, Refused}
-use Rattle.codec.specs.Record.{noRecord}
 use Rattle.machine.specs.declared.Counts.{Counts}
 use Rattle.queue.specs.Queue.{Step}
 use Rattle.machine.specs.Calls.{Input, Lent, given, noCounts}
@@ -81,6 +80,10 @@ pairBook a b = size 2 ++ (frees 4 ++ (block 1 a ++ (block 1 b ++ end)))
 unfoldable pub lastZeroBook : List ℕ
 lastZeroBook = size 2 ++ (frees 3 ++ (zeros 1 ++ (times 4 (block 0 0) ++ end)))
 
+-- m = 2, index 2 tied to 0 and 1, the others free, two blocks of two indices
+unfoldable pub sumBook : ℕ → ℕ → List ℕ
+sumBook a b = size 2 ++ (frees 2 ++ (tie 0 ++ (term 1 ++ (frees 1 ++ (block 1 a ++ (block 1 b ++ end))))))
+
 -- m = 2, all free, one block
 unfoldable pub oneBlock : List ℕ
 oneBlock = size 2 ++ (frees 4 ++ (block 2 0 ++ end))
@@ -143,6 +146,19 @@ recordRoom = room 32 32 384 256 17
 unfoldable pub repeatRoom : Lent
 repeatRoom = room 64 32 640 512 18
 
+-- the flat books' room, with walk buffers of these lengths: path numbers, blocks, scores
+unfoldable pub flatWalk : ℕ → ℕ → ℕ → Lent
+flatWalk paths blocks scores =
+    record {
+      word = flatRoom .word;
+      bits = flatRoom .bits;
+      numbers = flatRoom .numbers;
+      bytes = flatRoom .bytes;
+      walkPath = replicate paths (pos 7);
+      walkBlocks = replicate blocks (pos 7);
+      walkScore = replicate scores (pos 7);
+    }
+
 -- the (16,10) hook at these settings
 unfoldable pub hookRun : ℕ → ℕ → ℕ → Input
 hookRun L D T = given hookBook L D T hookValues
@@ -172,6 +188,10 @@ keptBack r n l = record { number = r; counts = n; word = l .word; bits = l .bits
 unfoldable pub hook : ℕ → ℕ → ℕ → Status → HookRecord
 hook plant carcass side status = record { plant = plant; carcass = carcass; side = side; status = status }
 
+-- the record of a refusal: all zeros, status passed
+unfoldable pub blank : HookRecord
+blank = hook 0 0 0 Passed
+
 -- one held for the laboratory, its bits, and its word in the record's book
 unfoldable pub held : HookRecord
 held = hook 63 0xabcde 1 HeldForLaboratory
@@ -187,37 +207,50 @@ heldWord = toBits 32 0b1110_1010_1101_1101_0010_0101_1110_1100
 -- M1 to M6
 unfoldable pub marked : List Row
 marked =
+    -- M1
     isQ (negℤ (pos 44)) (pos 563) (negℤ (pos 44))
+    -- M2
     ∷ isQ (pos 0) (pos 5) (pos 0)
+    -- M3
     ∷ isP 1 (negℤ (pos 44)) (pos 563) (pos 607)
+    -- M4
     ∷ transforms 2 (toBits 4 0b0110) (toBits 4 0b0110)
+    -- M5
     ∷ transforms 2 (toBits 4 0b0111) (toBits 4 0b1001)
+    -- M6
     ∷ encodes tiedBook (toBits 2 0b11) (replicate 4 7) 0 (toBits 4 0b1001)
     ∷ []
 
 -- M7 to M11: walks, with what is outrun in M8 and crowded out in M10, words and counts; and "Also run": 2,047 passes, 2,048 gets 9; D 1 gets 8; the empty book gets 1
 unfoldable pub markedRuns : List Row
 markedRuns =
+    -- M7
     walks (hookRun 4 8 100)
     (step 0 0 (pos 0) [] [] ∷ step 0 1 (pos 47) [] [] ∷ step 1 1 (negℤ (pos 9)) [] [] ∷ step 1 2 (negℤ (pos 4)) [] []
     ∷ step 1 3 (negℤ (pos 20)) [] [] ∷ [])
     ∷ decodes (hookRun 4 8 100) hookRoom (gave (counts 5 0 0 76) (replicate 16 0) (replicate 10 0))
+    -- M8
     ∷ decodes (hookRun 1 8 402) hookRoom (gave (counts 4 0 2 402) (toBits 16 0b1001_0000_0000_0000) (toBits 10 0b1110000000))
-    ∷ decodes (hookRun 1 8 401) hookRoom (keptBack 10 (counts 4 0 2 402) hookRoom)
-    ∷ decodes (hookRun 4 2 100) hookRoom (gave (counts 5 2 0 76) (replicate 16 0) (replicate 10 0))
     ∷ walks (hookRun 1 8 402)
     (step 0 0 (pos 0) [] [] ∷ step 0 1 (pos 47) [] (1 ∷ []) ∷ step 0 2 (negℤ (pos 242)) [] (2 ∷ []) ∷ step 0 3 (negℤ (pos 346)) [] [] ∷ [])
+    -- M9
+    ∷ decodes (hookRun 1 8 401) hookRoom (keptBack 10 (counts 4 0 2 402) hookRoom)
+    -- M10
+    ∷ decodes (hookRun 4 2 100) hookRoom (gave (counts 5 2 0 76) (replicate 16 0) (replicate 10 0))
     ∷ walks (hookRun 4 2 100)
     (step 0 0 (pos 0) [] [] ∷ step 0 1 (pos 47) [] [] ∷ step 1 1 (negℤ (pos 9)) (0 ∷ []) [] ∷ step 1 2 (negℤ (pos 4)) (2 ∷ []) []
     ∷ step 1 3 (negℤ (pos 20)) [] [] ∷ [])
+    -- M11
     ∷ decodes (given hookBook 4 8 0 (replicate 16 (pos 0))) hookRoom (gave (counts 4 0 0 0) (replicate 16 0) (replicate 10 0))
+    -- also run
     ∷ decodes (given hookBook 4 8 0 (replicate 16 (pos 2047))) hookRoom (gave (counts 4 0 0 0) (replicate 16 0) (replicate 10 0))
     ∷ decodes (given hookBook 4 8 0 (replicate 15 (pos 2047) ++ pos 2048 ∷ [])) hookRoom (keptBack 9 noCounts hookRoom)
     ∷ decodes (hookRun 4 1 100) hookRoom (keptBack 8 noCounts hookRoom)
     ∷ decodes (given [] 4 8 100 hookValues) hookRoom (keptBack 1 noCounts hookRoom)
     ∷ []
 
--- the order of equals, with every value 0: more blocks first, then the lower number; the words of a block, equals by the smaller number
+-- the order of equals, with every value 0: more blocks first, then the lower number; the last of two queued paths crowded out, and none where there is no next
+-- word; outrun with fewer blocks than b; ties over two blocks; the words of a block, equals by the smaller number
 unfoldable pub queueRows : List Row
 queueRows =
     walks (given (flatBook 0 0 0 0) 2 8 0 (replicate 4 (pos 0)))
@@ -225,6 +258,11 @@ queueRows =
     ∷ walks (given (flatBook 0 10 20 30) 2 8 0 (replicate 4 (pos 0)))
     (step 0 0 (pos 0) [] [] ∷ step 0 1 (pos 0) [] [] ∷ step 1 1 (pos 0) [] [] ∷ step 0 2 (negℤ (pos 10)) [] []
     ∷ step 1 2 (negℤ (pos 10)) [] (2 ∷ 3 ∷ []) ∷ step 0 3 (negℤ (pos 20)) [] [] ∷ step 1 3 (negℤ (pos 20)) [] (4 ∷ 5 ∷ []) ∷ step 0 4 (negℤ (pos 30)) [] [] ∷ [])
+    ∷ walks (given (flatBook 5 2 0 5) 2 3 0 (negℤ (pos 2) ∷ negℤ (pos 3) ∷ negℤ (pos 1) ∷ pos 1 ∷ []))
+    (step 0 0 (pos 0) [] [] ∷ step 0 1 (negℤ (pos 5)) [] [] ∷ step 0 2 (negℤ (pos 2)) [] [] ∷ step 0 3 (pos 0) (1 ∷ []) []
+    ∷ step 3 3 (negℤ (pos 3)) [] (2 ∷ []) ∷ step 0 4 (negℤ (pos 5)) [] [] ∷ [])
+    ∷ walks (given (sumBook 3 5) 2 3 0 (pos 1 ∷ negℤ (pos 2) ∷ negℤ (pos 4) ∷ pos 2 ∷ []))
+    (step 0 0 (pos 0) [] [] ∷ step 0 1 (negℤ (pos 3)) [] [] ∷ step 1 1 (negℤ (pos 4)) [] (2 ∷ []) ∷ step 0 2 (negℤ (pos 5)) [] [] ∷ [])
     ∷ ranks oneBlock (replicate 4 (pos 0)) (0 ∷ 1 ∷ 2 ∷ 3 ∷ 4 ∷ [])
     ∷ ranks oneBlock (pos 1 ∷ pos 1 ∷ negℤ (pos 2) ∷ pos 1 ∷ []) (4 ∷ 5 ∷ 6 ∷ 12 ∷ 0 ∷ 7 ∷ 13 ∷ 14 ∷ 1 ∷ [])
     ∷ []
@@ -388,10 +426,10 @@ recordRows =
     ∷ makesIn recordBook held (replicate 31 7) 7 (replicate 31 7)
     ∷ makesIn tiedBook (hook 64 0 0 Passed) (replicate 2 7) 7 (replicate 2 7)
     ∷ readsIn recordBook heldBits 0 held
-    ∷ readsIn recordBook (toBits 32 0b10100) 11 noRecord
-    ∷ readsIn recordBook (toBits 32 0b1) 11 noRecord
-    ∷ readsIn recordBook (replicate 31 0 ++ 2 ∷ []) 9 noRecord
-    ∷ readsIn recordBook (replicate 33 2) 7 noRecord
+    ∷ readsIn recordBook (toBits 32 0b10100) 11 blank
+    ∷ readsIn recordBook (toBits 32 0b1) 11 blank
+    ∷ readsIn recordBook (replicate 31 0 ++ 2 ∷ []) 9 blank
+    ∷ readsIn recordBook (replicate 33 2) 7 blank
     ∷ []
 
 -- 8 before 7 before 9; each lent length exact or at least as asked; what a run leaves in each buffer, past the stated size too
@@ -402,7 +440,9 @@ lentRows =
     ∷ refuses (given (flatBook 0 0 0 0) 2 8 0 (replicate 4 (pos 0))) (room 4 3 320 64 9) 7
     ∷ refuses (given (flatBook 0 0 0 0) 2 8 0 (replicate 4 (pos 0))) (room 4 4 319 64 9) 7
     ∷ refuses (given (flatBook 0 0 0 0) 2 8 0 (replicate 4 (pos 0))) (room 4 4 320 63 9) 7
-    ∷ refuses (given (flatBook 0 0 0 0) 2 8 0 (replicate 4 (pos 0))) (room 4 4 320 64 8) 7
+    ∷ refuses (given (flatBook 0 0 0 0) 2 8 0 (replicate 4 (pos 0))) (flatWalk 8 9 9) 7
+    ∷ refuses (given (flatBook 0 0 0 0) 2 8 0 (replicate 4 (pos 0))) (flatWalk 9 8 9) 7
+    ∷ refuses (given (flatBook 0 0 0 0) 2 8 0 (replicate 4 (pos 0))) (flatWalk 9 9 8) 7
     ∷ refuses (given (flatBook 0 0 0 0) 2 8 0 (replicate 5 (pos 0))) flatRoom 7
     ∷ refuses (given (flatBook 0 0 0 0) 2 8 0 (replicate 4 (negℤ (pos 2048)))) flatRoom 9
     ∷ refuses (given (flatBook 0 0 0 0) 2 8 0 (replicate 4 (negℤ (pos 2047)))) flatRoom 0
@@ -429,10 +469,10 @@ lentRows =
 unfoldable pub hookRows : List Row
 hookRows =
     hooks (given recordBook 1 4 0 (plainly heldWord)) recordRoom (gave (counts 17 0 15 0) heldWord heldBits) held
-    ∷ hooks (given repeatBook 1 4 49 (pos 50 ∷ drop 1 (plainly heldWord) ++ plainly heldWord)) repeatRoom (keptBack 10 (counts 18 0 15 50) repeatRoom) noRecord
-    ∷ hooks (given recordBook 1 4 0 (plainly (toBits 32 0b0111_0000_1011_1100_1011_1100_1011_1100))) recordRoom (keptBack 11 (counts 17 0 15 0) recordRoom) noRecord
-    ∷ hooks (hookRun 4 8 100) hookRoom (keptBack 7 noCounts hookRoom) noRecord
-    ∷ hooks (hookRun 4 1 100) hookRoom (keptBack 8 noCounts hookRoom) noRecord
+    ∷ hooks (given repeatBook 1 4 49 (pos 50 ∷ drop 1 (plainly heldWord) ++ plainly heldWord)) repeatRoom (keptBack 10 (counts 18 0 15 50) repeatRoom) blank
+    ∷ hooks (given recordBook 1 4 0 (plainly (toBits 32 0b0111_0000_1011_1100_1011_1100_1011_1100))) recordRoom (keptBack 11 (counts 17 0 15 0) recordRoom) blank
+    ∷ hooks (hookRun 4 8 100) hookRoom (keptBack 7 noCounts hookRoom) blank
+    ∷ hooks (hookRun 4 1 100) hookRoom (keptBack 8 noCounts hookRoom) blank
     ∷ []
 
 -- the whole table

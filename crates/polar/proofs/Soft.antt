@@ -1,12 +1,12 @@
 -- Q by the signs of its arguments, the penalty as a cost with the other sign, and 002's Lemma 1: what a pair of bits costs is what they cost
 -- after one step down. Then lengths, magnitudes, and each definition by the tests that the code makes. By cases on the signs. Assumes nothing.
-use mathlib.Core.Path.{_≡_, refl, sym, ap, _∙_}
+use mathlib.Core.Path.{_≡_, refl, sym, ap, ap₂, _∙_}
 use mathlib.Core.Bool.{Bool, true, false, cond, _||_, not, Bool·beq, true≢false}
 use mathlib.Core.List.{List, [], _∷_, _++_, zipWith}
 use Prim.Native.Nat.{ℕ, zero, suc, _+_, _-_, _*_, _≤_, min, _<_}
 use native.Mathlib.Omega.{arith}
 use lib.ListN.{length, getD, drop, drop-of-length-le}
-use lib.IntN.{ℤ, pos, negsuc, negℤ, natAbs, subℕ, _+ℤ_, _-ℤ_}
+use lib.IntN.{ℤ, pos, negsuc, negℤ, natAbs, subℕ, _+ℤ_, _-ℤ_, negℤ-+ℤ}
 use native.Mathlib.Numerals.{add-one}
 use lib.Seq.{drop-cons}
 use lib.Signed.{nonNeg}
@@ -17,7 +17,7 @@ use Rattle.laws.proofs.Tests.{cond-case}
 use Rattle.laws.proofs.Integers.{neg-abs, add-abs}
 use Rattle.laws.proofs.Lists.{length-zip}
 use Rattle.polar.specs.Bits.{Bit, _⊕_, addBits}
-use Rattle.polar.specs.Soft.{sign, Q, P, Qs, Ps, hard, penalty, cost, discrepancy}
+use Rattle.polar.specs.Soft.{sign, Q, P, Qs, Ps, hard, penalty, cost, discrepancy, ellipsoidalWeight}
 
 -- ---- Q by signs
 
@@ -131,6 +131,13 @@ lemma1 (v ∷ vs) (w ∷ ws) [] b l m n h k = absurd (omega arith)
 lemma1 (v ∷ vs) (w ∷ ws) (a ∷ xs) [] l m n h k = absurd (omega arith)
 lemma1 (v ∷ vs) (w ∷ ws) (a ∷ xs) (b ∷ ys) l m n h k =
     omega (arith, lemma1 vs ws xs ys (omega arith) (omega arith) (omega arith) (h .1) (k .1), pair v w a b (h .0) (k .0))
+
+-- 002's ellipsoidal weight is the discrepancy with the other sign
+pub weight-discrepancy : (c : List ℕ) (ys : List ℤ) → ellipsoidalWeight c ys ≡ negℤ (pos (discrepancy c ys))
+unfolding ellipsoidalWeight discrepancy
+weight-discrepancy [] ys = refl
+weight-discrepancy (c ∷ cs) [] = refl
+weight-discrepancy (c ∷ cs) (y ∷ ys) = ap₂ _+ℤ_ (penalty-cost c y) (weight-discrepancy cs ys) ∙ sym (negℤ-+ℤ (pos (cost c y)) (pos (discrepancy cs ys)))
 
 pub discrepancy-append : (v w : List ℕ) (a b : List ℤ) → length v ≡ length a → discrepancy (v ++ w) (a ++ b) ≡ discrepancy v a + discrepancy w b
 unfolding discrepancy

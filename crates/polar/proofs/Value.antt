@@ -16,11 +16,11 @@ use Rattle.laws.proofs.Lists.{all-take, all-drop, drop-take}
 use Rattle.laws.proofs.Integers.{neg-abs}
 use Rattle.polar.specs.Bits.{Bit, addBits}
 use Rattle.polar.specs.Transform.{transform}
-use Rattle.polar.specs.Soft.{Qs, Ps, cost, discrepancy}
+use Rattle.polar.specs.Soft.{Qs, Ps, cost, discrepancy, ellipsoidalWeight}
 use Rattle.polar.specs.Value.{value, costs, penalties, R}
 use Rattle.polar.proofs.Bits.{first-half, last-half, add-length}
 use Rattle.polar.proofs.Transform.{transform-suc, transform-length, transform-bits}
-use Rattle.polar.proofs.Soft.{penalty-cost, lemma1, discrepancy-append, Qs-length, Ps-length}
+use Rattle.polar.proofs.Soft.{penalty-cost, lemma1, weight-discrepancy, discrepancy-append, Qs-length, Ps-length}
 
 pub penalties-costs : (m : ℕ) (ys : List ℤ) (u : List ℕ) (i n : ℕ) → penalties m ys u i n ≡ negℤ (pos (costs m ys u i n))
 unfolding penalties costs
@@ -144,3 +144,7 @@ R-word m ys u l k h = R-costs m ys u ∙ ap (λ n. negℤ (pos (costs m ys u 0 n
 
 pub R-discrepancy : (m : ℕ) (ys : List ℤ) (u : List ℕ) → length ys ≡ 2 ^ m → length u ≡ 2 ^ m → All Bit u → natAbs (R m ys u) ≡ discrepancy (transform m u) ys
 R-discrepancy m ys u l k h = ap natAbs (R-word m ys u l k h) ∙ neg-abs (pos (discrepancy (transform m u) ys))
+
+-- 002's Theorem 1 in its own words: R is the ellipsoidal weight of the word
+pub R-weight : (m : ℕ) (ys : List ℤ) (u : List ℕ) → length ys ≡ 2 ^ m → length u ≡ 2 ^ m → All Bit u → R m ys u ≡ ellipsoidalWeight (transform m u) ys
+R-weight m ys u l k h = R-word m ys u l k h ∙ sym (weight-discrepancy (transform m u) ys)

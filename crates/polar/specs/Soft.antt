@@ -1,4 +1,4 @@
--- Soft values: Q, P, hard decisions, penalties, discrepancy. Document 01, "Soft values and scores". A value is an integer; positive
+-- Soft values: Q, P, hard decisions, penalties, discrepancy, and 002's name for it. Document 01, "Soft values and scores". A value is an integer; positive
 -- favours 0. Assumes nothing.
 use mathlib.Core.Bool.{cond, _||_}
 use mathlib.Core.List.{List, [], _∷_, zipWith}
@@ -49,3 +49,10 @@ unfoldable pub discrepancy : List ℕ → List ℤ → ℕ
 discrepancy [] ys = 0
 discrepancy (c ∷ cs) [] = 0
 discrepancy (c ∷ cs) (y ∷ ys) = cost c y + discrepancy cs ys
+
+-- 002's ellipsoidal weight of a word with respect to values (III-A), also known there as correlation discrepancy: the sum of the penalties of its bits, so minus the
+-- values' magnitudes where it differs from the hard decisions; not above 0, by 002's second footnote
+unfoldable pub ellipsoidalWeight : List ℕ → List ℤ → ℤ
+ellipsoidalWeight [] ys = pos 0
+ellipsoidalWeight (c ∷ cs) [] = pos 0
+ellipsoidalWeight (c ∷ cs) (y ∷ ys) = penalty c y +ℤ ellipsoidalWeight cs ys

@@ -36,7 +36,7 @@ extract-alive B L D ys p qs n visits d a =
     let c = cut D qs n o .queue in
     let w = visit visits (p .blocks) in
     let q = insert keyOf (advance B ys p) c in
-    let room : length (p ∷ qs) ≤ D = a .room in
+    let room = a .room in
     record {
       ordered = staying-ordered keyOf L (p .blocks) w q (insert-ordered keyOf (advance B ys p) c (cut-ordered D qs n o (a .ordered .1)));
       room = omega (arith, cut-length D qs n o d (omega arith), insert-length keyOf (advance B ys p) c, staying-length keyOf L (p .blocks) w q);

@@ -5,5 +5,6 @@ pub mod Steps
 pub mod Ends
 pub mod Alive
 pub mod Numbers
+pub mod Scores
 pub mod Final
 pub mod Handed

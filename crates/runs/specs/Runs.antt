@@ -13,7 +13,7 @@ use Rattle.polar.specs.Soft.{discrepancy}
 use Rattle.codebook.specs.Book.{Book}
 use Rattle.codec.specs.Code.{inCode, readData}
 use Rattle.queue.specs.Queue.{Key, before, numbers, Step, Final}
-use Rattle.machine.specs.Machine.{Path, State, Run, keyOf, emptyPath, extract}
+use Rattle.machine.specs.Machine.{Path, State, Run, keyOf, scoreOf, emptyPath, extract}
 
 -- ---- the states before the extractions
 
@@ -40,6 +40,15 @@ statesOf B L D ys =
     let V′ = length (B .blocks) in
     states (L * V′ + 1) B L D ys (emptyPath ∷ []) 1 (replicate V′ 0)
 
+-- the extraction t takes the first path of the queue in the state s
+pub record Takes (s : State) (t : Step) : Type 0 where
+  pub taken : Path
+  pub others : List Path
+  pub queue : s .queue ≡ taken ∷ others
+  pub path : t .path ≡ taken .number
+  pub blocks : t .blocks ≡ taken .blocks
+  pub score : t .score ≡ taken .score
+
 -- ---- what holds of each
 
 module _ {A : Type 0} (key : A → Key) where
@@ -57,6 +66,14 @@ pub record Alive (D : ℕ) (s : State) : Type 0 where
 pub record Numbered (s : State) : Type 0 where
   pub below : All (λ (p : Path). p .number < s .next) (s .queue)
   pub distinct : Distinct (numbers keyOf (s .queue))
+
+-- the score kept beside a path's bits is that of its bits
+abbrev pub OwnScore : Book → List ℤ → Path → Type 0
+OwnScore B ys p = p .score ≡ scoreOf B ys (p .blocks) (p .bits)
+
+-- and so of every queued path, ys the received values
+pub record Scored (B : Book) (ys : List ℤ) (s : State) : Type 0 where
+  pub queued : All (OwnScore B ys) (s .queue)
 
 -- ---- how the run ends, and what it finds
 
