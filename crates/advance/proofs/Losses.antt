@@ -5,13 +5,13 @@ use mathlib.Core.List.{List, _∷_}
 use Prim.Native.Nat.{ℕ}
 use lib.ListN.{getD}
 use lib.Dec.{eqb}
-use Rattle.laws.specs.Pairs.{Paired}
+use Rattle.laws.specs.Removes.{Removes}
 use Rattle.codebook.specs.Book.{Book}
 use Rattle.queue.specs.Queue.{ahead, staying, numbers, visit}
 use Rattle.reader.specs.Arrays.{Arrays}
 use Rattle.reader.specs.Paths.{Path, keyOf}
 use Rattle.reader.specs.Reader as R
-use Rattle.reader.specs.Moments.{Moment, stepAt, copyAt, movedAt, queuedAt, extractAt, Removes}
+use Rattle.reader.specs.Moments.{Moment, stepAt, copyAt, movedAt, queuedAt, extractAt}
 use Rattle.reader.proofs.Queue.{numbers-paired}
 use Rattle.reader.proofs.During.{during-removed}
 use Rattle.order.specs.Entries.{keyAt}

@@ -7,8 +7,7 @@ use mathlib.Core.Option.{none, some}
 use Prim.Native.Nat.{ℕ, _+_, _*_, _^_, _≤_}
 use native.Mathlib.Omega.{arith}
 use lib.IntN.{pos}
-use lib.ListN.{length, drop, replicate}
-use lib.Dec.{leb}
+use lib.ListN.{length, take, drop, replicate}
 use Rattle.polar.specs.Layers.{part}
 use Rattle.codebook.specs.declared.Refusal.{Refusal}
 use Rattle.codebook.specs.declared.Refusal.the-variants.{AboveLimit}
@@ -16,9 +15,11 @@ use Rattle.codebook.specs.declared.Outcome.the-variants.{Done, Refused}
 use Rattle.codebook.specs.Book.{Book}
 use Rattle.codebook.specs.Loading.{load, refused, loaded}
 use Rattle.machine.specs.declared.Decoded.{Decoded}
-use Rattle.machine.specs.Machine.{Run, runOf}
 use Rattle.queue.specs.Queue.{Step, Final}
-use Rattle.machine.specs.Calls.{Input, Lent, barred, finalOf, noCounts, numbersNeeded, bytesNeeded, walked, afterRun, isDone}
+use Rattle.machine.specs.Calls.{Input, Lent, barred, finalIn, within, noCounts, numbersNeeded, bytesNeeded, walked, afterRun, isDone}
+use Rattle.reader.specs.Reader as R
+use Rattle.reading.specs.Running.{arraysOf, received}
+use Rattle.attempts.specs.Reading.{arraysLent, readerRun}
 use Rattle.attempts.specs.Attempt.{fitsFor, answerOf, ranOf, noRun, unbarred, attemptWith, attempted, Holding}
 
 module _ (hook : Bool) (c : Input) (l : Lent) where
@@ -40,30 +41,27 @@ module _ (hook : Bool) (c : Input) (l : Lent) where
     unfolding attempted attemptWith unbarred
     yields-barred r x found info b = yields-none r x found info (rw (e, b) refl)
 
-    abbrev run : Run
-    run = runOf B (c .L) (c .D) (c .values)
+    abbrev run : R.Run
+    run = readerRun B c l
 
-    abbrev final : Final
-    final = finalOf B (c .values) (run .final)
-
-    within : isDone (answerOf (c .T) run final .outcome) ≡ true → leb (final .discrepancy) (c .T) ≡ true
+    clear : isDone (answerOf (c .T) (run .steps) (run .end) .outcome) ≡ true → within (c .T) (run .end) ≡ true
     unfolding answerOf isDone
-    within = go (leb (final .discrepancy) (c .T))
+    clear = go (within (c .T) (run .end))
       where
         go : (b : Bool) → isDone (cond b Done (Refused AboveLimit)) ≡ true → b ≡ true
         go true d = refl
         go false d = let z : _≡_ {A = ℕ} 0 1 = cc in absurd (omega arith)
 
     pub yields-ran : (x : Decoded) (after : Lent) (found info : List ℕ) (n k : ℕ) → barred B c l (fitsFor hook B) ≡ none
-        → x ≡ answerOf (c .T) run final → after ≡ afterRun B c l (run .steps) final false
+        → x ≡ answerOf (c .T) (run .steps) (run .end) → after ≡ afterRun B c l (run .steps) (finalIn (run .end)) false
         → n ≡ length (l .word) → k ≡ length (l .bits) → n ≤ 512 → k ≤ 512
-        → (leb (final .discrepancy) (c .T) ≡ true → (part 0 n found ≡ final .word) × (part 0 k info ≡ final .bits)) → Yields x after found info
+        → (within (c .T) (run .end) ≡ true → (part 0 n found ≡ finalIn (run .end) .word) × (part 0 k info ≡ finalIn (run .end) .bits)) → Yields x after found info
     unfolding attempted attemptWith unbarred ranOf Holding afterRun
     yields-ran x after found info n k b p q w d i j o =
         rw (e, b) (
           p,
           q,
-          λ t. let (y, z) = o (within t) in (omega arith, omega arith, ap (λ (h : ℕ). part 0 h found) (sym w) ∙ y, ap (λ (h : ℕ). part 0 h info) (sym d) ∙ z),
+          λ t. let (y, z) = o (clear t) in (omega arith, omega arith, ap (λ (h : ℕ). part 0 h found) (sym w) ∙ y, ap (λ (h : ℕ). part 0 h info) (sym d) ∙ z),
         )
 
 -- buffers that hold the same
@@ -88,3 +86,10 @@ yields-lent B c l steps f n {after} e w d x y p b s =
     let x′ = rw e at x in
     let y′ = rw e at y in
     alike after (afterRun B c l steps f false) w d x′ y′ p b s
+
+-- the reader's run of a call, in the sizes that the code computes
+pub reader-same : (B : Book) (c : Input) (l : Lent) (m n : ℕ) → m ≡ B .m → n ≡ 2 ^ (B .m)
+    → R.runOf B (c .L) (c .D) (arraysOf m (received m (c .values) (take (c .D * (2 * n + 32)) (l .numbers))) (take (c .D * (2 * n)) (l .bytes))) ≡ readerRun B c l
+unfolding readerRun arraysLent numbersNeeded bytesNeeded
+reader-same B c l m n p q =
+    ap₂ (λ h k. R.runOf B (c .L) (c .D) (arraysOf h (received h (c .values) (take (c .D * (2 * k + 32)) (l .numbers))) (take (c .D * (2 * k)) (l .bytes)))) p q

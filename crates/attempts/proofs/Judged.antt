@@ -1,4 +1,4 @@
--- What a judged run stands on: a book in tables gives the run's input and fits the buffers, the machine's final word has the data that is read from it,
+-- What a judged run stands on: a book in tables gives the run's input and fits the buffers, the final word has the data that is read from it,
 -- and the limit decides the answer. By the limits of a loaded book and the exactness of the run. Assumes nothing.
 use mathlib.Core.Path.{_≡_, refl, sym, ap, _∙_, subst}
 use mathlib.Core.Bool.{true, false}
@@ -20,10 +20,12 @@ use Rattle.codebook.specs.Book.{Kind, freeCount}
 use Rattle.codebook.proofs.Placing.{free-le}
 use Rattle.machine.specs.declared.Counts.{Counts}
 use Rattle.queue.specs.Queue.{Final}
-use Rattle.machine.specs.Machine as M
-use Rattle.machine.specs.Calls.{finalOf, countsOf}
+use Rattle.machine.specs.Calls.{finalIn, within, countsOf}
 use Rattle.runs.specs.Runs.{Exact}
-use Rattle.runs.proofs.Final.{run-exact}
+use Rattle.runs.proofs.Handed.{found-within}
+use Rattle.reader.specs.Arrays.{Arrays}
+use Rattle.reader.specs.Reader as R
+use Rattle.reader.proofs.Agree.{valid-agree, reader-exact}
 use Rattle.heights.specs.Workspace.{Room}
 use Rattle.reading.specs.Running.{Running}
 use Rattle.attempts.specs.Attempt.{Ready, answerOf}
@@ -82,25 +84,33 @@ module _ {x : Sizes} {values : List ℤ} {kinds terms heights starts : List ℕ}
   unfolding Room
   bytes-room D l h = rw (← ready-size, length-take-le (D * (2 * x .n)) l h) (omega arith)
 
-  -- the machine's final word
-  module _ (L D : ℕ) (visited : 1 ≤ L) where
-    abbrev pub found : Final
-    found = finalOf (r .book) values (M.runOf (r .book) L D values .final)
+  -- the reader's run, from arrays whose root holds the values
+  module _ (L D : ℕ) (visited : 1 ≤ L) (A : Arrays) (root : A .vals (x .m) 1 ≡ values) where
+    abbrev run : R.Run
+    run = R.runOf (r .book) L D A
 
-    pub exact : Exact (r .book) values found
-    exact = run-exact (r .book) (r .tables .booked .valid) L D values visited (r .fits)
+    at-root : A .vals (r .book .m) 1 ≡ values
+    at-root = ap (λ m. A .vals m 1) (sym (r .deep)) ∙ root
 
--- ---- the limit
+    pub exact : Exact (r .book) values (finalIn (run .end))
+    exact = reader-exact (r .book) (r .tables .booked .valid) L D values A visited (r .fits) at-root
 
-module _ (limit : ℕ) (y : M.Run) (f : Final) (counts : Counts) (e : counts ≡ countsOf (y .steps) f) where
-  pub above : limit < counts .discrepancy → (leb (f .discrepancy) limit ≡ true → ⊥) × (record { outcome = Refused AboveLimit; counts = counts } ≡ answerOf limit y f)
-  unfolding answerOf countsOf
-  above h =
-      let b : leb (f .discrepancy) limit ≡ false = lt-leb (f .discrepancy) limit (omega (arith, ap (λ (z : Counts). z .discrepancy) e)) in
-      (λ t. let z : _≡_ {A = ℕ} 0 1 = cc in omega arith, rw (b, e) refl)
+    -- it finds a word, so the limit alone decides
+    by-limit : (limit : ℕ) → within limit (run .end) ≡ leb (finalIn (run .end) .discrepancy) limit
+    by-limit limit = found-within limit (run .end) _ (valid-agree (r .book) (r .tables .booked .valid) L D values A visited (r .fits) at-root .finds)
 
-  pub within : counts .discrepancy ≤ limit → record { outcome = Done; counts = counts } ≡ answerOf limit y f
-  unfolding answerOf countsOf
-  within h =
-      let b : leb (f .discrepancy) limit ≡ true = le-leb (f .discrepancy) limit (omega (arith, ap (λ (z : Counts). z .discrepancy) e)) in
-      rw (b, e) refl
+    module _ (limit : ℕ) (counts : Counts) (e : counts ≡ countsOf (run .steps) (finalIn (run .end))) where
+      pub above : limit < counts .discrepancy →
+          (within limit (run .end) ≡ true → ⊥) × (record { outcome = Refused AboveLimit; counts = counts } ≡ answerOf limit (run .steps) (run .end))
+      unfolding answerOf countsOf
+      above h =
+          let f : Final = finalIn (run .end) in
+          let b : within limit (run .end) ≡ false = by-limit limit ∙ lt-leb (f .discrepancy) limit (omega (arith, ap (λ (z : Counts). z .discrepancy) e)) in
+          (λ t. let z : _≡_ {A = ℕ} 0 1 = cc in omega arith, rw (b, e) refl)
+
+      pub below : counts .discrepancy ≤ limit → record { outcome = Done; counts = counts } ≡ answerOf limit (run .steps) (run .end)
+      unfolding answerOf countsOf
+      below h =
+          let f : Final = finalIn (run .end) in
+          let b : within limit (run .end) ≡ true = by-limit limit ∙ le-leb (f .discrepancy) limit (omega (arith, ap (λ (z : Counts). z .discrepancy) e)) in
+          rw (b, e) refl

@@ -1,5 +1,6 @@
 -- What both decoding calls do before a word is handed out: the answer as far as refusal 10, what the run found, and the buffers with word and data as
--- they were. decoder/proofs/Handing (plain-handed, hook-handed) shows that plainCall and hookCall are this, and a word handed out. Assumes nothing.
+-- they were. The run is the reader's. decoder/proofs/Handing (plain-handed, hook-handed) shows that plainCall and hookCall, whose run is the machine's, are this and a word handed
+-- out. Assumes nothing.
 use mathlib.Core.Path.{_≡_}
 use mathlib.Core.Bool.{Bool, true, false, cond, not, _||_}
 use mathlib.Core.List.{List, []}
@@ -7,7 +8,6 @@ use mathlib.Core.Option.{Option, none, some}
 use Prim.Native.Nat.{ℕ, _^_, _≤_}
 use lib.ListN.{length}
 use lib.IntN.{ℤ}
-use lib.Dec.{leb}
 use Rattle.laws.specs.Lists.{All}
 use Rattle.polar.specs.Layers.{part, Within}
 use Rattle.codebook.specs.declared.Refusal.{Refusal}
@@ -21,10 +21,10 @@ use Rattle.codec.specs.declared.RecordRead.{RecordRead}
 use Rattle.codec.specs.Record.{readRecord}
 use Rattle.codec.specs.Calls.{holds32, notRead, recordRead}
 use Rattle.machine.specs.declared.Decoded.{Decoded}
-use Rattle.queue.specs.Queue.{Final}
-use Rattle.machine.specs.Machine.{Run, runOf}
-use Rattle.machine.specs.Calls.{Input, Lent, barred, finalOf, countsOf, noCounts, afterRun, isDone}
+use Rattle.queue.specs.Queue.{Step, Final, End}
+use Rattle.machine.specs.Calls.{Input, Lent, barred, finalIn, within, countsOf, noCounts, afterRun, isDone}
 use Rattle.reading.specs.Running.{InTables}
+use Rattle.attempts.specs.Reading.{readerRun}
 
 -- what a call asks of k besides the lengths: the hook call asks that a record fits
 unfoldable pub fitsFor : Bool → Book → Bool
@@ -36,15 +36,13 @@ pub record Attempted : Type 0 where
   pub found : Final
   pub lent : Lent
 
--- within the limit or not, by a run's final word
-unfoldable pub answerOf : ℕ → Run → Final → Decoded
-answerOf limit r f = record { outcome = cond (leb (f .discrepancy) limit) Done (Refused AboveLimit); counts = countsOf (r .steps) f }
+-- within the limit or not, by a run's extractions and its end
+unfoldable pub answerOf : ℕ → List Step → End Final → Decoded
+answerOf limit steps end = record { outcome = cond (within limit end) Done (Refused AboveLimit); counts = countsOf steps (finalIn end) }
 
--- an attempt that made this run: judged by the limit, word and data not yet handed out
-unfoldable pub ranOf : Book → Input → Lent → Run → Attempted
-ranOf B c l r =
-    let f = finalOf B (c .values) (r .final) in
-    record { answer = answerOf (c .T) r f; found = f; lent = afterRun B c l (r .steps) f false }
+-- an attempt that made a run with these extractions and this end: judged by the limit, word and data not yet handed out
+unfoldable pub ranOf : Book → Input → Lent → List Step → End Final → Attempted
+ranOf B c l steps end = record { answer = answerOf (c .T) steps end; found = finalIn end; lent = afterRun B c l steps (finalIn end) false }
 
 -- an attempt that made no run: counts of 0, nothing found, every buffer as it was
 unfoldable pub noRun : Refusal → Lent → Attempted
@@ -55,10 +53,10 @@ noRun r l =
       lent = l;
     }
 
--- the attempt with a good book, by what bars it: a refusal, or nothing and then the machine's run
+-- the attempt with a good book, by what bars it: a refusal, or nothing and then the reader's run
 unfoldable pub unbarred : Book → Input → Lent → Option Refusal → Attempted
 unbarred B c l (some r) = noRun r l
-unbarred B c l none = ranOf B c l (runOf B (c .L) (c .D) (c .values))
+unbarred B c l none = let r = readerRun B c l in ranOf B c l (r .steps) (r .end)
 
 -- the attempt by what loading comes to; hook says which call it is for
 unfoldable pub attemptWith : Bool → Load → Input → Lent → Attempted

@@ -16,18 +16,15 @@ ghost use mathlib.Core.Path.{_≡_};
 ghost use mathlib.Core.Bool.{true};
 ghost use mathlib.Core.List.{_++_};
 ghost use Prim.Native.Nat.{_+_, _*_, _≤_};
-ghost use lib.Dec.{leb};
 ghost use lib.IntN.{pos};
 ghost use lib.ListN.{length, take, drop, replicate};
 ghost use Rattle.polar.specs.Layers.{part};
 ghost use Rattle.codebook.specs.declared.Outcome.the-variants.{Refused as NotDone};
 ghost use Rattle.queue.specs.Queue.{Step};
-ghost use Rattle.machine.specs.Machine as M;
-ghost use Rattle.machine.specs.Calls.{given, lent, finalOf, noCounts, walked};
+ghost use Rattle.machine.specs.Calls.{given, lent, finalIn, within, noCounts, walked};
 ghost use Rattle.reader.specs.Reader as R;
 ghost use Rattle.reading.specs.Running.{arraysOf, received};
-ghost use Rattle.attempts.specs.Attempt.{fitsFor, answerOf, attempted, Holding, Ready};
-ghost use Rattle.attempts.specs.WholeRun.{LeftBy, WholeRun};
+ghost use Rattle.attempts.specs.Attempt.{answerOf, attempted, Holding, Ready};
 
 // The answer where no run is made.
 fn refused(r: Refusal) -> Decoded
@@ -73,17 +70,13 @@ fn judge(
     ensures { λ _. ⌜ (now (numbers .exit) ≡ replicate (paths * (2 * x .n + 32)) (pos 0) ++ drop (paths * (2 * x .n + 32)) (now (numbers .entry)))
         × (now (bytes .exit) ≡ replicate (paths * (2 * x .n)) 0 ++ drop (paths * (2 * x .n)) (now (bytes .entry))) ⌝ }
     ensures { λ r. ⌜ ((c : Ready x (now (values .entry)) (now (kinds .entry)) (now (terms .entry)) (now (heights .entry)) (now (starts .entry)) (now (biases .entry)))
-        → (let y = M.runOf (c .book) visits paths (now (values .entry)) in
-        let f = finalOf (c .book) (now (values .entry)) (y .final) in
-        (r ≡ answerOf limit y f)
+        → (let y = R.runOf (c .book) visits paths (arraysOf (x .m) (received (x .m) (now (values .entry)) (take (paths * (2 * x .n + 32)) (now (numbers .entry))))
+        (take (paths * (2 * x .n)) (now (bytes .entry)))) in
+        (r ≡ answerOf limit (y .steps) (y .end))
         × (now («walk_path» .exit) ≡ walked (λ (z : Step). pos (z .path)) (y .steps) (now («walk_path» .entry)))
         × (now («walk_blocks» .exit) ≡ walked (λ (z : Step). pos (z .blocks)) (y .steps) (now («walk_blocks» .entry)))
         × (now («walk_score» .exit) ≡ walked (λ (z : Step). z .score) (y .steps) (now («walk_score» .entry)))
-        × (leb (f .discrepancy) limit ≡ true → (part 0 (x .n) (now (found .exit)) ≡ f .word) × (part 0 (x .k) (now (info .exit)) ≡ f .bits)))) ⌝ }
-    ensures { λ r. ⌜ ((c : Ready x (now (values .entry)) (now (kinds .entry)) (now (terms .entry)) (now (heights .entry)) (now (starts .entry)) (now (biases .entry)))
-        → LeftBy (R.runOf (c .book) visits paths (arraysOf (x .m) (received (x .m) (now (values .entry)) (take (paths * (2 * x .n + 32)) (now (numbers .entry))))
-        (take (paths * (2 * x .n)) (now (bytes .entry))))) (r .counts) (part 0 (x .n) (now (found .exit)))
-        (now («walk_path» .entry)) (now («walk_blocks» .entry)) (now («walk_score» .entry)) (now («walk_path» .exit)) (now («walk_blocks» .exit)) (now («walk_score» .exit))) ⌝ }
+        × (within limit (y .end) ≡ true → (part 0 (x .n) (now (found .exit)) ≡ finalIn (y .end) .word) × (part 0 (x .k) (now (info .exit)) ≡ finalIn (y .end) .bits)))) ⌝ }
 {
     let n = x.n as usize;
     let k = x.k as usize;
@@ -125,7 +118,7 @@ fn judge(
     }
 }
 
-// Loads, admits, runs and judges. Only the lengths of word and data are looked at.
+// Loads, admits, runs and judges; the run is the reader's on the workspace lent (specs/Reading). Only the lengths of word and data are looked at.
 pub fn attempt(
     hook: bool,
     book: &[u8],
@@ -149,10 +142,6 @@ pub fn attempt(
         (r ≡ a .answer)
         × (lent (now (word .entry)) (now (bits .entry)) (now (numbers .exit)) (now (bytes .exit)) (now («walk_path» .exit)) (now («walk_blocks» .exit)) (now («walk_score» .exit)) ≡ a .lent)
         × Holding a (now (found .exit)) (now (info .exit))) ⌝ }
-    ensures { λ r. ⌜ WholeRun (fitsFor hook) (given (now (book .entry)) visits paths limit (now (values .entry)))
-        (lent (now (word .entry)) (now (bits .entry)) (now (numbers .entry)) (now (bytes .entry)) (now («walk_path» .entry)) (now («walk_blocks» .entry)) (now («walk_score» .entry)))
-        (r .counts)
-        (lent (now (word .entry)) (now (bits .entry)) (now (numbers .exit)) (now (bytes .exit)) (now («walk_path» .exit)) (now («walk_blocks» .exit)) (now («walk_score» .exit))) ⌝ }
 {
     let mut kinds = [0u8; 512];
     let mut terms = [0u32; 512];

@@ -12,14 +12,12 @@ ghost use Prim.Native.Nat.{_+_, _*_, _^_, _≤_};
 ghost use lib.IntN.{pos};
 ghost use lib.ListN.{length, replicate};
 ghost use Rattle.queue.specs.Queue.{Step};
-ghost use Rattle.machine.specs.Machine as M;
-ghost use Rattle.machine.specs.Calls.{finalOf, countsOf, walked};
+ghost use Rattle.machine.specs.Calls.{finalIn, countsOf, walked};
 ghost use Rattle.heights.specs.Workspace.{Room};
 ghost use Rattle.reader.specs.Reader as R;
 ghost use Rattle.reading.specs.Running.{arraysOf, received, Running};
-ghost use Rattle.attempts.specs.WholeRun.{LeftBy};
 
-// The run from any contents of the workspace: the counts, the walk, and the final word in `found`, all the reader's on that workspace, and all the plain machine's.
+// The run from any contents of the workspace: the counts, the walk, and the final word in `found`, all the reader's on that workspace.
 pub fn run_cleared(
     s: Setting,
     values: &[i16],
@@ -43,15 +41,11 @@ pub fn run_cleared(
     requires { ⌜ Running s (now values) (now kinds) (now terms) (now heights) (now starts) (now biases) ⌝ }
     ensures { λ _. ⌜ (now (numbers .exit) ≡ replicate (length (now (numbers .entry))) (pos 0)) × (now (bytes .exit) ≡ replicate (length (now (bytes .entry))) 0) ⌝ }
     ensures { λ r. ⌜ ((c : Running s (now (values .entry)) (now (kinds .entry)) (now (terms .entry)) (now (heights .entry)) (now (starts .entry)) (now (biases .entry)))
-        → (let x = M.runOf (c .book) (s .visits) (s .paths) (now (values .entry)) in
-        let f = finalOf (c .book) (now (values .entry)) (x .final) in
-        (r ≡ countsOf (x .steps) f) × (now (found .exit) ≡ f .word)
+        → (let x = R.runOf (c .book) (s .visits) (s .paths) (arraysOf (s .m) (received (s .m) (now (values .entry)) (now (numbers .entry))) (now (bytes .entry))) in
+        (r ≡ countsOf (x .steps) (finalIn (x .end))) × (now (found .exit) ≡ finalIn (x .end) .word)
         × (now («walk_path» .exit) ≡ walked (λ (y : Step). pos (y .path)) (x .steps) (now («walk_path» .entry)))
         × (now («walk_blocks» .exit) ≡ walked (λ (y : Step). pos (y .blocks)) (x .steps) (now («walk_blocks» .entry)))
         × (now («walk_score» .exit) ≡ walked (λ (y : Step). y .score) (x .steps) (now («walk_score» .entry))))) ⌝ }
-    ensures { λ r. ⌜ ((c : Running s (now (values .entry)) (now (kinds .entry)) (now (terms .entry)) (now (heights .entry)) (now (starts .entry)) (now (biases .entry)))
-        → LeftBy (R.runOf (c .book) (s .visits) (s .paths) (arraysOf (s .m) (received (s .m) (now (values .entry)) (now (numbers .entry))) (now (bytes .entry)))) r (now (found .exit))
-        (now («walk_path» .entry)) (now («walk_blocks» .entry)) (now («walk_score» .entry)) (now («walk_path» .exit)) (now («walk_blocks» .exit)) (now («walk_score» .exit))) ⌝ }
 {
     let m = s.m;
     let r = run(

@@ -6,12 +6,13 @@ use Prim.Native.Nat.{ℕ, suc, _≤_}
 use native.Mathlib.Omega.{arith}
 use lib.ListN.{length}
 use Rattle.laws.specs.Pairs.{Paired}
+use Rattle.laws.specs.Removes.{Removes}
 use Rattle.codebook.specs.Book.{Book}
 use Rattle.queue.specs.Queue.{numbers}
 use Rattle.reader.specs.Arrays.{Arrays}
 use Rattle.reader.specs.Paths.{Path, keyOf}
 use Rattle.reader.specs.Reader.{Cut, copy}
-use Rattle.reader.specs.Moments.{stepAt, copyAt, Removes}
+use Rattle.reader.specs.Moments.{stepAt, copyAt}
 use Rattle.reader.specs.Fit.{Fit, FitFor}
 use Rattle.reader.proofs.Queue.{numbers-paired}
 use Rattle.reader.proofs.During.{during-removed, during-fit, during-copy}

@@ -6,15 +6,8 @@ use mathlib.Core.List.{List, [], _∷_, _++_, map, List·Memᴰ, List·Memᴰ·h
 use mathlib.Core.Logic.{_⊎_, inl, inr, _≢_, _↔_}
 use Prim.Native.Nat.{ℕ}
 use Rattle.laws.specs.Lists.{Distinct, keep}
+use Rattle.laws.specs.Removes.{In, Removes}
 use Rattle.laws.proofs.Lists.{all-in, distinct-apart}
-
--- x is one of xs
-abbrev pub In : ℕ → List ℕ → Type 0
-In x xs = List·Memᴰ x xs
-
--- gone are exactly those of old that are not in new
-abbrev pub Removes : List ℕ → List ℕ → List ℕ → Type 0
-Removes gone old new = (x : ℕ) → In x gone ↔ (In x old × (In x new → ⊥))
 
 pub removes-none : (xs : List ℕ) → Removes [] xs xs
 removes-none xs x = (λ m. absurd (List·Memᴰ·not-nil m), λ h. absurd (h .1 (h .0)))

@@ -24,8 +24,8 @@ use Rattle.codec.specs.Calls.{wordFits, dataFits, holds32, notRead, recordRead}
 use Rattle.machine.specs.declared.Counts.{Counts}
 use Rattle.machine.specs.declared.Decoded.{Decoded}
 use Rattle.machine.specs.declared.HookDecoded.{HookDecoded}
-use Rattle.queue.specs.Queue.{Step, Final}
-use Rattle.machine.specs.Machine.{Path, Run, runOf}
+use Rattle.queue.specs.Queue.{Step, Final, End, found, dry, endAs}
+use Rattle.machine.specs.Machine.{Path, runOf}
 
 -- ---- input and refusals
 
@@ -99,25 +99,37 @@ barred B c l fits = unless (settingsOk c) BadSetting (unless (fits && lentOk B c
 
 -- ---- what a run leaves
 
--- the final word is u·A of the path taken last, its data the bits at the free indices, its discrepancy R without the sign; a run of an
--- accepted call always has such a path
-unfoldable pub finalOf : Book → List ℤ → Option Path → Final
-finalOf B ys none = record { word = []; bits = []; discrepancy = 0 }
-finalOf B ys (some p) =
+-- what a path with all blocks comes to: the word is u·A of its bits, its data the bits at the free indices, its discrepancy R without the sign
+unfoldable pub finalOf : Book → List ℤ → Path → Final
+finalOf B ys p =
     record {
       word = transform (B .m) (p .bits);
       bits = freeBits (B .kinds) (p .bits);
       discrepancy = natAbs (R (B .m) ys (p .bits));
     }
 
+-- how a run ends, with the final word for the path found
+unfoldable pub endOf : Book → List ℤ → End Path → End Final
+endOf B ys e = endAs (finalOf B ys) e
+
+-- the final word, or nothing where a run is dry, as no run of an accepted call is (runs/proofs/Ends)
+unfoldable pub finalIn : End Final → Final
+finalIn (found f) = f
+finalIn dry = record { word = []; bits = []; discrepancy = 0 }
+
+-- whether a final word is found, and within the limit
+unfoldable pub within : ℕ → End Final → Bool
+within limit (found f) = leb (f .discrepancy) limit
+within limit dry = false
+
 -- the counts of a run
 unfoldable pub countsOf : List Step → Final → Counts
-countsOf steps found =
+countsOf steps f =
     record {
       extractions = length steps;
       crowded = sum (map (λ (s : Step). length (s .crowded)) steps);
       outrun = sum (map (λ (s : Step). length (s .outrun)) steps);
-      discrepancy = found .discrepancy;
+      discrepancy = f .discrepancy;
     }
 
 -- the counts where no run is made
@@ -130,10 +142,10 @@ walked entry steps old = map entry steps ++ drop (length steps) old
 
 -- the buffers after a run: word and data are written on success alone, the walk always, and the workspace is zero at its stated size
 unfoldable pub afterRun : Book → Input → Lent → List Step → Final → Bool → Lent
-afterRun B c l steps found success =
+afterRun B c l steps f success =
     record {
-      word = cond success (found .word) (l .word);
-      bits = cond success (found .bits) (l .bits);
+      word = cond success (f .word) (l .word);
+      bits = cond success (f .bits) (l .bits);
       numbers = replicate (numbersNeeded B c) (pos 0) ++ drop (numbersNeeded B c) (l .numbers);
       bytes = replicate (bytesNeeded B c) 0 ++ drop (bytesNeeded B c) (l .bytes);
       walkPath = walked (λ s. pos (s .path)) steps (l .walkPath);
@@ -148,14 +160,13 @@ pub record Called (A : Type 0) : Type 0 where
   pub answer : A
   pub lent : Lent
 
--- the plain call: the word is handed out exactly when its discrepancy is within T, else 10
-unfoldable pub plainRan : Book → Input → Lent → Run → Called Decoded
-plainRan B c l r =
-    let found = finalOf B (c .values) (r .final) in
-    let clear = leb (found .discrepancy) (c .T) in
+-- the plain call after a run with these extractions and this end: the word is handed out exactly when there is one and its discrepancy is within T, else 10
+unfoldable pub plainRan : Book → Input → Lent → List Step → End Final → Called Decoded
+plainRan B c l steps end =
+    let clear = within (c .T) end in
     record {
-      answer = record { outcome = cond clear Done (Refused AboveLimit); counts = countsOf (r .steps) found };
-      lent = afterRun B c l (r .steps) found clear;
+      answer = record { outcome = cond clear Done (Refused AboveLimit); counts = countsOf steps (finalIn end) };
+      lent = afterRun B c l steps (finalIn end) clear;
     }
 
 -- a refusal with 1 to 9 gives counts of 0 and leaves every buffer
@@ -165,7 +176,9 @@ plainRefused r l = record { answer = record { outcome = Refused r; counts = noCo
 -- on a loaded book: barred, or run
 unfoldable pub plainChecked : Book → Input → Lent → Option Refusal → Called Decoded
 plainChecked B c l (some r) = plainRefused r l
-plainChecked B c l none = plainRan B c l (runOf B (c .L) (c .D) (c .values))
+plainChecked B c l none =
+    let r = runOf B (c .L) (c .D) (c .values) in
+    plainRan B c l (r .steps) (endOf B (c .values) (r .end))
 
 -- by what loading comes to, and the whole call
 unfoldable pub plainWith : Load → Input → Lent → Called Decoded
@@ -175,24 +188,23 @@ plainWith (loaded B) c l = plainChecked B c l (barred B c l true)
 unfoldable pub plainCall : Input → Lent → Called Decoded
 plainCall c l = plainWith (load (c .book)) c l
 
--- the hook call: 10 above the limit, else the record of the word's data, or 11
+-- the hook call: 10 where no word is within the limit, else the record of the word's data, or 11
 unfoldable pub hookOf : Bool → Final → RecordRead
-hookOf false found = notRead AboveLimit
-hookOf true found = recordRead (readRecord (found .bits))
+hookOf false f = notRead AboveLimit
+hookOf true f = recordRead (readRecord (f .bits))
 
 -- whether an outcome is success
 unfoldable pub isDone : Outcome → Bool
 isDone Done = true
 isDone (Refused r) = false
 
--- the same steps as those of the plain call, with the record besides
-unfoldable pub hookRan : Book → Input → Lent → Run → Called HookDecoded
-hookRan B c l r =
-    let found = finalOf B (c .values) (r .final) in
-    let read = hookOf (leb (found .discrepancy) (c .T)) found in
+-- the same as the plain call, with the record besides
+unfoldable pub hookRan : Book → Input → Lent → List Step → End Final → Called HookDecoded
+hookRan B c l steps end =
+    let read = hookOf (within (c .T) end) (finalIn end) in
     record {
-      answer = record { outcome = read .outcome; counts = countsOf (r .steps) found; hook = read .hook };
-      lent = afterRun B c l (r .steps) found (isDone (read .outcome));
+      answer = record { outcome = read .outcome; counts = countsOf steps (finalIn end); hook = read .hook };
+      lent = afterRun B c l steps (finalIn end) (isDone (read .outcome));
     }
 
 unfoldable pub hookRefused : Refusal → Lent → Called HookDecoded
@@ -200,7 +212,9 @@ hookRefused r l = record { answer = record { outcome = Refused r; counts = noCou
 
 unfoldable pub hookChecked : Book → Input → Lent → Option Refusal → Called HookDecoded
 hookChecked B c l (some r) = hookRefused r l
-hookChecked B c l none = hookRan B c l (runOf B (c .L) (c .D) (c .values))
+hookChecked B c l none =
+    let r = runOf B (c .L) (c .D) (c .values) in
+    hookRan B c l (r .steps) (endOf B (c .values) (r .end))
 
 unfoldable pub hookWith : Load → Input → Lent → Called HookDecoded
 hookWith (refused r) c l = hookRefused r l

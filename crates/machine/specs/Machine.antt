@@ -8,7 +8,7 @@ use lib.IntN.{ℤ, pos, _-ℤ_}
 use lib.Dec.{eqb}
 use Rattle.polar.specs.Value.{R}
 use Rattle.codebook.specs.Book.{Book, blockAt}
-use Rattle.queue.specs.Queue.{Key, insert, staying, outrunBy, numbers, roomFor, crowdedOut, visit, Step}
+use Rattle.queue.specs.Queue.{Key, insert, staying, outrunBy, numbers, roomFor, crowdedOut, visit, Step, End, found, dry}
 use Rattle.machine.specs.Words.{Ranked, nearest, nextAfter}
 
 -- ---- paths
@@ -99,27 +99,27 @@ extract B L D ys p qs n visits =
 
 -- ---- the run
 
--- the extractions, and the path with which step 1 stops: crate runs, proofs/Ends.antt, shows that there always is one
+-- the extractions, and how it ends: with the path at which step 1 stops (crate runs, proofs/Ends.antt, shows that there always is one)
 pub record Run : Type 0 where
   pub steps : List Step
-  pub final : Option Path
+  pub end : End Path
 
 -- a run with one extraction before it
 unfoldable pub after : Step → Run → Run
-after s r = record { steps = s ∷ r .steps; final = r .final }
+after s r = record { steps = s ∷ r .steps; end = r .end }
 
 -- the extraction that stops counts as one, and removes nothing
 unfoldable pub stopped : Path → Run
 stopped p =
     record {
       steps = record { path = p .number; blocks = p .blocks; score = p .score; crowded = []; outrun = [] } ∷ [];
-      final = some p;
+      end = found p;
     }
 
 -- step 1 takes the first path, and stops if it has all V blocks; fuel bounds the extractions
 unfoldable pub run : ℕ → Book → ℕ → ℕ → List ℤ → List Path → ℕ → List ℕ → Run
-run zero B L D ys qs n visits = record { steps = []; final = none }
-run (suc fuel) B L D ys [] n visits = record { steps = []; final = none }
+run zero B L D ys qs n visits = record { steps = []; end = dry }
+run (suc fuel) B L D ys [] n visits = record { steps = []; end = dry }
 run (suc fuel) B L D ys (p ∷ qs) n visits =
     let x = extract B L D ys p qs n visits in
     let more = after (x .step) (run fuel B L D ys (x .state .queue) (x .state .next) (x .state .visits)) in

@@ -74,3 +74,13 @@ pub record Final : Type 0 where
   pub word : List ℕ
   pub bits : List ℕ
   pub discrepancy : ℕ
+
+-- how a run ends: something is found when a path with all blocks is taken; it is dry (document 02's word) where no path is left, or no extraction more is allowed
+pub data End (A : Type 0) : Type 0 where
+  found : A → End A
+  dry : End A
+
+-- an end with what is found seen otherwise
+unfoldable pub endAs : {A B : Type 0} → (A → B) → End A → End B
+endAs f (found x) = found (f x)
+endAs f dry = dry

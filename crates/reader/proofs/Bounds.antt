@@ -27,10 +27,10 @@ use Rattle.reader.proofs.Moments.{Taken, run-all}
 module _ (B : Book) (ys : List ℤ) (ok : Valid B) (ly : length ys ≡ 2 ^ (B .m)) (L D : ℕ) (A : Arrays) (e : A .vals (B .m) 1 ≡ ys) (l : 0 < L) where
   pub steps-most : length (runOf B L D A .steps) ≤ L * length (B .blocks) + 1
   steps-most =
-      subst (λ (steps : List Step). length steps ≤ L * length (B .blocks) + 1) (sym (valid-agree B ok L D ys A l ly e .0)) (run-steps B L D ys)
+      subst (λ (steps : List Step). length steps ≤ L * length (B .blocks) + 1) (sym (valid-agree B ok L D ys A l ly e .steps)) (run-steps B L D ys)
 
   pub entries-most : (b : ℕ) → b < length (B .blocks) → entries b (runOf B L D A .steps) ≤ L
-  entries-most b h = subst (λ (steps : List Step). entries b steps ≤ L) (sym (valid-agree B ok L D ys A l ly e .0)) (run-entries b B L D ys l h)
+  entries-most b h = subst (λ (steps : List Step). entries b steps ≤ L) (sym (valid-agree B ok L D ys A l ly e .steps)) (run-entries b B L D ys l h)
 
 -- ---- paths alive
 

@@ -12,6 +12,7 @@ use lib.ListN.{length, getD, take, drop, take-append-drop}
 use lib.IntN.{ℤ}
 use lib.Dec.{leb, ltb, eqb}
 use Rattle.laws.specs.Lists.{All, Distinct}
+use Rattle.laws.specs.Removes.{In, Removes}
 use Rattle.laws.proofs.Tests.{leb-ltb}
 use Rattle.laws.proofs.Lists.{all-map, all-in, all-front, all-mapped, all-unmapped, distinct-front}
 use Rattle.laws.proofs.Removes.{removes-none, removes-cut, removes-keep}
@@ -30,7 +31,7 @@ use Rattle.reader.specs.Reader.{Cut, copyWith, copy, moveWith, move, ext
 use Rattle.reader.specs.Reached.{StandsFor}
 use Rattle.reader.proofs.Queue.{numbers-paired}
 use Rattle.reader.proofs.Step.{stands-key}
-use Rattle.reader.specs.Moments.{Moment, momentsOf, extractAt, copyAt, movedAt, queuedAt, In, Removes, Removed}
+use Rattle.reader.specs.Moments.{Moment, momentsOf, extractAt, copyAt, movedAt, queuedAt, Removed}
 use Rattle.reader.proofs.Moments.{step-more, MomentIs, run-moments}
 
 -- ---- a path queued

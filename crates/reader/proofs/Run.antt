@@ -19,9 +19,9 @@ use Rattle.polar.proofs.Value.{R-costs}
 use Rattle.codebook.specs.Book.{Book, startOf}
 use Rattle.codebook.specs.Limits.{Valid}
 use Rattle.codec.specs.Code.{freeBits, readData}
-use Rattle.queue.specs.Queue.{Step, Final}
+use Rattle.queue.specs.Queue.{Step, Final, found, endAs}
 use Rattle.machine.specs.Machine as M
-use Rattle.machine.specs.Calls.{finalOf}
+use Rattle.machine.specs.Calls.{finalOf, endOf}
 use Rattle.reader.specs.Arrays.{Arrays, View, sumsOf}
 use Rattle.reader.specs.Paths.{Path, firstPath, scoreOf, idsOf, viewOf}
 use Rattle.reader.specs.Reader as R
@@ -33,15 +33,10 @@ use Rattle.codec.proofs.Ties.{parities-none}
 use Rattle.reader.proofs.Good.{PathSized, sized, Ready, ready}
 use Rattle.reader.proofs.Step.{StepIs, stands-blocks, extract-is}
 
--- what comes of the machine's final path, if there is one
-unfoldable pub finalFrom : Book → List ℤ → Option M.Path → Option Final
-finalFrom B ys none = none
-finalFrom B ys (some q) = some (finalOf B ys (some q))
-
 -- the reader's run r′ is the machine's r
 pub record RunIs (B : Book) (ys : List ℤ) (r : M.Run) (r′ : R.Run) : Type 0 where
   pub steps : r′ .steps ≡ r .steps
-  pub final : r′ .final ≡ finalFrom B ys (r .final)
+  pub end : r′ .end ≡ endOf B ys (r .end)
 
 -- path 0, whatever the arrays hold but the received values at the root
 pub first-stands : (B : Book) (ys : List ℤ) (A : Arrays) → A .vals (B .m) 1 ≡ ys → StandsFor B ys A M.emptyPath (firstPath B)
@@ -61,7 +56,7 @@ module _ (B : Book) (ys : List ℤ) (ok : Valid B) (ly : length ys ≡ 2 ^ (B .m
 
   stopped-plain : (A : Arrays) (u : List ℕ) (p : Path) (ps : List Path) → HoldsBits B ys A u p → p .blocks ≡ length (B .blocks) →
       RunIs B ys (M.stopped (plain B p u)) (R.stopped B A p ps)
-  unfolding M.stopped R.stopped plain finalFrom finalOf readData
+  unfolding M.stopped R.stopped plain endOf endAs finalOf readData
   stopped-plain A u p ps h e =
       let v : View = commit B (idsOf ps) p (p .blocks) (viewOf A p) in
       let z : PathSized B ys u p (p .blocks) = sized B ys (viewOf A p) u p ok (p .blocks) (h .inv) in
@@ -75,7 +70,7 @@ module _ (B : Book) (ys : List ℤ) (ok : Valid B) (ly : length ys ≡ 2 ^ (B .m
       let make : List ℕ → List ℕ → ℕ → Final = λ w x n. record { word = w; bits = freeBits (B .kinds) x; discrepancy = n } in
       record {
         steps = refl;
-        final = ap some (ap₂ (λ (w x : List ℕ). make w x (p .spent + p .cost)) word back ∙ ap (make (transform (B .m) u) u) total);
+        end = ap found (ap₂ (λ (w x : List ℕ). make w x (p .spent + p .cost)) word back ∙ ap (make (transform (B .m) u) u) total);
       }
 
   stopped-is : (A : Arrays) (q : M.Path) (p : Path) (ps : List Path) → StandsFor B ys A q p → p .blocks ≡ length (B .blocks) →
@@ -87,7 +82,7 @@ module _ (B : Book) (ys : List ℤ) (ok : Valid B) (ly : length ys ≡ 2 ^ (B .m
 
   after-is : (s s′ : Step) (r : M.Run) (r′ : R.Run) → s ≡ s′ → RunIs B ys r r′ → RunIs B ys (M.after s r) (R.after s′ r′)
   unfolding M.after R.after
-  after-is s s′ r r′ e h = record { steps = ap₂ (λ x l. x ∷ l) (sym e) (h .steps); final = h .final }
+  after-is s s′ r r′ e h = record { steps = ap₂ (λ x l. x ∷ l) (sym e) (h .steps); end = h .end }
 
   -- runs of so much fuel agree, from any queue and one that stands for it
   abbrev RunsAgree : ℕ → ℕ → ℕ → Type 0
@@ -96,9 +91,9 @@ module _ (B : Book) (ys : List ℤ) (ok : Valid B) (ly : length ys ≡ 2 ^ (B .m
       RunIs B ys (M.run fuel B L D ys qs n visits) (R.run fuel B L D A ps n visits)
 
   pub run-is : (fuel L D : ℕ) → RunsAgree fuel L D
-  unfolding M.run R.run finalFrom Paired
-  run-is zero L D A qs ps n visits h = record { steps = refl; final = refl }
-  run-is (suc fuel) L D A [] [] n visits h = record { steps = refl; final = refl }
+  unfolding M.run R.run endOf endAs Paired
+  run-is zero L D A qs ps n visits h = record { steps = refl; end = refl }
+  run-is (suc fuel) L D A [] [] n visits h = record { steps = refl; end = refl }
   run-is (suc fuel) L D A [] (p ∷ ps) n visits h = absurd h
   run-is (suc fuel) L D A (q ∷ qs) [] n visits h = absurd h
   run-is (suc fuel) L D A (q ∷ qs) (p ∷ ps) n visits h =

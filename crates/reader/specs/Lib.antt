@@ -4,3 +4,4 @@ pub mod Reader
 pub mod Reached
 pub mod Fit
 pub mod Moments
+pub mod Agree

@@ -2,13 +2,13 @@
 -- finds, and the extraction's step; and what a step says of the numbers that the queue loses. Of the reader alone. Assumes nothing.
 use mathlib.Core.Path.{_≡_}
 use mathlib.Core.Bool.{cond}
-use mathlib.Core.List.{List, [], _∷_, _++_, List·Memᴰ}
-use mathlib.Core.Logic.{_↔_}
+use mathlib.Core.List.{List, [], _∷_, _++_}
 use Prim.Native.Nat.{ℕ, zero, suc, _+_, _*_, _^_}
 use lib.ListN.{length, replicate}
 use lib.IntN.{ℤ}
 use lib.Dec.{eqb}
 use Rattle.laws.specs.Lists.{All}
+use Rattle.laws.specs.Removes.{Removes}
 use Rattle.polar.specs.Layers.{Within}
 use Rattle.codebook.specs.Book.{Book}
 use Rattle.queue.specs.Queue.{insert, numbers, Step}
@@ -77,14 +77,6 @@ stepAt B L D t =
     cond (eqb (t .path .blocks) (length (B .blocks))) last more
 
 -- ---- what it removes
-
--- x is one of xs
-abbrev pub In : ℕ → List ℕ → Type 0
-In x xs = List·Memᴰ x xs
-
--- gone are exactly those of old that are not in new
-abbrev pub Removes : List ℕ → List ℕ → List ℕ → Type 0
-Removes gone old new = (x : ℕ) → In x gone ↔ (In x old × (In x new → ⊥))
 
 -- what the step at a moment says of the queue before and after step 2, and before and after step 4
 pub record Removed (B : Book) (L D : ℕ) (t : Moment) : Type 0 where

@@ -7,7 +7,7 @@ use lib.ListN.{length, replicate}
 use lib.Dec.{eqb}
 use Rattle.codebook.specs.Book.{Book, startOf, blockAt}
 use Rattle.codec.specs.Code.{readData}
-use Rattle.queue.specs.Queue.{insert, staying, outrunBy, numbers, roomFor, crowdedOut, visit, Step, Final}
+use Rattle.queue.specs.Queue.{insert, staying, outrunBy, numbers, roomFor, crowdedOut, visit, Step, Final, End, found, dry}
 use Rattle.reader.specs.Arrays.{Arrays, View, valsOf, sumsOf, putSums, claim, descend, joined}
 use Rattle.outer.specs.Words.{Word, nearest, nextAfter}
 use Rattle.reader.specs.Paths.{Path, scoreOf, keyOf, firstPath, lastWord, ownWord, place, idsOf, viewOf}
@@ -134,14 +134,14 @@ extract B L D A p qs n visits =
           };
     }
 
--- the extractions, and what step 1 stops with
+-- the extractions, and how it ends: with the final word at which step 1 stops
 pub record Run : Type 0 where
   pub steps : List Step
-  pub final : Option Final
+  pub end : End Final
 
 -- a run with one extraction before it
 unfoldable pub after : Step → Run → Run
-after s r = record { steps = s ∷ r .steps; final = r .final }
+after s r = record { steps = s ∷ r .steps; end = r .end }
 
 -- the last block's word goes into the sums, which at the root are the final word
 unfoldable pub stopped : Book → Arrays → Path → List Path → Run
@@ -149,13 +149,13 @@ stopped B A p qs =
     let word = sumsOf (commit B (idsOf qs) p (p .blocks) (viewOf A p)) (B .m) in
     record {
       steps = record { path = p .number; blocks = p .blocks; score = scoreOf B p (p .blocks); crowded = []; outrun = [] } ∷ [];
-      final = some (record { word = word; bits = readData B word; discrepancy = p .spent + p .cost });
+      end = found (record { word = word; bits = readData B word; discrepancy = p .spent + p .cost });
     }
 
 -- step 1 takes the first path, and stops if it has all V blocks; fuel bounds the extractions
 unfoldable pub run : ℕ → Book → ℕ → ℕ → Arrays → List Path → ℕ → List ℕ → Run
-run zero B L D A qs n visits = record { steps = []; final = none }
-run (suc fuel) B L D A [] n visits = record { steps = []; final = none }
+run zero B L D A qs n visits = record { steps = []; end = dry }
+run (suc fuel) B L D A [] n visits = record { steps = []; end = dry }
 run (suc fuel) B L D A (p ∷ qs) n visits =
     let x = extract B L D A p qs n visits in
     let more = after (x .step) (run fuel B L D (x .state .arrays) (x .state .queue) (x .state .next) (x .state .visits)) in

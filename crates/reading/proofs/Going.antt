@@ -3,7 +3,6 @@
 -- ends with a final word has fuel left and a path queued. It is what the contract says (specs/Before), and what the next turn needs besides. Assumes nothing.
 use mathlib.Core.Path.{_≡_, refl, sym, ap, ap₂, _∙_, subst, subst₂}
 use mathlib.Core.List.{List, [], _∷_, _++_, map, map-append, append-assoc}
-use mathlib.Core.Option.{some}
 use Prim.Native.Nat.{ℕ, zero, suc, _+_, _-_, _*_, _^_, _≤_, _<_}
 use native.Mathlib.Numerals.{add-one}
 use native.Mathlib.Nat.{mul-le-mul}
@@ -16,7 +15,7 @@ use Rattle.laws.proofs.Lists.{length-snoc, getD-zeros}
 use Rattle.laws.specs.Pairs.{Paired}
 use Rattle.codebook.specs.Book.{Book}
 use Rattle.codebook.specs.Limits.{Valid}
-use Rattle.queue.specs.Queue.{Step, Final}
+use Rattle.queue.specs.Queue.{Step, Final, found}
 use Rattle.reader.specs.Arrays.{Arrays}
 use Rattle.reader.specs.Paths.{Path, keyOf, firstPath}
 use Rattle.reader.specs.Reader as R
@@ -65,7 +64,7 @@ pub record Going (B : Book) (values : List ℤ) (L N : ℕ) (A : Arrays) (x : Me
   pub alike : Alike (length (B .blocks)) own visits
   pub count : length done + suc fuel ≡ L * length (B .blocks) + 1
   pub at : momentsOf B L N A ≡ done ++ moments (suc fuel) B L N arrays (taken ∷ rest) (t .next) own
-  pub ends : R.runOf B L N A .final ≡ R.run (suc fuel) B L N arrays (taken ∷ rest) (t .next) own .final
+  pub ends : R.runOf B L N A .end ≡ R.run (suc fuel) B L N arrays (taken ∷ rest) (t .next) own .end
   pub extractions : t .extractions ≡ length done
   pub crowded : t .crowded ≡ sum (map crowdedCount (map (stepAt B L N) done))
   pub outrun : t .outrun ≡ sum (map outrunCount (map (stepAt B L N) done))
@@ -86,7 +85,7 @@ module _ (B : Book) (L N : ℕ) where
     fuel-is : fuel ≡ suc less
     queue-is : ps ≡ taken ∷ rest
 
-  onward : (fuel : ℕ) (A : Arrays) (ps : List Path) (n : ℕ) (visits : List ℕ) (f : Final) → R.run fuel B L N A ps n visits .final ≡ some f →
+  onward : (fuel : ℕ) (A : Arrays) (ps : List Path) (n : ℕ) (visits : List ℕ) (f : Final) → R.run fuel B L N A ps n visits .end ≡ found f →
       Onward fuel ps
   unfolding R.run
   onward zero A ps n visits f e = let z : _≡_ {A = ℕ} 0 1 = cc in absurd (omega arith)
@@ -135,7 +134,7 @@ going-first B values L N A x order vacant kept e path₀ blocks₀ score₀ ok s
       alike = alike-zeros V′ 512 (blocks-few B ok);
       count = omega arith;
       at = ap (λ n. moments n B L N A (firstPath B ∷ []) 1 (replicate V′ 0)) (add-one (L * V′));
-      ends = ap (λ n. R.run n B L N A (firstPath B ∷ []) 1 (replicate V′ 0) .final) (add-one (L * V′));
+      ends = ap (λ n. R.run n B L N A (firstPath B ∷ []) 1 (replicate V′ 0) .end) (add-one (L * V′));
       extractions = refl;
       crowded = refl;
       outrun = refl;
@@ -183,7 +182,7 @@ module _ {B : Book} {values : List ℤ} {L N : ℕ} {A : Arrays} {x : Memory} {o
 
   -- ---- an extraction
 
-  module _ (ok : Valid B) (size : length values ≡ 2 ^ (B .m)) (two : 2 ≤ N) (most : N ≤ 256) (f : Final) (found : R.runOf B L N A .final ≡ some f)
+  module _ (ok : Valid B) (size : length values ≡ 2 ^ (B .m)) (two : 2 ≤ N) (most : N ≤ 256) (f : Final) (finds : R.runOf B L N A .end ≡ found f)
       (more : g .taken .blocks < length (B .blocks)) where
     -- what it comes to, by the visits of the tables and by those of the book's blocks
     abbrev made : R.Extracted
@@ -210,7 +209,7 @@ module _ {B : Book} {values : List ℤ} {L N : ℕ} {A : Arrays} {x : Memory} {o
     unfolding R.after
     later =
         onward B L N (g .fuel) (mine .state .arrays) (mine .state .queue) (mine .state .next) (mine .state .visits) f
-        (ap (λ (r : R.Run). r .final) (sym opened) ∙ sym (g .ends) ∙ found)
+        (ap (λ (r : R.Run). r .end) (sym opened) ∙ sym (g .ends) ∙ finds)
 
     -- the rest of the run from there, and of its moments
     rest-is : {n : ℕ} → n ≡ mine .state .next →
@@ -292,7 +291,7 @@ module _ {B : Book} {values : List ℤ} {L N : ℕ} {A : Arrays} {x : Memory} {o
               alike = subst (Alike (length (B .blocks)) (mine .state .visits)) (sym visits-is) (alike .visits);
               count = omega (arith, g .count, later .fuel-is);
               at = g .at ∙ ap (λ ms. g .done ++ ms) (moments-are next) ∙ sym (append-assoc (g .done) (here ∷ []) _);
-              ends = g .ends ∙ ap (λ (z : R.Run). z .final) (opened ∙ ap (R.after s) (rest-is next));
+              ends = g .ends ∙ ap (λ (z : R.Run). z .end) (opened ∙ ap (R.after s) (rest-is next));
               extractions = omega (arith, g .extractions);
               crowded =
                   crowded-is ∙ ap₂ (λ n (z : Step). n + crowdedCount z) (g .crowded) (sym (alike .step)) ∙ sym (counted crowdedCount);

@@ -46,7 +46,7 @@ module _ (B : Book) (L D : ℕ) where
     pub less : ℕ
     pub count : fuel ≡ length made + suc less
     pub rest : here ∷ later ≡ From (suc less) here
-    pub ends : whole .final ≡ RunFrom (suc less) here .final
+    pub ends : whole .end ≡ RunFrom (suc less) here .end
     pub long : length (here .state .visits) ≡ length visits
 
   abbrev pub Left : ℕ → Arrays → List Path → ℕ → List ℕ → List Moment → Moment → List Moment → Type 0
@@ -67,7 +67,7 @@ module _ (B : Book) (L D : ℕ) where
         less = fuel;
         count = omega arith;
         rest = subst (λ (m : Moment). here ∷ later ≡ From (suc fuel) m) h (sym e);
-        ends = ap (λ (m : Moment). RunFrom (suc fuel) m .final) h;
+        ends = ap (λ (m : Moment). RunFrom (suc fuel) m .end) h;
         long = ap (λ (m : Moment). length (m .state .visits)) (sym h);
       }
   moments-left (suc fuel) A (p ∷ ps) n visits (m ∷ made) here later e =
@@ -114,11 +114,11 @@ module _ {B : Book} {L N : ℕ} {A : Arrays} {most : ℕ} {x : Memory} {order va
       }
 
   -- the run from there has its final word
-  pub before-ends : R.runOf B L N A .final
-      ≡ R.run (suc (left .less)) B L N (g .here .state .arrays) (g .here .path ∷ g .here .state .queue) (t .next) (g .here .state .visits) .final
+  pub before-ends : R.runOf B L N A .end
+      ≡ R.run (suc (left .less)) B L N (g .here .state .arrays) (g .here .path ∷ g .here .state .queue) (t .next) (g .here .state .visits) .end
   unfolding R.runOf
   before-ends =
-      left .ends ∙ ap (λ k. R.run (suc (left .less)) B L N (g .here .state .arrays) (g .here .path ∷ g .here .state .queue) k (g .here .state .visits) .final) (sym (g .next))
+      left .ends ∙ ap (λ k. R.run (suc (left .less)) B L N (g .here .state .arrays) (g .here .path ∷ g .here .state .queue) k (g .here .state .visits) .end) (sym (g .next))
 
   abbrev pub before-going : (values : List ℤ) → Valid B → Reached B values N (g .here .state .arrays) (g .here .path ∷ g .here .state .queue) → length visits ≡ 512 →
       Going B values L N A x order vacant visits kept t e path₀ blocks₀ score₀ path blocks score

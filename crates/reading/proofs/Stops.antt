@@ -53,7 +53,7 @@ module _ (B : Book) (L D : ℕ) where
   -- nothing comes after it, and its word is the run's
   abbrev LastOf : ℕ → Arrays → List Path → ℕ → List ℕ → Moment → List Moment → Type 0
   LastOf fuel A ps n visits here later =
-      (later ≡ []) × (R.run fuel B L D A ps n visits .final ≡ R.stopped B (here .state .arrays) (here .path) (here .state .queue) .final)
+      (later ≡ []) × (R.run fuel B L D A ps n visits .end ≡ R.stopped B (here .state .arrays) (here .path) (here .state .queue) .end)
 
   moments-last : (fuel : ℕ) (A : Arrays) (ps : List Path) (n : ℕ) (visits : List ℕ) (made : List Moment) (here : Moment) (later : List Moment) →
       moments fuel B L D A ps n visits ≡ made ++ here ∷ later → here .path .blocks ≡ length (B .blocks) → LastOf fuel A ps n visits here later
@@ -66,8 +66,8 @@ module _ (B : Book) (L D : ℕ) where
       let l : cond (eqb (p .blocks) (length (B .blocks))) [] (moments fuel B L D (x .state .arrays) (x .state .queue) (x .state .next) (x .state .visits)) ≡ later = cc in
       let q : eqb (p .blocks) (length (B .blocks)) ≡ true = eq-eqb (p .blocks) (length (B .blocks)) (ap (λ (m : Moment). m .path .blocks) h ∙ d) in (
         sym l ∙ ap (λ (t : Bool). cond t [] (moments fuel B L D (x .state .arrays) (x .state .queue) (x .state .next) (x .state .visits))) q,
-        ap (λ (t : Bool). cond t (R.stopped B A p ps) (R.after (x .step) (R.run fuel B L D (x .state .arrays) (x .state .queue) (x .state .next) (x .state .visits))) .final) q
-            ∙ ap (λ (m : Moment). R.stopped B (m .state .arrays) (m .path) (m .state .queue) .final) h,
+        ap (λ (t : Bool). cond t (R.stopped B A p ps) (R.after (x .step) (R.run fuel B L D (x .state .arrays) (x .state .queue) (x .state .next) (x .state .visits))) .end) q
+            ∙ ap (λ (m : Moment). R.stopped B (m .state .arrays) (m .path) (m .state .queue) .end) h,
       )
   moments-last (suc fuel) A (p ∷ ps) n visits (m ∷ made) here later e d =
       go (eqb (p .blocks) (length (B .blocks))) (cc) (λ k. moments-last fuel _ _ _ _ made here later k d)
@@ -84,8 +84,8 @@ module _ (B : Book) (L D : ℕ) where
       end : R.Run
       end = R.stopped B (here .state .arrays) (here .path) (here .state .queue)
 
-      go : (t : Bool) → cond t [] more ≡ made ++ here ∷ later → (more ≡ made ++ here ∷ later → (later ≡ []) × (rest .final ≡ end .final)) →
-          (later ≡ []) × (cond t (R.stopped B A p ps) (R.after (x .step) rest) .final ≡ end .final)
+      go : (t : Bool) → cond t [] more ≡ made ++ here ∷ later → (more ≡ made ++ here ∷ later → (later ≡ []) × (rest .end ≡ end .end)) →
+          (later ≡ []) × (cond t (R.stopped B A p ps) (R.after (x .step) rest) .end ≡ end .end)
       go true k ih = absurd (none-here made here later k)
       go false k ih = ih k
 
@@ -141,7 +141,7 @@ module _ {s : Setting} {values : List ℤ} {kinds terms heights starts : List �
     abbrev done : List Step
     done = map (stepAt (c .book) (s .visits) (s .paths)) (g .moment .made)
 
-    last-of : (g .moment .later ≡ []) × (whole .final ≡ R.stopped (c .book) (g .here .state .arrays) (g .here .path) (g .here .state .queue) .final)
+    last-of : (g .moment .later ≡ []) × (whole .end ≡ R.stopped (c .book) (g .here .state .arrays) (g .here .path) (g .here .state .queue) .end)
     unfolding momentsOf R.runOf
     last-of = moments-last (c .book) (s .visits) (s .paths) _ _ _ _ _ (g .moment .made) (g .here) (g .moment .later) (g .moment .moments) all
 

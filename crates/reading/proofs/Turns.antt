@@ -2,7 +2,6 @@
 -- valid book ends with a final word, by its agreement with the machine (reader). Assumes nothing.
 use mathlib.Core.Path.{_≡_, sym, ap, _∙_, subst}
 use mathlib.Core.List.{List}
-use mathlib.Core.Option.{some}
 use Prim.Native.Nat.{ℕ, _+_, _-_, _*_, _^_, _≤_, _<_}
 use native.Mathlib.Omega.{arith}
 use lib.IntN.{ℤ, pos}
@@ -10,9 +9,7 @@ use lib.ListN.{length, getD, set, replicate}
 use lib.Pow.{pow-mono}
 use Rattle.codebook.specs.Book.{Book, blockAt}
 use Rattle.codebook.specs.Limits.{BlockOk, Valid}
-use Rattle.queue.specs.Queue.{Final}
-use Rattle.machine.specs.Machine as M
-use Rattle.machine.specs.Calls.{finalOf}
+use Rattle.queue.specs.Queue.{Final, found}
 use Rattle.reader.specs.Arrays.{Arrays}
 use Rattle.reader.specs.Paths.{scoreOf, keyOf, firstPath}
 use Rattle.reader.specs.Moments.{Moment, MomentOf, RunMoment}
@@ -82,12 +79,8 @@ module _ {s : Setting} {values : List ℤ} {kinds terms heights starts : List �
       record { values = values; size = size; range = c .range; arrays = A; root = ap (λ n. A .vals n 1) (c .deep) ∙ root; moment = h }
 
   -- the run has a final word
-  pub run-found : (A : Arrays) → 1 ≤ s .visits → A .vals (s .m) 1 ≡ values → (f : Final) × (R.runOf (c .book) (s .visits) (s .paths) A .final ≡ some f)
-  run-found A l root =
-      let B : Book = c .book in (
-        finalOf B values (M.runOf B (s .visits) (s .paths) values .final),
-        valid-agree B ok (s .visits) (s .paths) values A l size (ap (λ n. A .vals n 1) (c .deep) ∙ root) .1,
-      )
+  pub run-found : (A : Arrays) → 1 ≤ s .visits → A .vals (s .m) 1 ≡ values → (f : Final) × (R.runOf (c .book) (s .visits) (s .paths) A .end ≡ found f)
+  run-found A l root = (_, valid-agree (c .book) ok (s .visits) (s .paths) values A l size (ap (λ n. A .vals n 1) (c .deep) ∙ root) .finds)
 
   -- ---- at first
 
@@ -158,10 +151,10 @@ module _ {s : Setting} {values : List ℤ} {kinds terms heights starts : List �
         let e : s .visits * length (c .book .blocks) ≡ s .visits * s .blocks = ap (λ n. s .visits * n) (c .blocks) in
         record { path-long = omega (arith, l .0); blocks-long = omega (arith, l .1); score-long = omega (arith, l .2) }
 
-    module _ (two : 2 ≤ s .paths) (most : s .paths ≤ 256) (found : (f : Final) × (R.runOf (c .book) (s .visits) (s .paths) A .final ≡ some f)) (d : keyAt e .blocks ≡ s .blocks → ⊥) (r : Tally) where
+    module _ (two : 2 ≤ s .paths) (most : s .paths ≤ 256) (finds : (f : Final) × (R.runOf (c .book) (s .visits) (s .paths) A .end ≡ found f)) (d : keyAt e .blocks ≡ s .blocks → ⊥) (r : Tally) where
       -- a path is queued after it
       pub run-some : r .queued ≡ length (run-made .state .queue) → 1 ≤ r .queued
-      run-some q = going-some g ok size two most (found .0) (found .1) (run-next d) r q
+      run-some q = going-some g ok size two most (finds .0) (finds .1) (run-next d) r q
 
       pub run-turn : (y : Memory) (order′ vacant′ visits′ kept′ : List ℕ) →
           (r .queued ≡ length (run-made .state .queue)) × (r .next ≡ run-made .state .next) × (visits′ ≡ run-made .state .visits)
@@ -175,7 +168,7 @@ module _ {s : Setting} {values : List ℤ} {kinds terms heights starts : List �
           (record { queued = r .queued - 1; next = r .next; extractions = r .extractions; crowded = r .crowded; outrun = r .outrun })
           (getD order′ (r .queued - 1) 0) path₀ blocks₀ score₀ path′ blocks′ score′
       run-turn y order′ vacant′ visits′ kept′ x more l n =
-          going-next g ok size two most (found .0) (found .1) (run-next d) r (x .0) y order′ vacant′ visits′ kept′ (x .1) (x .2) (x .3) (x .4) more (x .5) (x .6)
+          going-next g ok size two most (finds .0) (finds .1) (run-next d) r (x .0) y order′ vacant′ visits′ kept′ (x .1) (x .2) (x .3) (x .4) more (x .5) (x .6)
           (long-enough l) n
 
     -- ---- what the contract says of it

@@ -1,14 +1,13 @@
 -- The reader's run on the lent workspace: what it needs, and what it leaves. Assumes nothing.
 use mathlib.Core.Path.{_≡_}
 use mathlib.Core.List.{List, map}
-use mathlib.Core.Option.{some}
 use Prim.Native.Nat.{ℕ, _^_}
 use lib.ListN.{length}
 use lib.IntN.{ℤ}
 use Rattle.laws.specs.Lists.{All, sum}
 use Rattle.polar.specs.Layers.{part, overAt, Within}
 use Rattle.codebook.specs.Book.{Book}
-use Rattle.queue.specs.Queue.{Step, Final}
+use Rattle.queue.specs.Queue.{Step, Final, found}
 use Rattle.reader.specs.Arrays.{Arrays}
 use Rattle.reader.specs.Reader.{Run}
 use Rattle.heights.specs.Workspace.{spot, Id}
@@ -37,7 +36,7 @@ pub record Running (s : Setting) (values : List ℤ) (kinds terms heights starts
 -- what a run answers, and where it leaves the final word
 pub record RanIs (m N : ℕ) (r : Run) (x : Ran) (bytes : List ℕ) : Type 0 where
   pub final : Final
-  pub ends : r .final ≡ some final
+  pub ends : r .end ≡ found final
   pub extractions : x .extractions ≡ length (r .steps)
   pub crowded : x .crowded ≡ sum (map (λ (s : Step). length (s .crowded)) (r .steps))
   pub outrun : x .outrun ≡ sum (map (λ (s : Step). length (s .outrun)) (r .steps))

@@ -28,8 +28,9 @@ use Rattle.codec.specs.Code.{fill, freeBits, obeysAll, inCode, readData}
 use Rattle.codec.proofs.Fill.{After, fill-after, fill-obeys, obeys-append, obeys-front}
 use Rattle.machine.specs.Words.{Ranked, nearer, rank, setting, nearestWith, nearest, nextAfter}
 use Rattle.machine.specs.Machine.{Path, State, path, emptyPath, copyWith, copyOf, advanceWith, advance, extract, runOf}
-use Rattle.machine.specs.Calls.{finalOf}
-use Rattle.runs.specs.Runs.{stateOf, firstState, Ended, Exact}
+use Rattle.queue.specs.Queue.{End, endAs}
+use Rattle.machine.specs.Calls.{finalOf, endOf, finalIn}
+use Rattle.runs.specs.Runs.{stateOf, firstState, Finds, Ended, Exact}
 use Rattle.runs.proofs.Choice.{first-may}
 use Rattle.runs.proofs.Steps.{all-extract}
 use Rattle.runs.proofs.States.{run-final}
@@ -143,14 +144,14 @@ module _ (B : Book) (ok : Valid B) where
   first-fits = ((omega arith, record { size = refl; bits = tt; obey = tt }), tt)
 
   -- the path taken last fills all indices
-  final-filling : (L D : ℕ) (ys : List ℤ) → May (λ (p : Path). Fills B (2 ^ (B .m)) (p .bits)) (runOf B L D ys .final)
+  final-filling : (L D : ℕ) (ys : List ℤ) → Finds (λ (p : Path). Fills B (2 ^ (B .m)) (p .bits)) (runOf B L D ys .end)
   unfolding All
   final-filling L D ys =
       run-final B L D ys AllFit _ (extract-fits L D ys) (λ p qs n visits e h. subst (λ (s : ℕ). Fills B s (p .bits)) (ap (startOf (B .blocks)) e ∙ ok .covered) (h .0 .1)) first-fits
 
   -- ---- the word
 
-  filling-exact : (ys : List ℤ) (p : Path) → length ys ≡ 2 ^ (B .m) → Fills B (2 ^ (B .m)) (p .bits) → Exact B ys (finalOf B ys (some p))
+  filling-exact : (ys : List ℤ) (p : Path) → length ys ≡ 2 ^ (B .m) → Fills B (2 ^ (B .m)) (p .bits) → Exact B ys (finalOf B ys p)
   unfolding finalOf inCode readData
   filling-exact ys p e f =
       let u : List ℕ = p .bits in
@@ -164,9 +165,9 @@ module _ (B : Book) (ok : Valid B) where
         discrepancy = R-discrepancy (B .m) ys u e (f .size) (f .bits);
       }
 
-  pub run-exact : (L D : ℕ) (ys : List ℤ) → 0 < L → length ys ≡ 2 ^ (B .m) → Exact B ys (finalOf B ys (runOf B L D ys .final))
-  unfolding Ended May
+  pub run-exact : (L D : ℕ) (ys : List ℤ) → 0 < L → length ys ≡ 2 ^ (B .m) → Exact B ys (finalIn (endOf B ys (runOf B L D ys .end)))
+  unfolding Ended Finds finalIn endOf endAs
   run-exact L D ys h e =
       let (p, q, _) = run-ends B L D ys h in
-      let f = subst (May (λ (p : Path). Fills B (2 ^ (B .m)) (p .bits))) q (final-filling L D ys) in
-      subst (λ (o : Option Path). Exact B ys (finalOf B ys o)) (sym q) (filling-exact ys p e f)
+      let f = subst (Finds (λ (p : Path). Fills B (2 ^ (B .m)) (p .bits))) q (final-filling L D ys) in
+      subst (λ (o : End Path). Exact B ys (finalIn (endOf B ys o))) (sym q) (filling-exact ys p e f)

@@ -27,12 +27,14 @@ use Rattle.codec.specs.Record.{readRecord}
 use Rattle.codec.specs.Calls.{holds32, notRead, recordRead}
 use Rattle.machine.specs.declared.Decoded.{Decoded}
 use Rattle.machine.specs.declared.HookDecoded.{HookDecoded}
-use Rattle.queue.specs.Queue.{Step}
+use Rattle.queue.specs.Queue.{Step, Final, End, found, endAs}
 use Rattle.machine.specs.Machine.{runOf}
-use Rattle.machine.specs.Calls.{Input, Lent, Called, settingsOk, lentOk, valuesOk, barred, countsOf, afterRun, isDone}
+use Rattle.machine.specs.Calls.{Input, Lent, Called, settingsOk, lentOk, valuesOk, barred, finalOf, endOf, finalIn, within, countsOf, afterRun, isDone}
 use Rattle.machine.specs.Calls.{plainRan, plainRefused, plainChecked, plainWith, plainCall}
 use Rattle.machine.specs.Calls.{hookOf, hookRan, hookRefused, hookChecked, hookWith, hookCall}
+use Rattle.runs.specs.Runs.{Ended}
 use Rattle.runs.specs.Handed.{Made, finalWord, HandedOut, Withheld, PlainHanded, HookHanded}
+use Rattle.runs.proofs.Ends.{run-ends}
 use Rattle.runs.proofs.Final.{run-exact}
 
 -- ---- what bars a call
@@ -56,6 +58,11 @@ unfolding barred May
 barred-low B c l fits r e =
     let P : Refusal → Type 0 = λ r. refusalNumber r ≤ 9 in
     subst (May P) e (unless-may P _ _ _ (omega arith) (unless-may P _ _ _ (omega arith) (unless-may P _ _ _ (omega arith) tt)))
+
+-- where a word is found, the limit alone decides
+pub found-within : (limit : ℕ) (e : End Final) (f : Final) → e ≡ found f → within limit e ≡ leb (finalIn e .discrepancy) limit
+unfolding within finalIn
+found-within limit e f q = subst (λ (o : End Final). within limit o ≡ leb (finalIn o .discrepancy) limit) (sym q) refl
 
 -- ---- which calls make a run
 
@@ -124,6 +131,13 @@ module _ (c : Input) (l : Lent) (B : Book) where
         let x = run-exact B (loaded-valid (c .book) B (m .loads)) (c .L) (c .D) (c .values) visited sized in
         record { word = refl; databits = refl; counted = refl; exact = x .discrepancy }
 
+    -- the run finds a word, so the limit alone decides
+    by-limit : within (c .T) (endOf B (c .values) (runOf B (c .L) (c .D) (c .values) .end)) ≡ leb far (c .T)
+    unfolding Ended finalWord endOf endAs
+    by-limit =
+        let (p, q, _) = run-ends B (c .L) (c .D) (c .values) visited in
+        found-within (c .T) (endOf B (c .values) (runOf B (c .L) (c .D) (c .values) .end)) (finalOf B (c .values) p) (ap (endOf B (c .values)) q)
+
   -- what holds of the plain call's two ends, each under its condition, holds of the call
   abbrev plainEnd : Outcome → Bool → Called Decoded
   plainEnd o b = record { answer = record { outcome = o; counts = countsOf steps (finalWord B c) }; lent = afterRun B c l steps (finalWord B c) b }
@@ -132,8 +146,10 @@ module _ (c : Input) (l : Lent) (B : Book) where
   unfolding plainCall plainWith plainChecked plainRan finalWord
   plain-by P m done above = subst P (sym ran) (go (lt-or (c .T) far))
     where
-      ran : plainCall c l ≡ plainRan B c l (runOf B (c .L) (c .D) (c .values))
-      ran = ap (λ x. plainWith x c l) (m .loads) ∙ ap (plainChecked B c l) (m .unbarred)
+      ran : plainCall c l ≡ plainEnd (cond (leb far (c .T)) Done (Refused AboveLimit)) (leb far (c .T))
+      ran =
+          ap (λ x. plainWith x c l) (m .loads) ∙ ap (plainChecked B c l) (m .unbarred)
+          ∙ ap (λ (b : Bool). plainEnd (cond b Done (Refused AboveLimit)) b) (by-limit true m)
 
       E : Bool → Type 0
       E b = P (plainEnd (cond b Done (Refused AboveLimit)) b)
@@ -158,8 +174,10 @@ module _ (c : Input) (l : Lent) (B : Book) where
   unfolding hookCall hookWith hookChecked hookRan hookOf finalWord
   hook-by P m done above unreadable = subst P (sym ran) (go (lt-or (c .T) far))
     where
-      ran : hookCall c l ≡ hookRan B c l (runOf B (c .L) (c .D) (c .values))
-      ran = ap (λ x. hookWith x c l) (m .loads) ∙ ap (hookChecked B c l) (m .unbarred)
+      ran : hookCall c l ≡ hookEnd (hookOf (leb far (c .T)) (finalWord B c))
+      ran =
+          ap (λ x. hookWith x c l) (m .loads) ∙ ap (hookChecked B c l) (m .unbarred)
+          ∙ ap (λ (b : Bool). hookEnd (hookOf b (finalWord B c))) (by-limit (holds32 B) m)
 
       read : far ≤ c .T → (o : Option HookRecord) → readRecord (finalWord B c .bits) ≡ o → P (hookEnd (recordRead o))
       read h (some x) e = done h x e

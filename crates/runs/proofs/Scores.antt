@@ -9,7 +9,7 @@ use Rattle.laws.specs.Lists.{All, May}
 use Rattle.codebook.specs.Book.{Book}
 use Rattle.machine.specs.Words.{Ranked, nearest}
 use Rattle.machine.specs.Machine.{Path, scoreOf, path, emptyPath, copyWith, copyOf, advanceWith, advance, extract, runOf}
-use Rattle.runs.specs.Runs.{stateOf, firstState, statesOf, OwnScore, Scored}
+use Rattle.runs.specs.Runs.{stateOf, firstState, statesOf, Finds, OwnScore, Scored}
 use Rattle.runs.proofs.Steps.{all-extract}
 use Rattle.runs.proofs.States.{run-states, run-final}
 
@@ -48,7 +48,7 @@ module _ (B : Book) (ys : List ℤ) where
   pub run-scored : (L D : ℕ) → All (Scored B ys) (statesOf B L D ys)
   run-scored L D = run-states B L D ys (Scored B ys) (λ p qs n visits _ h. extract-scored L D p qs n visits h) first-scored
 
-  pub final-scored : (L D : ℕ) → May (OwnScore B ys) (runOf B L D ys .final)
+  pub final-scored : (L D : ℕ) → Finds (OwnScore B ys) (runOf B L D ys .end)
   unfolding All
   final-scored L D =
       run-final B L D ys (Scored B ys) (OwnScore B ys) (λ p qs n visits _ h. extract-scored L D p qs n visits h) (λ p qs n visits _ h. h .queued .0) first-scored

@@ -7,12 +7,12 @@ use Prim.Native.Nat.{ℕ, zero, suc}
 use lib.ListN.{length}
 use lib.IntN.{ℤ}
 use lib.Dec.{T, eqb, eqb→eq}
-use Rattle.laws.specs.Lists.{All, May}
+use Rattle.laws.specs.Lists.{All}
 use Rattle.laws.specs.Pairs.{Paired}
 use Rattle.laws.proofs.Tests.{cond-case}
 use Rattle.codebook.specs.Book.{Book}
 use Rattle.machine.specs.Machine.{Path, State, Run, extract, run, after, stopped, runOf}
-use Rattle.runs.specs.Runs.{stateOf, firstState, states, statesOf, Takes}
+use Rattle.runs.specs.Runs.{stateOf, firstState, states, statesOf, Finds, Takes}
 
 module _ (B : Book) (L D : ℕ) (ys : List ℤ) (Inv : State → Type 0) where
   -- kept by the extraction of each path that has not all blocks
@@ -30,12 +30,12 @@ module _ (B : Book) (L D : ℕ) (ys : List ℤ) (Inv : State → Type 0) where
 
   -- the path taken last comes from such a state, and has all blocks
   pub final-all : (P : Path → Type 0) → Kept → ((p : Path) (qs : List Path) (n : ℕ) (visits : List ℕ) → p .blocks ≡ length (B .blocks) → Inv (stateOf (p ∷ qs) n visits) → P p) →
-      (fuel : ℕ) (qs : List Path) (n : ℕ) (visits : List ℕ) → Inv (stateOf qs n visits) → May P (run fuel B L D ys qs n visits .final)
-  unfolding run after stopped May
+      (fuel : ℕ) (qs : List Path) (n : ℕ) (visits : List ℕ) → Inv (stateOf qs n visits) → Finds P (run fuel B L D ys qs n visits .end)
+  unfolding run after stopped Finds
   final-all P k f zero qs n visits h = tt
   final-all P k f (suc fuel) [] n visits h = tt
   final-all P k f (suc fuel) (p ∷ qs) n visits h =
-      cond-case (λ (r : Run). May P (r .final)) (eqb (p .blocks) (length (B .blocks)))
+      cond-case (λ (r : Run). Finds P (r .end)) (eqb (p .blocks) (length (B .blocks)))
       (λ t. f p qs n visits (eqb→eq (p .blocks) (length (B .blocks)) t) h)
       (λ t. final-all P k f fuel _ _ _ (k p qs n visits t h))
 
@@ -44,7 +44,7 @@ module _ (B : Book) (L D : ℕ) (ys : List ℤ) (Inv : State → Type 0) where
   unfolding statesOf firstState
   run-states k h = states-all k _ _ _ _ h
 
-  pub run-final : (P : Path → Type 0) → Kept → ((p : Path) (qs : List Path) (n : ℕ) (visits : List ℕ) → p .blocks ≡ length (B .blocks) → Inv (stateOf (p ∷ qs) n visits) → P p) → Inv (firstState B) → May P (runOf B L D ys .final)
+  pub run-final : (P : Path → Type 0) → Kept → ((p : Path) (qs : List Path) (n : ℕ) (visits : List ℕ) → p .blocks ≡ length (B .blocks) → Inv (stateOf (p ∷ qs) n visits) → P p) → Inv (firstState B) → Finds P (runOf B L D ys .end)
   unfolding runOf firstState
   run-final P k f h = final-all P k f _ _ _ _ h
 

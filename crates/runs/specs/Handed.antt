@@ -24,7 +24,7 @@ use Rattle.machine.specs.declared.HookDecoded.{HookDecoded}
 use Rattle.queue.specs.Queue.{Final}
 use Rattle.machine.specs.Machine.{runOf}
 use Rattle.codec.specs.Calls.{holds32}
-use Rattle.machine.specs.Calls.{Input, Lent, barred, finalOf}
+use Rattle.machine.specs.Calls.{Input, Lent, barred, endOf, finalIn}
 
 -- ---- the run of a call
 
@@ -37,7 +37,7 @@ pub record Made (fits : Bool) (c : Input) (l : Lent) (B : Book) : Type 0 where
 
 -- the machine's final word, with its data and its discrepancy
 unfoldable pub finalWord : Book → Input → Final
-finalWord B c = finalOf B (c .values) (runOf B (c .L) (c .D) (c .values) .final)
+finalWord B c = finalIn (endOf B (c .values) (runOf B (c .L) (c .D) (c .values) .end))
 
 -- ---- after a run
 

@@ -2,7 +2,6 @@
 use mathlib.Core.Path.{_≡_}
 use mathlib.Core.Bool.{cond, not}
 use mathlib.Core.List.{List, [], _∷_}
-use mathlib.Core.Option.{some}
 use Prim.Native.Nat.{ℕ, zero, suc, _+_, _*_, _^_, _≤_, _<_}
 use lib.ListN.{length, replicate}
 use lib.IntN.{ℤ}
@@ -12,7 +11,7 @@ use Rattle.polar.specs.Bits.{Bit}
 use Rattle.polar.specs.Soft.{discrepancy}
 use Rattle.codebook.specs.Book.{Book}
 use Rattle.codec.specs.Code.{inCode, readData}
-use Rattle.queue.specs.Queue.{Key, before, numbers, Step, Final}
+use Rattle.queue.specs.Queue.{Key, before, numbers, Step, Final, End, found, dry}
 use Rattle.machine.specs.Machine.{Path, State, Run, keyOf, scoreOf, emptyPath, extract}
 
 -- ---- the states before the extractions
@@ -77,9 +76,14 @@ pub record Scored (B : Book) (ys : List ℤ) (s : State) : Type 0 where
 
 -- ---- how the run ends, and what it finds
 
+-- whatever is found has P
+unfoldable pub Finds : {A : Type 0} → (A → Type 0) → End A → Type 0
+Finds P (found x) = P x
+Finds P dry = Unit {0}
+
 -- the run stopped with a path of all N blocks
 unfoldable pub Ended : ℕ → Run → Type 0
-Ended N r = (p : Path) × (r .final ≡ some p) × (p .blocks ≡ N)
+Ended N r = (p : Path) × (r .end ≡ found p) × (p .blocks ≡ N)
 
 -- the extractions that entered block b
 unfoldable pub entries : ℕ → List Step → ℕ

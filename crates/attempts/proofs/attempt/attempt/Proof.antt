@@ -1,6 +1,7 @@
 -- `attempts::attempt::attempt` meets its contract: by the outcome of loading, then of the tests; else the run is judged, and what it leaves is the attempt's.
 -- Assumes nothing.
-use mathlib.Core.Path.{_≡_, refl, sym, _∙_}
+use mathlib.Core.Path.{_≡_, refl, sym, _∙_, subst}
+use mathlib.Core.Bool.{true}
 use mathlib.Core.Logic.{⊎-elim}
 use mathlib.Core.Option.{none}
 use Prim.Native.Nat.{ℕ}
@@ -8,16 +9,18 @@ use native.Mathlib.Omega.{arith}
 use lib.IntN.{ℤ, pos}
 use lib.ListN.{length, length-replicate}
 use borrow.Author.Needs.{needs}
+use Rattle.polar.specs.Layers.{part}
 use Rattle.codebook.specs.Progress.{tables}
 use Rattle.coding.proofs.Told.{Known, known-small, sizes-refused, sizes-known}
-use Rattle.machine.specs.Calls.{Input, Lent, given, lent, barred}
-use Rattle.machine.specs.Machine.{runOf}
-use Rattle.attempts.specs.Attempt.{fitsFor, Ready}
-use Rattle.attempts.proofs.Attempts.{yields-refused, yields-barred, yields-ran, yields-lent}
+use Rattle.queue.specs.Queue.{Step}
+use Rattle.machine.specs.Calls.{Input, Lent, given, lent, barred, finalIn, within, walked}
+use Rattle.reader.specs.Reader.{Run}
+use Rattle.attempts.specs.Reading.{readerRun}
+use Rattle.attempts.specs.Attempt.{fitsFor, answerOf, Ready}
+use Rattle.attempts.proofs.Attempts.{yields-refused, yields-barred, yields-ran, yields-lent, reader-same}
 use Rattle.attempts.proofs.Judged.{ready-small, ready-free}
 use Rattle.attempts.proofs.Readied.{admission, admission-same, is-barred, not-barred, sized-same, fits-any, fits-record, known-blocks, known-few, load-long, ready}
 use Rattle.attempts.proofs.Unbarred.{Free, nothing-bars}
-use Rattle.attempts.proofs.Whole.{whole-refused, whole-barred, whole-run}
 use Rattle.attempts.proofs.attempt.attempt.Statement.{statement}
 use Rattle.attempts.proofs.attempt.attempt.Tie as tie
 
@@ -77,10 +80,8 @@ returns c =
     let s = start l in
     let a = s .args in
     let r = o .outcome .given in
-    let e = sizes-refused (a .book .now) (l .load-tables .result) (r .0 .0) (l .load-tables .ensures .0) (r .1) in (
-      yields-refused (a .hook) (call s) (buffers s) (r .0 .0) (c .refused .result) (a .found .now) (a .info .now) e (c .refused .ensures .0) (c .refused .ensures .1),
-      whole-refused (a .hook) (call s) (buffers s) (c .refused .result .counts) (buffers s) (r .0 .0) e,
-    )
+    let e = sizes-refused (a .book .now) (l .load-tables .result) (r .0 .0) (l .load-tables .ensures .0) (r .1) in
+    yields-refused (a .hook) (call s) (buffers s) (r .0 .0) (c .refused .result) (a .found .now) (a .info .now) e (c .refused .ensures .0) (c .refused .ensures .1)
 
 enum-told : tie.Need-enum-told
 enum-told c = search needs
@@ -115,10 +116,8 @@ returns-2 c =
     let a = s .args in
     let K = known t in
     let r = o .admitted .given in
-    let b = is-barred (K .is) (call s) (buffers s) (fitsFor (a .hook) (K .is)) (r .0 .0) (sym (tested m) ∙ r .1) in (
-      yields-barred (a .hook) (call s) (buffers s) (K .is) (K .loads) (r .0 .0) (c .refused2 .result) (a .found .now) (a .info .now) b (c .refused2 .ensures .0) (c .refused2 .ensures .1),
-      whole-barred (a .hook) (call s) (buffers s) (c .refused2 .result .counts) (buffers s) (K .is) (K .loads) (r .0 .0) b,
-    )
+    let b = is-barred (K .is) (call s) (buffers s) (fitsFor (a .hook) (K .is)) (r .0 .0) (sym (tested m) ∙ r .1) in
+    yields-barred (a .hook) (call s) (buffers s) (K .is) (K .loads) (r .0 .0) (c .refused2 .result) (a .found .now) (a .info .now) b (c .refused2 .ensures .0) (c .refused2 .ensures .1)
 
 enum-told-2 : tie.Need-enum-told-2
 enum-told-2 c = search needs
@@ -210,15 +209,20 @@ returns-3 c =
     let K = known t in
     let z = sized-same (K .is) (call s) (buffers s) (fitsFor (a .hook) (K .is)) (K .size) (K .free) (blocks t) (free e) in
     let l = j .judge .last .1 .1 .1 .1 .1 .1 .1 .1 .1 .1 in
-    let o = j .judge .ensures .1 .0 (readied e) in
-    let y = runOf (K .is) (a .visits) (a .paths) (a .values .now) in
-    let after = lent (a .word .now) (a .bits .now) (l .0) (l .1 .0) (l .1 .1 .0) (l .1 .1 .1 .0) (l .1 .1 .1 .1 .0) in (
-      yields-ran (a .hook) (call s) (buffers s) (K .is) (K .loads) (j .judge .result) after (l .1 .1 .1 .1 .1 .0) (l .1 .1 .1 .1 .1 .1 .0) (x .n) (x .k) (clear e) (o .0)
-          (yields-lent (K .is) (call s) (buffers s) (y .steps) _ (x .n) (K .size) refl refl (j .judge .ensures .0 .0) (j .judge .ensures .0 .1) (o .1) (o .2) (o .3))
-          (sym (z .word)) (sym (z .bits)) (ready-small (readied e)) (ready-free (readied e)) (o .4),
-      whole-run (a .hook) (call s) (buffers s) (j .judge .result .counts) after (K .is) (K .loads) (x .m) (x .n) (K .height) (K .size) (free e)
-          (j .judge .ensures .1 .1 (readied e)),
-    )
+    let after = lent (a .word .now) (a .bits .now) (l .0) (l .1 .0) (l .1 .1 .0) (l .1 .1 .1 .0) (l .1 .1 .1 .1 .0) in
+    let found = l .1 .1 .1 .1 .1 .0 in
+    let info = l .1 .1 .1 .1 .1 .1 .0 in
+    let o =
+    subst
+    (λ (y : Run). (j .judge .result ≡ answerOf (a .limit) (y .steps) (y .end))
+    × (after .walkPath ≡ walked (λ (z : Step). pos (z .path)) (y .steps) (a .walk-path .now))
+    × (after .walkBlocks ≡ walked (λ (z : Step). pos (z .blocks)) (y .steps) (a .walk-blocks .now))
+    × (after .walkScore ≡ walked (λ (z : Step). z .score) (y .steps) (a .walk-score .now))
+    × (within (a .limit) (y .end) ≡ true → (part 0 (x .n) found ≡ finalIn (y .end) .word) × (part 0 (x .k) info ≡ finalIn (y .end) .bits)))
+    (reader-same (K .is) (call s) (buffers s) (x .m) (x .n) (K .height) (K .size)) (j .judge .ensures .1 (readied e)) in
+    yields-ran (a .hook) (call s) (buffers s) (K .is) (K .loads) (j .judge .result) after found info (x .n) (x .k) (clear e) (o .0)
+    (yields-lent (K .is) (call s) (buffers s) (readerRun (K .is) (call s) (buffers s) .steps) _ (x .n) (K .size) refl refl (j .judge .ensures .0 .0) (j .judge .ensures .0 .1) (o .1) (o .2) (o .3))
+    (sym (z .word)) (sym (z .bits)) (ready-small (readied e)) (ready-free (readied e)) (o .4)
 
 pub attempt-spec : {M : Type 1} → statement M
 attempt-spec =

@@ -1,8 +1,8 @@
--- `attempts::attempt::judge` meets its contract: the run on the lent part of the workspace is the machine's, the limit decides, and the data is that of the
+-- `attempts::attempt::judge` meets its contract: the run is the reader's on the lent part of the workspace, the limit decides, and the data is that of the
 -- final word, which is of the code. Assumes nothing.
 use mathlib.Core.Path.{_≡_, sym, ap, ap₂, _∙_, subst}
 use mathlib.Core.List.{List, _++_}
-use Prim.Native.Nat.{ℕ, _+_, _*_, _≤_}
+use Prim.Native.Nat.{ℕ, _+_, _*_, _^_, _≤_}
 use native.Mathlib.Omega.{arith}
 use lib.IntN.{pos}
 use lib.ListN.{length, take, drop, length-append, replicate}
@@ -15,12 +15,14 @@ use Rattle.polar.specs.Layers.{part}
 use Rattle.codebook.specs.Book.{freeCount}
 use Rattle.codec.specs.Code.{freeBits, readData}
 use Rattle.coding.proofs.Told.{zeros-part}
-use Rattle.machine.specs.Machine as M
+use Rattle.machine.specs.Calls.{finalIn}
+use Rattle.runs.specs.Runs.{Exact}
+use Rattle.reader.specs.Arrays.{Arrays}
 use Rattle.reader.specs.Reader as R
 use Rattle.reading.specs.Running.{arraysOf, received}
+use Rattle.reading.proofs.Received.{received-root}
 use Rattle.attempts.specs.Attempt.{Ready}
-use Rattle.attempts.specs.WholeRun.{LeftBy}
-use Rattle.attempts.proofs.Judged.{lent-length, written-part, part-cleared, ready-small, ready-free, ready-size, ready-running, numbers-room, bytes-room, found, exact, above, within}
+use Rattle.attempts.proofs.Judged.{lent-length, written-part, part-cleared, ready-small, ready-free, ready-size, ready-running, numbers-room, bytes-room, exact, above, below}
 use Rattle.attempts.proofs.attempt.judge.Statement.{statement}
 use Rattle.attempts.proofs.attempt.judge.Tie as tie
 
@@ -118,16 +120,33 @@ cleared c =
       part-cleared 0 (a .paths * (2 * a .x .n)) (a .bytes .now) (s .pre .1 .1 .0 .1) (o .1),
     )
 
--- the word that the run left is the machine's, for each input
-word-is : (c : tie.After-run-cleared) (r : Input (start (c .before))) → let a = start (c .before) .args in
-    c .run-cleared .last .1 .1 .1 .1 .1 .1 .1 .1 .1 .1 .1 .1 .0 ≡ found r (a .visits) (a .paths) (start (c .before) .pre .0 .0) .word
-word-is c r = let a = start (c .before) .args in c .run-cleared .ensures .1 .0 (ready-running r (a .visits) (a .paths)) .1
+-- the arrays that it starts from, whose root holds the values; its run, and what is known of its final word
+abbrev arrays : tie.Start → Arrays
+arrays s =
+    let a = s .args in
+    arraysOf (a .x .m) (received (a .x .m) (a .values .now) (take (a .paths * (2 * a .x .n + 32)) (a .numbers .now))) (take (a .paths * (2 * a .x .n)) (a .bytes .now))
+
+root : (s : tie.Start) (r : Input s) → arrays s .vals (s .args .x .m) 1 ≡ s .args .values .now
+root s r =
+    let a = s .args in
+    received-root (a .x .m) (a .paths) (a .values .now) (take (a .paths * (2 * a .x .n + 32)) (a .numbers .now)) (numbers-room r (a .paths) (a .numbers .now) (s .pre .1 .1 .0 .0)) (omega arith)
+    (r .fits ∙ ap (λ m. 2 ^ m) (sym (r .deep))) _
+
+abbrev run : (s : tie.Start) → Input s → R.Run
+run s r = R.runOf (r .book) (s .args .visits) (s .args .paths) (arrays s)
+
+final-exact : (s : tie.Start) (r : Input s) → Exact (r .book) (s .args .values .now) (finalIn (run s r .end))
+final-exact s r = exact r (s .args .visits) (s .args .paths) (s .pre .0 .0) (arrays s) (root s r)
+
+-- the word that the run left is its final word, for each input
+word-is : (c : tie.After-run-cleared) (r : Input (start (c .before))) → c .run-cleared .last .1 .1 .1 .1 .1 .1 .1 .1 .1 .1 .1 .1 .0 ≡ finalIn (run (start (c .before)) r .end) .word
+word-is c r = let a = start (c .before) .args in c .run-cleared .ensures .1 (ready-running r (a .visits) (a .paths)) .1
 
 word-size : (c : tie.After-run-cleared) → length (c .run-cleared .last .1 .1 .1 .1 .1 .1 .1 .1 .1 .1 .1 .1 .0) ≡ start (c .before) .args .x .n
 word-size c =
     let s = start (c .before) in
     let r = input s in
-    ap length (word-is c r) ∙ exact r (s .args .visits) (s .args .paths) (s .pre .0 .0) .size ∙ sym (r .size)
+    ap length (word-is c r) ∙ final-exact s r .size ∙ sym (r .size)
 
 same-length : tie.Need-same-length
 same-length c = search needs
@@ -159,23 +178,11 @@ left-room c =
     let w = c .run-cleared .last .1 .1 .1 .1 .1 .1 .1 .1 .1 .1 .1 .1 .0 in
     omega (arith, word-size c, length-append w (drop (a .x .n) (a .found .now)))
 
--- its first n bytes are the machine's word
-left-word : (c : tie.After-run-cleared) (r : Input (start (c .before))) → let s = start (c .before) in
-    take (s .args .x .n) (left c) ≡ found r (s .args .visits) (s .args .paths) (s .pre .0 .0) .word
+-- its first n bytes are that word
+left-word : (c : tie.After-run-cleared) (r : Input (start (c .before))) → take (start (c .before) .args .x .n) (left c) ≡ finalIn (run (start (c .before)) r .end) .word
 left-word c r =
     let a = start (c .before) .args in
     take-at (c .run-cleared .last .1 .1 .1 .1 .1 .1 .1 .1 .1 .1 .1 .1 .0) (drop (a .x .n) (a .found .now)) (a .x .n) (word-size c) ∙ word-is c r
-
--- what the reader's run left
-reader-left : (c : tie.After-run-cleared) (r : Input (start (c .before))) → let a = start (c .before) .args in let l = c .run-cleared .last .1 .1 .1 .1 .1 .1 .1 .1 .1 in
-    LeftBy (R.runOf (r .book) (a .visits) (a .paths) (arraysOf (a .x .m) (received (a .x .m) (a .values .now) (take (a .paths * (2 * a .x .n + 32)) (a .numbers .now)))
-    (take (a .paths * (2 * a .x .n)) (a .bytes .now)))) (c .run-cleared .result) (part 0 (a .x .n) (left c))
-    (a .walk-path .now) (a .walk-blocks .now) (a .walk-score .now) (l .0) (l .1 .0) (l .1 .1 .0)
-reader-left c r =
-    let a = start (c .before) .args in
-    let o = c .run-cleared .ensures .1 .1 (ready-running r (a .visits) (a .paths)) in
-    let w = written-part (a .x .n) (c .run-cleared .last .1 .1 .1 .1 .1 .1 .1 .1 .1 .1 .1 .1 .0) (drop (a .x .n) (a .found .now)) (word-size c) in
-    record { counted = o .counted; found = λ f q. w ∙ o .found f q; path-is = o .path-is; blocks-is = o .blocks-is; score-is = o .score-is }
 
 returns : tie.Need-returns
 returns c =
@@ -183,14 +190,10 @@ returns c =
     let s = start (x .before) in
     let a = s .args in (
       cleared x,
-      (
-        λ r.
-            let o = x .run-cleared .ensures .1 .0 (ready-running r (a .visits) (a .paths)) in
-            let y = M.runOf (r .book) (a .visits) (a .paths) (a .values .now) in
-            let q = above (a .limit) y (found r (a .visits) (a .paths) (s .pre .0 .0)) (x .run-cleared .result) (o .0) (c .if1 .taken) in
-            (q .1, o .2, o .3, o .4, λ t. absurd (q .0 t)),
-        reader-left x,
-      ),
+      λ r.
+          let o = x .run-cleared .ensures .1 (ready-running r (a .visits) (a .paths)) in
+          let q = above r (a .visits) (a .paths) (s .pre .0 .0) (arrays s) (root s r) (a .limit) (x .run-cleared .result) (o .0) (c .if1 .taken) in
+          (q .1, o .2, o .3, o .4, λ t. absurd (q .0 t)),
     )
 
 slice-reshare-prefix-data-of : tie.Need-slice-reshare-prefix-data-of
@@ -236,7 +239,7 @@ data-of-requires c κs =
     let f = kinds-fit x r in
     let n = sym (lent-length (a .x .n) (left x) (left-room x)) in (
       (r .book .kinds, (r .tables .booked .tabled .coded, f .0, f .1)),
-      (n ∙ zeros-part _ (ready-small r), n ∙ ready-size r, subst (All Bit) (sym (left-word x r)) (exact r (a .visits) (a .paths) (s .pre .0 .0) .bits)),
+      (n ∙ zeros-part _ (ready-small r), n ∙ ready-size r, subst (All Bit) (sym (left-word x r)) (final-exact s r .bits)),
     )
 
 same-length-7 : tie.Need-same-length-7
@@ -270,26 +273,22 @@ returns-2 c =
     let a = s .args in
     let bits = d .data-of .last .1 .1 .1 .1 .0 in (
       cleared x,
-      (
-        λ r.
-            let o = x .run-cleared .ensures .1 .0 (ready-running r (a .visits) (a .paths)) in
-            let y = M.runOf (r .book) (a .visits) (a .paths) (a .values .now) in
-            let f = kinds-fit x r in
-            let free = d .data-of .ensures (r .book .kinds) (r .tables .booked .tabled .coded) (f .0) (f .1) in (
-              within (a .limit) y (found r (a .visits) (a .paths) (s .pre .0 .0)) (x .run-cleared .result) (o .0) (e .if1 .left),
-              o .2,
-              o .3,
-              o .4,
-              λ t. (
-                left-word x r,
-                written-part (a .x .k) bits (drop (a .x .k) (a .info .now)) (omega (arith, c .before .info .given, f .1, r .free))
-                    ∙ free
-                    ∙ ap₂ (λ m w. freeBits (r .book .kinds) (transform m w)) (r .deep) (left-word x r)
-                    ∙ sym (exact r (a .visits) (a .paths) (s .pre .0 .0) .databits),
-              ),
+      λ r.
+          let o = x .run-cleared .ensures .1 (ready-running r (a .visits) (a .paths)) in
+          let f = kinds-fit x r in
+          let free = d .data-of .ensures (r .book .kinds) (r .tables .booked .tabled .coded) (f .0) (f .1) in (
+            below r (a .visits) (a .paths) (s .pre .0 .0) (arrays s) (root s r) (a .limit) (x .run-cleared .result) (o .0) (e .if1 .left),
+            o .2,
+            o .3,
+            o .4,
+            λ t. (
+              left-word x r,
+              written-part (a .x .k) bits (drop (a .x .k) (a .info .now)) (omega (arith, c .before .info .given, f .1, r .free))
+                  ∙ free
+                  ∙ ap₂ (λ m w. freeBits (r .book .kinds) (transform m w)) (r .deep) (left-word x r)
+                  ∙ sym (final-exact s r .databits),
             ),
-        reader-left x,
-      ),
+          ),
     )
 
 pub judge-spec : {M : Type 1} → statement M

@@ -3,10 +3,10 @@
 use borrow.Author.Needs.{needs}
 use mathlib.Core.Path.{_≡_, refl, sym, ap, _∙_, subst}
 use mathlib.Core.List.{List}
-use mathlib.Core.Option.{some}
 use Prim.Native.Nat.{ℕ, _+_, _-_, _*_, _≤_, _<_}
 use native.Mathlib.Omega.{arith}
 use lib.ListN.{length, getD}
+use Rattle.queue.specs.Queue as Q
 use Rattle.queue.specs.Queue.{Final}
 use Rattle.reader.specs.Reader as R
 use Rattle.order.specs.Entries.{keyAt, queueOf, Rising}
@@ -114,7 +114,7 @@ abbrev start : tie.After-extract → tie.Start
 start c = began (read c .before .before)
 
 -- the run has a final word
-found : (s : tie.Start) (r : Turn s) → (f : Final) × (R.runOf (r .input .book) (s .args .s .visits) (s .args .s .paths) (r .arrays) .final ≡ some f)
+found : (s : tie.Start) (r : Turn s) → (f : Final) × (R.runOf (r .input .book) (s .args .s .visits) (s .args .s .paths) (r .arrays) .end ≡ Q.found f)
 found s r = run-found (r .input) (r .arrays) (s .pre .1 .0 .0) (r .root)
 
 -- a path is queued
