@@ -1,6 +1,6 @@
--- What a call hands out of its attempt: the buffers afterwards are those of machine/specs/Calls, and a hook call has 32 data bits to read. By cases of the
--- outcome, and by the exactness of the run. Assumes nothing.
-use mathlib.Core.Path.{_≡_, refl, sym, ap, ap₂, _∙_, subst}
+-- What a call hands out of its attempt: the buffers afterwards are those of machine/specs/Calls, with all that a contract says of them, and a hook call has 32
+-- data bits to read. By cases of the outcome, and by the exactness of the run. Assumes nothing.
+use mathlib.Core.Path.{_≡_, refl, sym, ap, ap₂, _∙_, subst, subst₂}
 use mathlib.Core.Bool.{Bool, true, false, cond}
 use mathlib.Core.List.{List, []}
 use mathlib.Core.Option.{Option, none, some}
@@ -28,7 +28,9 @@ use Rattle.machine.specs.declared.Counts.{Counts}
 use Rattle.machine.specs.declared.Decoded.{Decoded}
 use Rattle.machine.specs.declared.HookDecoded.{HookDecoded}
 use Rattle.machine.specs.Calls.{Input, Lent, lent, Called, barred, afterRun, isDone, plainCall, hookCall}
+use Rattle.runs.specs.Handed.{PlainHanded, HookHanded}
 use Rattle.runs.proofs.Final.{run-exact}
+use Rattle.runs.proofs.Handed.{plain-handed-out, hook-handed-out}
 use Rattle.attempts.specs.Attempt.{fitsFor, Attempted, ranOf, noRun, unbarred, attemptWith, attempted, Holding, readAs}
 use Rattle.attempts.proofs.Attempts.{alike, Yields}
 use Rattle.attempts.proofs.Unbarred.{nothing-bars, asked-holds}
@@ -114,13 +116,37 @@ hook-data c l = go (load (c .book)) refl
     go (refused r) e d = none-done 0 d
     go (loaded B) e d = checked B e (barred B c l (fitsFor true B)) refl d
 
+-- ---- what the calls' contracts say
+
+-- the plain call that answers x and leaves these buffers
+abbrev PlainSaid : Input → Lent → Decoded → Lent → Type 0
+PlainSaid c l x now =
+    (x ≡ plainCall c l .answer) × (now ≡ plainCall c l .lent) × WholeRun (fitsFor false) c l (x .counts) now × PlainHanded c l x now
+
+-- and the hook call
+abbrev HookSaid : Input → Lent → HookDecoded → Lent → Type 0
+HookSaid c l x now =
+    (x ≡ hookCall c l .answer) × (now ≡ hookCall c l .lent) × WholeRun (fitsFor true) c l (x .counts) now × HookHanded c l x now
+
+-- from answer, buffers and run the rest follows
+module _ (c : Input) (l now : Lent) where
+  plain-said : (x : Decoded) → x ≡ plainCall c l .answer → now ≡ plainCall c l .lent → WholeRun (fitsFor false) c l (x .counts) now → PlainSaid c l x now
+  plain-said x p q w = (p, q, w, subst₂ (PlainHanded c l) (sym p) (sym q) (plain-handed-out c l))
+
+  hook-said : (x : HookDecoded) → x ≡ hookCall c l .answer → now ≡ hookCall c l .lent → WholeRun (fitsFor true) c l (x .counts) now → HookSaid c l x now
+  hook-said x p q w = (p, q, w, subst₂ (HookHanded c l) (sym p) (sym q) (hook-handed-out c l))
+
 -- ---- the calls, from what an attempt yields
+
+-- the buffers with another word and other data
+abbrev handing : Lent → List ℕ → List ℕ → Lent
+handing l word bits = lent word bits (l .numbers) (l .bytes) (l .walkPath) (l .walkBlocks) (l .walkScore)
 
 module _ (c : Input) (l : Lent) (x : Decoded) (after : Lent) (found info : List ℕ) (long : 512 ≤ length found) (wide : 512 ≤ length info) where
   left-whole : (hook : Bool) → WholeRun (fitsFor hook) c l (x .counts) after → (word bits : List ℕ)
-      → WholeRun (fitsFor hook) c l (x .counts) (lent word bits (after .numbers) (after .bytes) (after .walkPath) (after .walkBlocks) (after .walkScore))
+      → WholeRun (fitsFor hook) c l (x .counts) (handing after word bits)
   left-whole hook whole word bits =
-      whole-same (fitsFor hook) c l (x .counts) after (lent word bits (after .numbers) (after .bytes) (after .walkPath) (after .walkBlocks) (after .walkScore)) refl refl refl whole
+      whole-same (fitsFor hook) c l (x .counts) after (handing after word bits) refl refl refl whole
 
   module _ (y : Yields false c l x after found info) where
     plain-only : isDone (x .outcome) ≡ true → isDone (attempted false c l .answer .outcome) ≡ true
@@ -131,18 +157,16 @@ module _ (c : Input) (l : Lent) (x : Decoded) (after : Lent) (found info : List 
 
     pub plain-done : WholeRun (fitsFor false) c l (x .counts) after → (word bits : List ℕ) → word ≡ cond (isDone (x .outcome)) (part 0 (length (after .word)) found) (after .word)
         → bits ≡ cond (isDone (x .outcome)) (part 0 (length (after .bits)) info) (after .bits)
-        → let now = lent word bits (after .numbers) (after .bytes) (after .walkPath) (after .walkBlocks) (after .walkScore) in
-        (x ≡ plainCall c l .answer) × (now ≡ plainCall c l .lent) × WholeRun (fitsFor false) c l (x .counts) now
+        → PlainSaid c l x (handing after word bits)
     unfolding plainOf
     plain-done whole word bits w b =
         let a = attempted false c l in
-        let h = sym (plain-handed c l) in (
-          y .0 ∙ ap (λ (z : Called Decoded). z .answer) h,
-          given-lent a (x .outcome) plain-only after (y .1) found info (y .2) word bits w b
-              ∙ ap (λ (z : Decoded). handed (isDone (z .outcome)) (a .found) (a .lent)) (y .0)
-              ∙ ap (λ (z : Called Decoded). z .lent) h,
-          left-whole false whole word bits,
-        )
+        let h = sym (plain-handed c l) in
+        plain-said c l (handing after word bits) x (y .0 ∙ ap (λ (z : Called Decoded). z .answer) h)
+        (given-lent a (x .outcome) plain-only after (y .1) found info (y .2) word bits w b
+        ∙ ap (λ (z : Decoded). handed (isDone (z .outcome)) (a .found) (a .lent)) (y .0)
+        ∙ ap (λ (z : Called Decoded). z .lent) h)
+        (left-whole false whole word bits)
 
   module _ (y : Yields true c l x after found info) where
     -- the data found
@@ -171,18 +195,15 @@ module _ (c : Input) (l : Lent) (x : Decoded) (after : Lent) (found info : List 
 
       pub hook-done : WholeRun (fitsFor true) c l (x .counts) after → (word bits : List ℕ) → word ≡ cond (isDone (read .outcome)) (part 0 (length (after .word)) found) (after .word)
           → bits ≡ cond (isDone (read .outcome)) (part 0 (length (after .bits)) info) (after .bits)
-          → let now = lent word bits (after .numbers) (after .bytes) (after .walkPath) (after .walkBlocks) (after .walkScore) in
-          (record { outcome = read .outcome; counts = x .counts; hook = read .hook } ≡ hookCall c l .answer)
-          × (now ≡ hookCall c l .lent)
-          × WholeRun (fitsFor true) c l (x .counts) now
+          → HookSaid c l (record { outcome = read .outcome; counts = x .counts; hook = read .hook }) (handing after word bits)
       unfolding hookOfAttempt
       hook-done whole word bits w b =
           let a = attempted true c l in
-          let h = sym (hook-handed c l) in (
-            ap₂ (λ (q : RecordRead) (n : Counts). record { outcome = q .outcome; counts = n; hook = q .hook }) read-is (ap (λ (z : Decoded). z .counts) (y .0))
-                ∙ ap (λ (z : Called HookDecoded). z .answer) h,
-            given-lent a (read .outcome) hook-only after (y .1) found info (y .2) word bits w b
-                ∙ ap (λ (q : RecordRead). handed (isDone (q .outcome)) (a .found) (a .lent)) read-is
-                ∙ ap (λ (z : Called HookDecoded). z .lent) h,
-            left-whole true whole word bits,
-          )
+          let h = sym (hook-handed c l) in
+          hook-said c l (handing after word bits) _
+          (ap₂ (λ (q : RecordRead) (n : Counts). record { outcome = q .outcome; counts = n; hook = q .hook }) read-is (ap (λ (z : Decoded). z .counts) (y .0))
+          ∙ ap (λ (z : Called HookDecoded). z .answer) h)
+          (given-lent a (read .outcome) hook-only after (y .1) found info (y .2) word bits w b
+          ∙ ap (λ (q : RecordRead). handed (isDone (q .outcome)) (a .found) (a .lent)) read-is
+          ∙ ap (λ (z : Called HookDecoded). z .lent) h)
+          (left-whole true whole word bits)

@@ -1,5 +1,6 @@
 // The decoding calls. Each makes one attempt, and hands out word and data on success alone. Relies on giving.rt and the crate attempts;
-// machine/specs/Calls says what each call answers and leaves, attempts/specs/WholeRun what demand 3 asks of it.
+// machine/specs/Calls says what each call answers and leaves, attempts/specs/WholeRun what demand 3 asks of it, runs/specs/Handed
+// what demand 2 does.
 use crate::giving::give;
 use crate::giving::read_found;
 use attempts::attempt::attempt;
@@ -8,10 +9,11 @@ use machine::HookDecoded;
 ghost use mathlib.Core.Path.{_≡_};
 ghost use mathlib.Core.Bool.{true, false};
 ghost use Rattle.machine.specs.Calls.{given, lent, plainCall, hookCall};
+ghost use Rattle.runs.specs.Handed.{PlainHanded, HookHanded};
 ghost use Rattle.attempts.specs.Attempt.{fitsFor};
 ghost use Rattle.attempts.specs.WholeRun.{WholeRun};
 
-// The plain decoding call.
+// The plain decoding call. Demand 2, `PlainHanded`, follows from answer and buffers (runs/proofs/Handed) and stands here so that the contract itself says it.
 pub fn decode(
     book: &[u8],
     visits: u32,
@@ -29,7 +31,8 @@ pub fn decode(
     ensures { λ r. ⌜ (let c = given (now (book .entry)) visits paths limit (now (values .entry)) in
         let l = lent (now (word .entry)) (now (bits .entry)) (now (numbers .entry)) (now (bytes .entry)) (now («walk_path» .entry)) (now («walk_blocks» .entry)) (now («walk_score» .entry)) in
         let after = lent (now (word .exit)) (now (bits .exit)) (now (numbers .exit)) (now (bytes .exit)) (now («walk_path» .exit)) (now («walk_blocks» .exit)) (now («walk_score» .exit)) in
-        (r ≡ plainCall c l .answer) × (after ≡ plainCall c l .lent) × WholeRun (fitsFor false) c l (r .counts) after) ⌝ }
+        (r ≡ plainCall c l .answer) × (after ≡ plainCall c l .lent) × WholeRun (fitsFor false) c l (r .counts) after
+        × PlainHanded c l r after) ⌝ }
 {
     let mut found = [0u8; 512];
     let mut info = [0u8; 512];
@@ -55,7 +58,7 @@ pub fn decode(
     x
 }
 
-// The hook call: the record of the word's data besides.
+// The hook call: the record of the word's data besides. `HookHanded` follows likewise, and stands here for the same reason.
 pub fn decode_hook(
     book: &[u8],
     visits: u32,
@@ -73,7 +76,8 @@ pub fn decode_hook(
     ensures { λ r. ⌜ (let c = given (now (book .entry)) visits paths limit (now (values .entry)) in
         let l = lent (now (word .entry)) (now (bits .entry)) (now (numbers .entry)) (now (bytes .entry)) (now («walk_path» .entry)) (now («walk_blocks» .entry)) (now («walk_score» .entry)) in
         let after = lent (now (word .exit)) (now (bits .exit)) (now (numbers .exit)) (now (bytes .exit)) (now («walk_path» .exit)) (now («walk_blocks» .exit)) (now («walk_score» .exit)) in
-        (r ≡ hookCall c l .answer) × (after ≡ hookCall c l .lent) × WholeRun (fitsFor true) c l (r .counts) after) ⌝ }
+        (r ≡ hookCall c l .answer) × (after ≡ hookCall c l .lent) × WholeRun (fitsFor true) c l (r .counts) after
+        × HookHanded c l r after) ⌝ }
 {
     let mut found = [0u8; 512];
     let mut info = [0u8; 512];
