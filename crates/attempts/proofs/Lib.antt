@@ -1,6 +1,6 @@
 pub mod Unbarred
 pub mod Attempts
 pub mod Judged
-pub mod Ran
+pub mod Cleared
 pub mod Readied
 pub mod Whole

@@ -1,7 +1,7 @@
 -- Demand 3 of an attempt, and so of both calls: the reader's run of the call is the machine's (the whole-run theorem), its extractions remove what they say, and the counts and the walk
 -- that an attempt leaves are those of that run. Assumes nothing.
 use mathlib.Core.Path.{_≡_, refl, _∙_}
-use mathlib.Core.Bool.{Bool}
+use mathlib.Core.Bool.{Bool, false}
 use mathlib.Core.List.{List}
 use mathlib.Core.Option.{none}
 use Prim.Native.Nat.{ℕ, _+_, _*_, _^_}
@@ -13,9 +13,10 @@ use Rattle.codebook.specs.Loading.{loaded, load}
 use Rattle.codebook.proofs.Loaded.{loaded-valid}
 use Rattle.machine.specs.declared.Counts.{Counts}
 use Rattle.machine.specs.Calls.{Input, Lent, numbersNeeded, barred, finalIn, countsOf, afterRun}
+use Rattle.runs.specs.Runs.{Exact}
 use Rattle.heights.specs.Workspace.{Room}
 use Rattle.reader.specs.Agree.{Agree}
-use Rattle.reader.proofs.Agree.{agree}
+use Rattle.reader.proofs.Agree.{agree, reader-exact}
 use Rattle.reader.proofs.Moments.{run-steps-are}
 use Rattle.reader.proofs.Removed.{run-removed}
 use Rattle.reader.proofs.Bounds.{steps-most, entries-most}
@@ -42,6 +43,12 @@ lent-root B c l f =
 pub runs-agree : (B : Book) (c : Input) (l : Lent) → load (c .book) ≡ loaded B → Free B c l → Agree B (c .L) (c .D) (c .values) (arraysLent B c l)
 runs-agree B c l e f = agree (c .book) B e (c .L) (c .D) (c .values) (arraysLent B c l) (f .ranged .visited) (f .sized .values) (lent-root B c l f)
 
+-- its final word is in the code, with its own data and its exact discrepancy
+pub lent-exact : (B : Book) (c : Input) (l : Lent) → load (c .book) ≡ loaded B → Free B c l → Exact B (c .values) (finalIn (readerRun B c l .end))
+unfolding readerRun
+lent-exact B c l e f =
+    reader-exact B (loaded-valid (c .book) B e) (c .L) (c .D) (c .values) (arraysLent B c l) (f .ranged .visited) (f .sized .values) (lent-root B c l f)
+
 -- what an attempt leaves, for every input
 pub whole-attempt : (hook : Bool) (c : Input) (l : Lent) → WholeRun (fitsFor hook) c l (attempted hook c l .answer .counts) (attempted hook c l .lent)
 unfolding WholeRun attempted attemptWith unbarred ranOf answerOf afterRun
@@ -66,10 +73,10 @@ whole-attempt hook c l B e b = rw (e, b) agreed
         }
 
 -- it is of the counts and the walk alone
-pub whole-same : (fits : Book → Bool) (c : Input) (l : Lent) {counts counts′ : Counts} {after after′ : Lent} → counts′ ≡ counts → after′ .walkPath ≡ after .walkPath → after′ .walkBlocks ≡ after .walkBlocks
+pub whole-same : (fits : Book → Bool) (c : Input) (l : Lent) {counts counts′ : Counts} (after after′ : Lent) → counts′ ≡ counts → after′ .walkPath ≡ after .walkPath → after′ .walkBlocks ≡ after .walkBlocks
     → after′ .walkScore ≡ after .walkScore → WholeRun fits c l counts after → WholeRun fits c l counts′ after′
 unfolding WholeRun
-whole-same fits c l n p q r w B e b =
+whole-same fits c l after after′ n p q r w B e b =
     let a = w B e b in
     record {
       runs = a .runs;

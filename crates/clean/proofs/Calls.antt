@@ -1,9 +1,8 @@
 -- A clean hook in each call that makes a run: the run is clean (Run.antt), its discrepancy 0 is within every limit, and the calls' definitions say the rest; the
 -- reader's run is the machine's by demand 3. Assumes nothing.
-use mathlib.Core.Path.{_≡_, refl, sym, ap, ap₂, _∙_, subst}
+use mathlib.Core.Path.{_≡_, refl, sym, ap, ap₂, _∙_, subst, subst₂}
 use mathlib.Core.Bool.{Bool, true, false}
 use mathlib.Core.List.{List, _++_, map, map-map}
-use mathlib.Core.Option.{some}
 use Prim.Native.Nat.{ℕ}
 use native.Mathlib.Omega.{arith}
 use lib.ListN.{length, getD, drop, length-map}
@@ -18,15 +17,15 @@ use Rattle.codec.specs.declared.RecordRead.{RecordRead}
 use Rattle.codec.specs.Code.{readData}
 use Rattle.codec.specs.Record.{readRecord}
 use Rattle.codec.specs.Calls.{holds32, recordRead}
-use Rattle.queue.specs.Queue.{Step, Final}
-use Rattle.machine.specs.Machine.{Run}
-use Rattle.machine.specs.Calls.{Input, Lent, finalOf, countsOf, walked, afterRun, isDone}
+use Rattle.queue.specs.Queue.{Step, Final, End}
+use Rattle.machine.specs.Calls.{Input, Lent, endOf, finalIn, within, countsOf, walked, afterRun, isDone}
 use Rattle.machine.specs.Calls.{plainRan, plainChecked, plainWith, plainCall, hookOf, hookRan, hookChecked, hookWith, hookCall}
 use Rattle.runs.specs.Handed.{Made}
 use Rattle.attempts.specs.Attempt.{fitsFor}
 use Rattle.attempts.proofs.Unbarred.{Free, nothing-bars}
 use Rattle.attempts.proofs.Attempts.{alike}
-use Rattle.attempts.specs.WholeRun.{readerRun, machineRun}
+use Rattle.attempts.specs.Reading.{readerRun}
+use Rattle.attempts.specs.WholeRun.{machineRun}
 use Rattle.attempts.proofs.Whole.{runs-agree}
 use Rattle.room.specs.Room.{few}
 use Rattle.steprecords.specs.declared.StepRecord.{StepRecord}
@@ -61,26 +60,27 @@ module _ (B : Book) (c : Input) (l : Lent) (w : List ℕ) where
 
   -- ---- what the calls make of a clean run
 
-  module _ (r : Run) (k : RunsClean B (c .L) (c .D) w (r .steps) (finalOf B (c .values) (r .final))) where
-    counted : countsOf (r .steps) (cleanFinal B w) ≡ cleanCounts B (c .L) (c .D)
-    counted = subst (λ (f : Final). countsOf (r .steps) f ≡ cleanCounts B (c .L) (c .D)) (k .final) (k .counts)
+  module _ (steps : List Step) (end : End Final) (k : RunsClean B (c .L) (c .D) w steps end) where
+    counted : countsOf steps (cleanFinal B w) ≡ cleanCounts B (c .L) (c .D)
+    unfolding finalIn
+    counted = subst (λ (e : End Final). countsOf steps (finalIn e) ≡ cleanCounts B (c .L) (c .D)) (k .final) (k .counts)
 
     -- 0 is within every limit
-    within : leb 0 (c .T) ≡ true
-    within = le-leb 0 (c .T) (omega arith)
+    none-within : leb 0 (c .T) ≡ true
+    none-within = le-leb 0 (c .T) (omega arith)
 
-    plain-ran : plainRan B c l r ≡ cleanPlain B c l w
-    unfolding plainRan cleanPlain cleanFinal
-    plain-ran = rw (k .final, within) (λ i. record { answer = record { outcome = Done; counts = counted i }; lent = lent-after (r .steps) true (k .walk) i })
+    plain-ran : plainRan B c l steps end ≡ cleanPlain B c l w
+    unfolding plainRan within finalIn cleanPlain cleanFinal
+    plain-ran = rw (k .final, none-within) (λ i. record { answer = record { outcome = Done; counts = counted i }; lent = lent-after steps true (k .walk) i })
 
-    hook-ran : hookRan B c l r ≡ cleanHook B c l w
-    unfolding hookRan hookOf cleanHook cleanFinal
+    hook-ran : hookRan B c l steps end ≡ cleanHook B c l w
+    unfolding hookRan hookOf within finalIn cleanHook cleanFinal
     hook-ran =
         let read : RecordRead = recordRead (readRecord (readData B w)) in
-        rw (k .final, within)
+        rw (k .final, none-within)
         (λ i. record {
           answer = record { outcome = read .outcome; counts = counted i; hook = read .hook };
-          lent = lent-after (r .steps) (isDone (read .outcome)) (k .walk) i;
+          lent = lent-after steps (isDone (read .outcome)) (k .walk) i;
         })
 
 -- ---- the theorems
@@ -88,29 +88,27 @@ module _ (B : Book) (c : Input) (l : Lent) (w : List ℕ) where
 -- a call with a good book that nothing bars, on values that show the word w
 module _ (B : Book) (c : Input) (l : Lent) (w : List ℕ) (clean : Clean B (c .values) w) where
   -- the machine's run
-  pub call-clean : (fits : Bool) → Made fits c l B → RunsClean B (c .L) (c .D) w (machineRun B c .steps) (finalOf B (c .values) (machineRun B c .final))
+  pub call-clean : (fits : Bool) → Made fits c l B → RunsClean B (c .L) (c .D) w (machineRun B c .steps) (endOf B (c .values) (machineRun B c .end))
   unfolding machineRun
   call-clean fits m =
       let f : Free B c l = nothing-bars B c l fits (m .unbarred) in
       machine-clean B (loaded-valid (c .book) B (m .loads)) (c .values) w clean (c .L) (c .D) (f .ranged .alive) (f .ranged .visited)
 
   -- the reader's run, by demand 3
-  pub reader-clean : (fits : Bool) → Made fits c l B → RunsClean B (c .L) (c .D) w (readerRun B c l .steps) (cleanFinal B w) × (readerRun B c l .final ≡ some (cleanFinal B w))
+  pub reader-clean : (fits : Bool) → Made fits c l B → RunsClean B (c .L) (c .D) w (readerRun B c l .steps) (readerRun B c l .end)
+  unfolding readerRun machineRun
   reader-clean fits m =
-      let k = call-clean fits m in
-      let same = runs-agree B c l (m .loads) (nothing-bars B c l fits (m .unbarred)) in (
-        subst (λ (s : List Step). RunsClean B (c .L) (c .D) w s (cleanFinal B w)) (sym (same .0)) (subst (RunsClean B (c .L) (c .D) w (machineRun B c .steps)) (k .final) k),
-        same .1 ∙ ap some (k .final),
-      )
+      let same = runs-agree B c l (m .loads) (nothing-bars B c l fits (m .unbarred)) in
+      subst₂ (RunsClean B (c .L) (c .D) w) (sym (same .steps)) (sym (same .end)) (call-clean fits m)
 
   -- the plain call, and the hook call
   pub plain-clean : Made true c l B → plainCall c l ≡ cleanPlain B c l w
   unfolding plainCall plainWith plainChecked machineRun
-  plain-clean m = rw (m .loads, m .unbarred) (plain-ran B c l w (machineRun B c) (call-clean true m))
+  plain-clean m = rw (m .loads, m .unbarred) (plain-ran B c l w _ _ (call-clean true m))
 
   pub hook-clean : Made (holds32 B) c l B → hookCall c l ≡ cleanHook B c l w
   unfolding hookCall hookWith hookChecked machineRun
-  hook-clean m = rw (m .loads, m .unbarred) (hook-ran B c l w (machineRun B c) (call-clean (holds32 B) m))
+  hook-clean m = rw (m .loads, m .unbarred) (hook-ran B c l w _ _ (call-clean (holds32 B) m))
 
   -- the screen's calls, with enough step records
   records-clean : (hook : Bool) → Made (fitsFor hook B) c l B → (old : List StepRecord) → few c (length old) ≡ false → recordsAfter hook c l old ≡ cleanRecords B old

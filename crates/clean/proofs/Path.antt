@@ -140,7 +140,7 @@ module _ (B : Book) (ok : Valid B) (ys : List ℤ) (w : List ℕ) (clean : Clean
   unfolding advance path advanceWith
   advance-right b l = ap (advanceWith B ys (rightPath B ys w b)) (nearest-right B ok ys u right b l) ∙ ap (path B ys 0 (suc b)) (right-bits B ok ys u right b l)
 
-  pub right-final : finalOf B ys (some (rightPath B ys w (length (B .blocks)))) ≡ cleanFinal B w
+  pub right-final : finalOf B ys (rightPath B ys w (length (B .blocks))) ≡ cleanFinal B w
   unfolding finalOf path readData cleanFinal
   right-final =
       let all : rightBits B w (length (B .blocks)) ≡ u = ap (λ i. take i u) (ok .covered) ∙ take-all (2 ^ (B .m)) u (omega (arith, right .size)) in

@@ -2,7 +2,6 @@
 use mathlib.Core.Path.{_≡_, refl, sym, ap, ap₂, _∙_, subst}
 use mathlib.Core.Bool.{Bool, true, false, cond}
 use mathlib.Core.List.{List, [], _∷_, map}
-use mathlib.Core.Option.{some}
 use Prim.Native.Nat.{ℕ, zero, suc, _+_, _-_, _*_, _≤_, _<_}
 use native.Mathlib.Nat.{mul-le-mul-right, one-mul, add-zero, zero-add, zero-sub}
 use native.Mathlib.Omega.{arith}
@@ -14,9 +13,9 @@ use Rattle.laws.specs.Lists.{All, tab, sum}
 use Rattle.laws.proofs.Lists.{getD-zeros, length-tab, tab-same, tab-first}
 use Rattle.codebook.specs.Book.{Book, startOf}
 use Rattle.codebook.specs.Limits.{Valid}
-use Rattle.queue.specs.Queue.{Step}
+use Rattle.queue.specs.Queue.{Step, found, endAs}
 use Rattle.machine.specs.Machine.{Path, Run, path, scoreOf, emptyPath, extract, after, stopped, run, runOf}
-use Rattle.machine.specs.Calls.{finalOf, countsOf}
+use Rattle.machine.specs.Calls.{endOf, finalIn, countsOf}
 use Rattle.steprecords.specs.declared.StepRecord.{StepRecord}
 use Rattle.steprecords.specs.Records.{recordOf}
 use Rattle.clean.specs.Clean.{Clean, cleanRecord, cleanWalk, copies, cleanCounts, cleanFinal, RunsClean}
@@ -45,7 +44,7 @@ module _ (B : Book) (ok : Valid B) (ys : List ℤ) (w : List ℕ) (clean : Clean
   -- what a run comes to, from path 0 with b blocks on, where k are left
   record Reads (b k : ℕ) (x : Run) : Type 0 where
     walk : map recordOf (x .steps) ≡ tab (suc k) (λ i. cleanRecord B (b + i))
-    final : x .final ≡ some (rightPath B ys w V′)
+    end : x .end ≡ found (rightPath B ys w V′)
     crowded : sum (map (λ (s : Step). length (s .crowded)) (x .steps)) + crowdedOf L D (earlier B b) ≡ crowdedOf L D (earlier B V′)
     outrun : sum (map (λ (s : Step). length (s .outrun)) (x .steps)) + outrunOf L (earlier B b) ≡ outrunOf L (earlier B V′)
 
@@ -60,7 +59,7 @@ module _ (B : Book) (ok : Valid B) (ys : List ℤ) (w : List ℕ) (clean : Clean
   reads-last b e =
       record {
         walk = ap (λ x. x ∷ []) (own-record b (omega arith));
-        final = ap (λ i. some (rightPath B ys w i)) e;
+        end = ap (λ i. found (rightPath B ys w i)) e;
         crowded = zero-add (crowdedOf L D (earlier B b)) ∙ ap (λ i. crowdedOf L D (earlier B i)) e;
         outrun = zero-add (outrunOf L (earlier B b)) ∙ ap (λ i. outrunOf L (earlier B i)) e;
       }
@@ -74,7 +73,7 @@ module _ (B : Book) (ok : Valid B) (ys : List ℤ) (w : List ℕ) (clean : Clean
       tab-same (suc k) _ _ (λ i _. let e : suc b + i ≡ b + suc i = omega arith in ap (cleanRecord B) e) in
       record {
         walk = ap₂ (λ (y : StepRecord) (ss : List StepRecord). y ∷ ss) (own-record b (omega arith)) (m .walk ∙ later) ∙ sym (tab-first (suc k) (λ i. cleanRecord B (b + i)));
-        final = m .final;
+        end = m .end;
         crowded = omega (arith, t .crowded, m .crowded);
         outrun = omega (arith, t .outrun, m .outrun);
       }
@@ -119,7 +118,8 @@ module _ (B : Book) (ok : Valid B) (ys : List ℤ) (w : List ℕ) (clean : Clean
         λ i. record { extractions = extracted i; crowded = crowded i; outrun = outrun i; discrepancy = 0 }
 
     -- the machine's run on a clean hook
-    pub machine-clean : RunsClean B L D w steps (finalOf B ys (runOf B L D ys .final))
+    pub machine-clean : RunsClean B L D w steps (endOf B ys (runOf B L D ys .end))
+    unfolding endOf endAs finalIn
     machine-clean =
-        let f : finalOf B ys (runOf B L D ys .final) ≡ cleanFinal B w = ap (finalOf B ys) (whole .final) ∙ right-final B ok ys w clean in
-        record { walk = clean-walk; counts = ap (countsOf steps) f ∙ clean-counts; final = f }
+        let e : endOf B ys (runOf B L D ys .end) ≡ found (cleanFinal B w) = ap (endOf B ys) (whole .end) ∙ ap found (right-final B ok ys w clean) in
+        record { walk = clean-walk; counts = ap (λ f. countsOf steps (finalIn f)) e ∙ clean-counts; final = e }

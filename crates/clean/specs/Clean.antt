@@ -14,9 +14,9 @@ use Rattle.polar.specs.Bits.{Bit}
 use Rattle.polar.specs.Shown.{Shows}
 use Rattle.codebook.specs.Book.{Book, freeCount, blockAt, kindsOf}
 use Rattle.codec.specs.Code.{inCode, readData}
-use Rattle.queue.specs.Queue.{Step, Final}
+use Rattle.queue.specs.Queue.{Step, Final, End, found}
 use Rattle.machine.specs.declared.Counts.{Counts}
-use Rattle.machine.specs.Calls.{countsOf}
+use Rattle.machine.specs.Calls.{countsOf, finalIn}
 use Rattle.steprecords.specs.declared.StepRecord.{StepRecord}
 use Rattle.steprecords.specs.Records.{recordOf}
 
@@ -73,8 +73,8 @@ cleanCounts B L D =
 unfoldable pub cleanFinal : Book → List ℕ → Final
 cleanFinal B w = record { word = w; bits = readData B w; discrepancy = 0 }
 
--- A run reads clean: its extractions, its counts, and what it found.
-pub record RunsClean (B : Book) (L D : ℕ) (w : List ℕ) (steps : List Step) (found : Final) : Type 0 where
+-- A run reads clean: its extractions, its counts, and its end.
+pub record RunsClean (B : Book) (L D : ℕ) (w : List ℕ) (steps : List Step) (end : End Final) : Type 0 where
   pub walk : map recordOf steps ≡ cleanWalk B
-  pub counts : countsOf steps found ≡ cleanCounts B L D
-  pub final : found ≡ cleanFinal B w
+  pub counts : countsOf steps (finalIn end) ≡ cleanCounts B L D
+  pub final : end ≡ found (cleanFinal B w)

@@ -18,7 +18,6 @@ use Rattle.codebook.specs.declared.Outcome.{Outcome}
 use Rattle.codebook.specs.declared.Outcome.the-variants.{Done, Refused}
 use Rattle.codebook.specs.Book.{Book, freeCount}
 use Rattle.codebook.specs.Loading.{Load, refused, loaded, load}
-use Rattle.codebook.proofs.Loaded.{loaded-valid}
 use Rattle.codec.specs.Code.{readData}
 use Rattle.codec.specs.declared.RecordRead.{RecordRead}
 use Rattle.codec.specs.Record.{readRecord}
@@ -29,13 +28,12 @@ use Rattle.machine.specs.declared.Decoded.{Decoded}
 use Rattle.machine.specs.declared.HookDecoded.{HookDecoded}
 use Rattle.machine.specs.Calls.{Input, Lent, lent, Called, barred, afterRun, isDone, plainCall, hookCall}
 use Rattle.runs.specs.Handed.{PlainHanded, HookHanded}
-use Rattle.runs.proofs.Final.{run-exact}
 use Rattle.runs.proofs.Handed.{plain-handed-out, hook-handed-out}
 use Rattle.attempts.specs.Attempt.{fitsFor, Attempted, ranOf, noRun, unbarred, attemptWith, attempted, Holding, readAs}
 use Rattle.attempts.proofs.Attempts.{alike, Yields}
 use Rattle.attempts.proofs.Unbarred.{nothing-bars, asked-holds}
 use Rattle.attempts.specs.WholeRun.{WholeRun}
-use Rattle.attempts.proofs.Whole.{whole-same}
+use Rattle.attempts.proofs.Whole.{lent-exact, whole-attempt, whole-same}
 use Rattle.decoder.proofs.Handing.{handed, plainOf, plain-handed, hookOfAttempt, hook-handed}
 
 -- ---- word and data
@@ -105,9 +103,8 @@ hook-data c l = go (load (c .book)) refl
         isDone (a .answer .outcome) ≡ true → (length (a .lent .bits) ≡ 32) × All Bit (a .found .bits)
     checked B e (some r) b d = none-done 0 d
     checked B e none b d =
-        let ok = loaded-valid (c .book) B e in
         let f = nothing-bars B c l (fitsFor true B) b in
-        let x = run-exact B ok (c .L) (c .D) (c .values) (f .ranged .visited) (f .sized .values) in (
+        let x = lent-exact B c l e f in (
           f .sized .bits ∙ eqb→eq (freeCount (B .kinds)) 32 (asked-holds B c l (fitsFor true B) b),
           subst (All Bit) (sym (x .databits)) (free-bits (B .kinds) _ (transform-bits (B .m) _ (x .bits))),
         )
@@ -143,10 +140,10 @@ abbrev handing : Lent → List ℕ → List ℕ → Lent
 handing l word bits = lent word bits (l .numbers) (l .bytes) (l .walkPath) (l .walkBlocks) (l .walkScore)
 
 module _ (c : Input) (l : Lent) (x : Decoded) (after : Lent) (found info : List ℕ) (long : 512 ≤ length found) (wide : 512 ≤ length info) where
-  left-whole : (hook : Bool) → WholeRun (fitsFor hook) c l (x .counts) after → (word bits : List ℕ)
-      → WholeRun (fitsFor hook) c l (x .counts) (handing after word bits)
-  left-whole hook whole word bits =
-      whole-same (fitsFor hook) c l (x .counts) after (handing after word bits) refl refl refl whole
+  left-whole : (hook : Bool) → Yields hook c l x after found info → (word bits : List ℕ) → WholeRun (fitsFor hook) c l (x .counts) (handing after word bits)
+  left-whole hook y word bits =
+      whole-same (fitsFor hook) c l (attempted hook c l .lent) (handing after word bits) (ap (λ (z : Decoded). z .counts) (y .0)) (ap (λ (z : Lent). z .walkPath) (y .1)) (ap (λ (z : Lent). z .walkBlocks) (y .1))
+      (ap (λ (z : Lent). z .walkScore) (y .1)) (whole-attempt hook c l)
 
   module _ (y : Yields false c l x after found info) where
     plain-only : isDone (x .outcome) ≡ true → isDone (attempted false c l .answer .outcome) ≡ true
@@ -155,18 +152,18 @@ module _ (c : Input) (l : Lent) (x : Decoded) (after : Lent) (found info : List 
     pub plain-fits : isDone (x .outcome) ≡ true → (length (after .word) ≤ length found) × (length (after .bits) ≤ length info)
     plain-fits = give-fits (attempted false c l) (x .outcome) plain-only after (y .1) found info (y .2) long wide
 
-    pub plain-done : WholeRun (fitsFor false) c l (x .counts) after → (word bits : List ℕ) → word ≡ cond (isDone (x .outcome)) (part 0 (length (after .word)) found) (after .word)
+    pub plain-done : (word bits : List ℕ) → word ≡ cond (isDone (x .outcome)) (part 0 (length (after .word)) found) (after .word)
         → bits ≡ cond (isDone (x .outcome)) (part 0 (length (after .bits)) info) (after .bits)
         → PlainSaid c l x (handing after word bits)
     unfolding plainOf
-    plain-done whole word bits w b =
+    plain-done word bits w b =
         let a = attempted false c l in
         let h = sym (plain-handed c l) in
         plain-said c l (handing after word bits) x (y .0 ∙ ap (λ (z : Called Decoded). z .answer) h)
         (given-lent a (x .outcome) plain-only after (y .1) found info (y .2) word bits w b
         ∙ ap (λ (z : Decoded). handed (isDone (z .outcome)) (a .found) (a .lent)) (y .0)
         ∙ ap (λ (z : Called Decoded). z .lent) h)
-        (left-whole false whole word bits)
+        (left-whole false y word bits)
 
   module _ (y : Yields true c l x after found info) where
     -- the data found
@@ -193,11 +190,11 @@ module _ (c : Input) (l : Lent) (x : Decoded) (after : Lent) (found info : List 
       pub hook-fits : isDone (read .outcome) ≡ true → (length (after .word) ≤ length found) × (length (after .bits) ≤ length info)
       hook-fits = give-fits (attempted true c l) (read .outcome) hook-only after (y .1) found info (y .2) long wide
 
-      pub hook-done : WholeRun (fitsFor true) c l (x .counts) after → (word bits : List ℕ) → word ≡ cond (isDone (read .outcome)) (part 0 (length (after .word)) found) (after .word)
+      pub hook-done : (word bits : List ℕ) → word ≡ cond (isDone (read .outcome)) (part 0 (length (after .word)) found) (after .word)
           → bits ≡ cond (isDone (read .outcome)) (part 0 (length (after .bits)) info) (after .bits)
           → HookSaid c l (record { outcome = read .outcome; counts = x .counts; hook = read .hook }) (handing after word bits)
       unfolding hookOfAttempt
-      hook-done whole word bits w b =
+      hook-done word bits w b =
           let a = attempted true c l in
           let h = sym (hook-handed c l) in
           hook-said c l (handing after word bits) _
@@ -206,4 +203,4 @@ module _ (c : Input) (l : Lent) (x : Decoded) (after : Lent) (found info : List 
           (given-lent a (read .outcome) hook-only after (y .1) found info (y .2) word bits w b
           ∙ ap (λ (q : RecordRead). handed (isDone (q .outcome)) (a .found) (a .lent)) read-is
           ∙ ap (λ (z : Called HookDecoded). z .lent) h)
-          (left-whole true whole word bits)
+          (left-whole true y word bits)

@@ -20,38 +20,25 @@ use Rattle.queue.specs.Queue.{Step}
 use Rattle.machine.specs.Calls.{Input, Lent, Called, barred, noCounts, plainCall, plainRefused, hookCall, hookRefused}
 use Rattle.attempts.specs.Attempt.{fitsFor}
 use Rattle.attempts.specs.WholeRun.{machineRun, WholeRun}
-use Rattle.decoder.proofs.Handing.{plainOf, hookOfAttempt, handed, plain-handed, hook-handed}
 use Rattle.room.specs.Room.{few}
 use Rattle.steprecords.specs.declared.StepRecord.{StepRecord}
 use Rattle.steprecords.specs.Records.{recorded, copied}
 use Rattle.screen.specs.Screen.{stepsUnbarred, stepsWith, stepsOf, plainWithin, hookWithin, Fitting, recordsAfter, WholeWithin, WholeScreen}
 use Rattle.steprecords.proofs.Copied.{copied-recorded}
-use Rattle.screen.proofs.Extracted.{Left, left-extracted, left-fits}
+use Rattle.screen.proofs.Extracted.{Extracted, plain-extracted, hook-extracted, left-fits}
 
--- ---- what the covered call leaves: nothing is done where the records are too few, else what the attempt does
+-- ---- what the covered call leaves: nothing is done where the records are too few, else what the decoding call does
 pub record LeftWithin (hook : Bool) (c : Input) (l : Lent) (room : ℕ) (counts : Counts) (after : Lent) : Type 0 where
   pub none-made : few c room ≡ true → counts ≡ noCounts
-  pub left : few c room ≡ false → Left hook c l counts after
-
-pub plain-left : (c : Input) (l : Lent) → Left false c l (plainCall c l .answer .counts) (plainCall c l .lent)
-unfolding plainOf handed
-plain-left c l =
-    let e = plain-handed c l in
-    record { counted = ap (λ y. y .answer .counts) e; paths = ap (λ y. y .lent .walkPath) e; blocks = ap (λ y. y .lent .walkBlocks) e; scores = ap (λ y. y .lent .walkScore) e }
-
-hook-left : (c : Input) (l : Lent) → Left true c l (hookCall c l .answer .counts) (hookCall c l .lent)
-unfolding hookOfAttempt handed
-hook-left c l =
-    let e = hook-handed c l in
-    record { counted = ap (λ y. y .answer .counts) e; paths = ap (λ y. y .lent .walkPath) e; blocks = ap (λ y. y .lent .walkBlocks) e; scores = ap (λ y. y .lent .walkScore) e }
+  pub left : few c room ≡ false → Extracted (stepsOf hook c l) l (counts .extractions) after
 
 plain-within : (c : Input) (l : Lent) (room : ℕ) → LeftWithin false c l room (plainWithin c l room .answer .counts) (plainWithin c l room .lent)
 unfolding plainWithin plainRefused
-plain-within c l room = record { none-made = λ f. rw f refl; left = λ f. rw f (plain-left c l) }
+plain-within c l room = record { none-made = λ f. rw f refl; left = λ f. rw f (plain-extracted c l) }
 
 hook-within : (c : Input) (l : Lent) (room : ℕ) → LeftWithin true c l room (hookWithin c l room .answer .counts) (hookWithin c l room .lent)
 unfolding hookWithin hookRefused
-hook-within c l room = record { none-made = λ f. rw f refl; left = λ f. rw f (hook-left c l) }
+hook-within c l room = record { none-made = λ f. rw f refl; left = λ f. rw f (hook-extracted c l) }
 
 -- ---- the contracts of the covered calls: the answer, the buffers, a count that fits, and the whole run
 abbrev pub Leaves : Bool → Input → Lent → {R : Type 0} → (R → Counts) → Called R → ℕ → R → Lent → Type 0
@@ -77,7 +64,7 @@ module _ (c : Input) (l : Lent) (room : ℕ) where
   pub plain-enough : few c room ≡ false → (r : Decoded) (after : Lent) → r ≡ plainCall c l .answer → after ≡ plainCall c l .lent
       → WholeRun (fitsFor false) c l (r .counts) after → Leaves false c l (λ (r : Decoded). r .counts) (plainWithin c l room) room r after
   unfolding plainWithin WholeWithin
-  plain-enough f r after p q w = let fit = left-fits false c l (r .counts) after (rw (p, q) (plain-left c l)) room f in rw f (p, q, fit, λ _. w)
+  plain-enough f r after p q w = let fit = left-fits false c l (r .counts) after (rw (p, q) (plain-extracted c l)) room f in rw f (p, q, fit, λ _. w)
 
   pub hook-few : few c room ≡ true → (counts : Counts) → counts ≡ noCounts
       → Leaves true c l (λ (r : HookDecoded). r .counts) (hookWithin c l room) room (record { outcome = Refused Mismatch; counts = counts; hook = record { plant = 0; carcass = 0; side = 0; status = Passed } }) l
@@ -89,7 +76,7 @@ module _ (c : Input) (l : Lent) (room : ℕ) where
   pub hook-enough : few c room ≡ false → (r : HookDecoded) (after : Lent) → r ≡ hookCall c l .answer → after ≡ hookCall c l .lent
       → WholeRun (fitsFor true) c l (r .counts) after → Leaves true c l (λ (r : HookDecoded). r .counts) (hookWithin c l room) room r after
   unfolding hookWithin WholeWithin
-  hook-enough f r after p q w = let fit = left-fits true c l (r .counts) after (rw (p, q) (hook-left c l)) room f in rw f (p, q, fit, λ _. w)
+  hook-enough f r after p q w = let fit = left-fits true c l (r .counts) after (rw (p, q) (hook-extracted c l)) room f in rw f (p, q, fit, λ _. w)
 
 -- ---- the screen's calls
 module _ (hook : Bool) (c : Input) (l : Lent) where
@@ -106,7 +93,7 @@ module _ (hook : Bool) (c : Input) (l : Lent) where
     shown-recorded : few c (length old) ≡ false → shown ≡ recorded (stepsOf hook c l) old
     unfolding Fitting
     shown-recorded f =
-        let a = left-extracted hook c l counts after (x .left f) in
+        let a = x .left f in
         let few-enough : length (stepsOf hook c l) ≤ length old = omega (arith, a .counted, fit .0) in
         rw (a .paths, a .blocks, a .scores, a .counted) (copied-recorded (stepsOf hook c l) (l .walkPath) (l .walkBlocks) (l .walkScore) old few-enough)
 
@@ -123,7 +110,7 @@ module _ (hook : Bool) (c : Input) (l : Lent) where
     unfolding WholeScreen WholeWithin WholeRun
     shown-whole whole B e b f =
         let w = whole f B e b in
-        (w, shown-recorded f ∙ ap (λ (s : List Step). recorded s old) (ran-steps B e b ∙ sym (w .extractions)))
+        (w, shown-recorded f ∙ ap (λ (s : List Step). recorded s old) (ran-steps B e b ∙ sym (w .runs .steps)))
 
   -- what a call with records says
   abbrev pub Says : {R : Type 0} → (R → Counts) → Called R → List StepRecord → R → Lent → List StepRecord → Type 0

@@ -17,13 +17,13 @@ use Rattle.steprecords.specs.declared.StepRecord.{StepRecord}
 use Rattle.steprecords.specs.Records.{blank, nthRecord, recordAt}
 use Rattle.screen.specs.Screen.{stepsOf, plainStep, WholeStep}
 use Rattle.steprecords.proofs.Copied.{past, record-at}
-use Rattle.screen.proofs.Extracted.{Left, left-extracted, left-long}
-use Rattle.screen.proofs.Shown.{plain-left, ran-steps}
+use Rattle.screen.proofs.Extracted.{Extracted, plain-extracted, left-long}
+use Rattle.screen.proofs.Shown.{ran-steps}
 
 -- the call's answer and what it leaves
 module _ (c : Input) (l : Lent) (r : Decoded) (after : Lent) (p : r ≡ plainCall c l .answer) (q : after ≡ plainCall c l .lent) where
-  left : Left false c l (r .counts) after
-  left = rw (p, q) (plain-left c l)
+  left : Extracted (stepsOf false c l) l (r .counts .extractions) after
+  left = rw (p, q) (plain-extracted c l)
 
   pub step-fits : (r .counts .extractions ≤ length (after .walkPath)) × (r .counts .extractions ≤ length (after .walkBlocks)) × (r .counts .extractions ≤ length (after .walkScore))
   step-fits = left-long false c l (r .counts) after left
@@ -35,10 +35,10 @@ module _ (c : Input) (l : Lent) (r : Decoded) (after : Lent) (p : r ≡ plainCal
       where
         go : (b : Bool) → ltb i (r .counts .extractions) ≡ b → cond b (recordAt (after .walkPath) (after .walkBlocks) (after .walkScore) i) blank ≡ nthRecord (stepsOf false c l) i
         go true t =
-            let a = left-extracted false c l (r .counts) after left in
+            let a = left in
             rw (a .paths, a .blocks, a .scores) (record-at (stepsOf false c l) (l .walkPath) (l .walkBlocks) (l .walkScore) i (omega (arith, ltb-true i (r .counts .extractions) t, a .counted)))
         go false t =
-            let a = left-extracted false c l (r .counts) after left in
+            let a = left in
             past (stepsOf false c l) i (omega (arith, ltb-false i (r .counts .extractions) t, a .counted))
 
     answered : record { outcome = r .outcome; counts = r .counts; step = s } ≡ plainStep c l i .answer
@@ -52,7 +52,7 @@ module _ (c : Input) (l : Lent) (r : Decoded) (after : Lent) (p : r ≡ plainCal
     -- demand 3
     whole : WholeRun (fitsFor false) c l (r .counts) after → WholeStep c l i (r .counts) after s
     unfolding WholeStep WholeRun
-    whole w B f b = let a = w B f b in (a, stepped ∙ ap (λ (steps : List Step). nthRecord steps i) (ran-steps false c l B f b ∙ sym (a .extractions)))
+    whole w B f b = let a = w B f b in (a, stepped ∙ ap (λ (steps : List Step). nthRecord steps i) (ran-steps false c l B f b ∙ sym (a .runs .steps)))
 
     pub step-says : WholeRun (fitsFor false) c l (r .counts) after
         → (record { outcome = r .outcome; counts = r .counts; step = s } ≡ plainStep c l i .answer) × (after ≡ plainStep c l i .lent) × WholeStep c l i (r .counts) after s

@@ -18,7 +18,8 @@ use Rattle.queue.specs.Queue.{Step}
 use Rattle.machine.specs.Machine.{runOf}
 use Rattle.machine.specs.Calls.{Input, Lent, Called, barred, plainCall, plainRefused, hookCall, hookRefused}
 use Rattle.attempts.specs.Attempt.{fitsFor}
-use Rattle.attempts.specs.WholeRun.{readerRun, Agreed, WholeRun}
+use Rattle.attempts.specs.Reading.{readerRun}
+use Rattle.attempts.specs.WholeRun.{Agreed, WholeRun}
 use Rattle.room.specs.Room.{few}
 use Rattle.steprecords.specs.declared.StepRecord.{StepRecord}
 use Rattle.steprecords.specs.Records.{nthRecord, recorded}

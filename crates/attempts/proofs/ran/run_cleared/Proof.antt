@@ -9,7 +9,7 @@ use borrow.Author.Needs.{needs}
 use Rattle.heights.proofs.Spots.{spot-room}
 use Rattle.reading.specs.Running.{arraysOf, received, RanIs}
 use Rattle.reader.specs.Reader as R
-use Rattle.attempts.proofs.Ran.{all-cleared, deep-enough, ran-counts, ran-word}
+use Rattle.attempts.proofs.Cleared.{all-cleared, deep-enough, ran-counts, ran-word}
 use Rattle.attempts.proofs.ran.run_cleared.Statement.{statement}
 use Rattle.attempts.proofs.ran.run_cleared.Tie as tie
 

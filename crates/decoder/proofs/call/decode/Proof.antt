@@ -62,7 +62,7 @@ give-requires : tie.Need-give-requires
 give-requires c κs =
     let i = c .before .before .before .before in
     let t = made i in
-    plain-fits (call (start t)) (buffers (start t)) (t .attempt .result) (after t) (found t) (info t) (long i) (wide i) (t .attempt .ensures .0)
+    plain-fits (call (start t)) (buffers (start t)) (t .attempt .result) (after t) (found t) (info t) (long i) (wide i) (t .attempt .ensures)
 
 same-length : tie.Need-same-length
 same-length c = search needs
@@ -90,8 +90,8 @@ returns c =
     let g = c .before .before .before .before in
     let i = g .before .before .before .before .before in
     let t = made i in
-    plain-done (call (start t)) (buffers (start t)) (t .attempt .result) (after t) (found t) (info t) (long i) (wide i) (t .attempt .ensures .0)
-    (t .attempt .ensures .1) (g .give .last .1 .1 .1 .0) (g .give .last .1 .1 .1 .1 .0) (g .give .ensures .0) (g .give .ensures .1)
+    plain-done (call (start t)) (buffers (start t)) (t .attempt .result) (after t) (found t) (info t) (long i) (wide i) (t .attempt .ensures)
+    (g .give .last .1 .1 .1 .0) (g .give .last .1 .1 .1 .1 .0) (g .give .ensures .0) (g .give .ensures .1)
 
 pub decode-spec : {M : Type 1} → statement M
 decode-spec =

@@ -59,7 +59,7 @@ read-found-requires : tie.Need-read-found-requires
 read-found-requires c κs =
     let i = c .before in
     let t = made i in
-    read-fits (call (start t)) (buffers (start t)) (t .attempt .result) (after t) (found t) (info t) (long i) (wide i) (t .attempt .ensures .0)
+    read-fits (call (start t)) (buffers (start t)) (t .attempt .result) (after t) (found t) (info t) (long i) (wide i) (t .attempt .ensures)
 
 slice-aggregate-give : tie.Need-slice-aggregate-give
 slice-aggregate-give c = search needs
@@ -72,7 +72,7 @@ give-requires c κs =
     let r = c .before .before .before .before in
     let i = r .before .before in
     let t = made i in
-    hook-fits (call (start t)) (buffers (start t)) (t .attempt .result) (after t) (found t) (info t) (long i) (wide i) (t .attempt .ensures .0)
+    hook-fits (call (start t)) (buffers (start t)) (t .attempt .result) (after t) (found t) (info t) (long i) (wide i) (t .attempt .ensures)
     (r .read-found .result) (r .read-found .ensures)
 
 same-length : tie.Need-same-length
@@ -102,8 +102,8 @@ returns c =
     let r = g .before .before .before .before .before in
     let i = r .before .before in
     let t = made i in
-    hook-done (call (start t)) (buffers (start t)) (t .attempt .result) (after t) (found t) (info t) (long i) (wide i) (t .attempt .ensures .0)
-    (r .read-found .result) (r .read-found .ensures) (t .attempt .ensures .1) (g .give .last .1 .1 .1 .0) (g .give .last .1 .1 .1 .1 .0) (g .give .ensures .0) (g .give .ensures .1)
+    hook-done (call (start t)) (buffers (start t)) (t .attempt .result) (after t) (found t) (info t) (long i) (wide i) (t .attempt .ensures)
+    (r .read-found .result) (r .read-found .ensures) (g .give .last .1 .1 .1 .0) (g .give .last .1 .1 .1 .1 .0) (g .give .ensures .0) (g .give .ensures .1)
 
 pub decode-hook-spec : {M : Type 1} → statement M
 decode-hook-spec =
