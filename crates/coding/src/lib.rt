@@ -42,16 +42,7 @@ fn load_kinds(book: &[u8], kinds: &mut [u8; 512], terms: &mut [u32; 512]) -> Siz
     let mut heights = [0u8; 512];
     let mut starts = [0u16; 512];
     let mut biases = [0i32; 512];
-    let mut frees = [0u8; 512];
-    load_tables(
-        book,
-        kinds,
-        terms,
-        &mut heights,
-        &mut starts,
-        &mut biases,
-        &mut frees,
-    )
+    load_tables(book, kinds, terms, &mut heights, &mut starts, &mut biases)
 }
 
 // Whether two lengths are these.

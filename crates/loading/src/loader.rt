@@ -24,9 +24,8 @@ fn held(
     heights: [u8; 512],
     starts: [u16; 512],
     biases: [i32; 512],
-    frees: [u8; 512],
 )
-    ensures { λ _. ⌜ Sized (tables kinds terms heights starts biases frees) ⌝ }
+    ensures { λ _. ⌜ Sized (tables kinds terms heights starts biases) ⌝ }
 {}
 
 // The same of arrays behind references.
@@ -36,11 +35,10 @@ fn sized(
     heights: &[u8; 512],
     starts: &[u16; 512],
     biases: &[i32; 512],
-    frees: &[u8; 512],
 )
-    ensures { λ _. ⌜ Sized (tables (now (kinds .entry)) (now (terms .entry)) (now (heights .entry)) (now (starts .entry)) (now (biases .entry)) (now (frees .entry))) ⌝ }
+    ensures { λ _. ⌜ Sized (tables (now (kinds .entry)) (now (terms .entry)) (now (heights .entry)) (now (starts .entry)) (now (biases .entry))) ⌝ }
 {
-    held(*kinds, *terms, *heights, *starts, *biases, *frees);
+    held(*kinds, *terms, *heights, *starts, *biases);
 }
 
 // The answer of a refusal: zeros beside it.
@@ -80,12 +78,11 @@ pub fn load_tables(
     heights: &mut [u8; 512],
     starts: &mut [u16; 512],
     biases: &mut [i32; 512],
-    frees: &mut [u8; 512],
 ) -> Sizes
     ensures answer { λ r. ⌜ r ≡ sizesOf (load (now (book .entry))) ⌝ }
-    ensures filled { λ _. ⌜ Filled (load (now (book .entry))) (tables (now (kinds .entry)) (now (terms .entry)) (now (heights .entry)) (now (starts .entry)) (now (biases .entry)) (now (frees .entry))) (tables (now (kinds .exit)) (now (terms .exit)) (now (heights .exit)) (now (starts .exit)) (now (biases .exit)) (now (frees .exit))) ⌝ }
+    ensures filled { λ _. ⌜ Filled (load (now (book .entry))) (tables (now (kinds .entry)) (now (terms .entry)) (now (heights .entry)) (now (starts .entry)) (now (biases .entry))) (tables (now (kinds .exit)) (now (terms .exit)) (now (heights .exit)) (now (starts .exit)) (now (biases .exit))) ⌝ }
 {
-    sized(kinds, terms, heights, starts, biases, frees);
+    sized(kinds, terms, heights, starts, biases);
     let mut p = Progress {
         m: 0,
         n: 0,
@@ -101,7 +98,7 @@ pub fn load_tables(
         let Read::Found(c, next, whole) = read_command(book, at) else {
             return refuse(Refusal::Unknown);
         };
-        match obey(c, whole, p, kinds, terms, heights, starts, biases, frees) {
+        match obey(c, whole, p, kinds, terms, heights, starts, biases) {
             Step::Next(q) => {
                 p = q;
                 at = next;
@@ -126,7 +123,6 @@ pub fn load(book: &[u8]) -> Shape
     let mut heights = [0u8; 512];
     let mut starts = [0u16; 512];
     let mut biases = [0i32; 512];
-    let mut frees = [0u8; 512];
     let x = load_tables(
         book,
         &mut kinds,
@@ -134,7 +130,6 @@ pub fn load(book: &[u8]) -> Shape
         &mut heights,
         &mut starts,
         &mut biases,
-        &mut frees,
     );
     let outcome = x.outcome;
     Shape {

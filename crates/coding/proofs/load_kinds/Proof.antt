@@ -9,7 +9,7 @@ load-tables-requires c κs = search needs
 
 returns : tie.Need-returns
 returns c =
-    let s = c .before .before .before .before .before .before .before .before in
+    let s = c .before .before .before .before .before .before .before in
     (c .load-tables .ensures .0, λ B e. load-tabled (s .args .book .now) B _ _ e (c .load-tables .ensures .1))
 
 pub load-kinds-spec : {M : Type 1} → statement M

@@ -22,7 +22,7 @@ load-tables-requires : tie.Need-load-tables-requires
 load-tables-requires c κs = search needs
 
 returns : tie.Need-returns
-returns c = shape-sizes (load (now (c .before .before .before .before .before .before .before .before .args .book))) (c .load-tables .result) (c .load-tables .ensures .0)
+returns c = shape-sizes (load (now (c .before .before .before .before .before .before .before .args .book))) (c .load-tables .result) (c .load-tables .ensures .0)
 
 pub load-spec : {M : Type 1} → statement M
 load-spec = tie.close (tie.spec load-tables-requires returns)
