@@ -12,7 +12,8 @@ use obeying::obey;
 ghost use mathlib.Core.Path.{_≡_};
 ghost use mathlib.Core.Bool.{cond};
 ghost use Prim.Native.Nat.{_<_};
-ghost use Rattle.codebook.specs.Loading.{load, refused, shapeOf};
+ghost use Rattle.codebook.specs.Refusals.{outcomeNumber};
+ghost use Rattle.codebook.specs.Loading.{load, refused, shapeOf, numberBy};
 ghost use Rattle.codebook.specs.Tables.{sizesOf, Filled};
 ghost use Rattle.codebook.specs.Progress.{Sized, tables, sizesAt};
 
@@ -117,6 +118,7 @@ pub fn load_tables(
 // Loads a book: the answer alone.
 pub fn load(book: &[u8]) -> Shape
     ensures { λ r. ⌜ r ≡ shapeOf (load (now (book .entry))) ⌝ }
+    ensures number { λ r. ⌜ outcomeNumber (r .outcome) ≡ numberBy (load (now (book .entry))) (λ _. 0) ⌝ }
 {
     let mut kinds = [0u8; 512];
     let mut terms = [0u32; 512];

@@ -1,4 +1,4 @@
--- `codec::call::load_kinds` meets its contract: the loader's tables hold a loaded book's kinds. Assumes nothing.
+-- `coding::load_kinds` meets its contract: the loader's tables hold a loaded book's kinds. Assumes nothing.
 use borrow.Author.Needs.{needs}
 use Rattle.coding.proofs.Told.{load-tabled}
 use Rattle.coding.proofs.load_kinds.Statement.{statement}
