@@ -40,6 +40,13 @@ module _ (book c : List ℕ) where
           let (x, y) = read-data B c ok w h in
           (readData B c, encode-wrote B (readData B c) c x w y ∙ ap wrote (in-encode B c ok w h i))
 
+  -- a word that can be tested, and that no data encode to, tests no
+  none-no : Testable book c → ((ds : List ℕ) → EncodesTo book ds c → ⊥) → testCall book c ≡ NotInCode
+  unfolding testCall
+  none-no x f =
+      let p : testCall book c ≡ testWith (loaded (x .is)) c = ap (λ l. testWith l c) (x .loads) in
+      p ∙ test-out (x .is) c (x .size) (x .bits) (λ t. let (ds, e) = yes-encoded (p ∙ test-in (x .is) c (x .size) (x .bits) t) in f ds e)
+
   not-both : (t : Tested) → t ≡ InCode → t ≡ NotInCode → ⊥
   not-both t p q = let z : _≡_ {A = ℕ} 0 1 = cc in omega arith
 
@@ -51,13 +58,6 @@ module _ (book c : List ℕ) where
       go : (l : Load) → load book ≡ l → testWith l c ≡ NotInCode → Testable book c
       go (refused r) e q = absurd (not-said-no r q)
       go (loaded B) e q = let (w, h) = test-no B c q in record { is = B; loads = e; size = w; bits = h }
-
-  -- where it can be tested and no data encode to it, it tests no
-  none-no : Testable book c → ((ds : List ℕ) → EncodesTo book ds c → ⊥) → testCall book c ≡ NotInCode
-  unfolding testCall
-  none-no x f =
-      let p : testCall book c ≡ testWith (loaded (x .is)) c = ap (λ l. testWith l c) (x .loads) in
-      p ∙ test-out (x .is) c (x .size) (x .bits) (λ t. let (ds, e) = yes-encoded (p ∙ test-in (x .is) c (x .size) (x .bits) t) in f ds e)
 
   pub tested-exactly : TestedExactly book c (testCall book c)
   tested-exactly =
