@@ -276,7 +276,7 @@ returns-2 c =
       λ r.
           let o = x .run-cleared .ensures .1 (ready-running r (a .visits) (a .paths)) in
           let f = kinds-fit x r in
-          let free = d .data-of .ensures (r .book .kinds) (r .tables .booked .tabled .coded) (f .0) (f .1) in (
+          let free = d .data-of .ensures .0 (r .book .kinds) (r .tables .booked .tabled .coded) (f .0) (f .1) in (
             below r (a .visits) (a .paths) (s .pre .0 .0) (arrays s) (root s r) (a .limit) (x .run-cleared .result) (o .0) (e .if1 .left),
             o .2,
             o .3,
