@@ -1,10 +1,10 @@
 /*
- * The nearest word of a block: the proved search beside a plain C loop over XORed words, and beside that loop with costs by half bytes, on the
- * same values, turn by turn in the same run; then the proved pair, the nearest word and the next. A block of 32 with 8 free indices and 0, 8 or
+ * The nearest word of a block and the next: the proved search that the reader calls beside a plain C loop over XORed words, and beside that loop with
+ * costs by half bytes, which look for the nearest alone, on the same values, turn by turn in the same run. A block of 32 with 8 free indices and 0, 8 or
  * 16 tied ones, a block of 8 with 8 free ones, and one of 8 with a tied index and 7 free ones. Prints the nanoseconds that a search takes, the
  * median of 15 turns of each, and the ratios; exits with 1 where a word differs. The C loops are given, before the clock starts, the word of
- * no free bit and the word that each free bit alone adds, ties followed, and answer a number; the proved searches go by the loader's tables in
- * every call, and answer the number, the cost, the setting and the parities after it.
+ * no free bit and the word that each free bit alone adds, ties followed, and answer a number; the proved search goes by the loader's tables in
+ * every call, and answers of both words the number, the cost, the setting and the parities after it.
  */
 #include <stdint.h>
 #include <stdio.h>
@@ -12,9 +12,9 @@
 #include <time.h>
 
 typedef void search(const int32_t *numbers, size_t count, size_t at, const uint8_t *kinds, const uint32_t *terms, size_t start, uint32_t j,
-                    uint32_t parities, uint32_t *words, uint32_t *sets, uint32_t *sums, uint32_t *out);
+                    uint32_t parities, uint32_t *words, uint32_t *sums, uint32_t *out);
 
-search measured_nearest, measured_pair;
+search measured_pair;
 
 enum { BLOCKS = 512, LONGEST = 32, MOST = 8, TURNS = 15, ROUNDS = 20 };
 
@@ -22,7 +22,7 @@ enum { BLOCKS = 512, LONGEST = 32, MOST = 8, TURNS = 15, ROUNDS = 20 };
 
 static int32_t numbers[BLOCKS * LONGEST];
 static uint8_t kinds[512];
-static uint32_t terms[512], words[256], sets[256], sums[128];
+static uint32_t terms[512], words[256], sums[128];
 static uint32_t expected[BLOCKS], following[BLOCKS], out[8];
 
 static uint32_t state = 20261115;
@@ -158,7 +158,7 @@ static void make_short(unsigned ties, uint32_t *rows)
 /* Measures one block: the parities before it make `first` the word of no free bit. */
 INLINE int measure(const char *name, const uint32_t *rows, uint32_t parities, uint32_t first, uint32_t j, unsigned free)
 {
-    double plain[TURNS], table[TURNS], proved[TURNS], pair[TURNS];
+    double plain[TURNS], table[TURNS], proved[TURNS];
     const unsigned length = 1u << j, settings = 1u << free;
     int differ = 0;
     for (unsigned b = 0; b < BLOCKS; b++) {
@@ -177,25 +177,18 @@ INLINE int measure(const char *name, const uint32_t *rows, uint32_t parities, ui
         double n = now();
         for (unsigned r = 0; r < ROUNDS; r++)
             for (unsigned b = 0; b < BLOCKS; b++) {
-                measured_nearest(numbers, BLOCKS * LONGEST, b * length, kinds, terms, 0, j, parities, words, sets, sums, out);
-                differ |= out[0] != expected[b];
-            }
-        double o = now();
-        for (unsigned r = 0; r < ROUNDS; r++)
-            for (unsigned b = 0; b < BLOCKS; b++) {
-                measured_pair(numbers, BLOCKS * LONGEST, b * length, kinds, terms, 0, j, parities, words, sets, sums, out);
+                measured_pair(numbers, BLOCKS * LONGEST, b * length, kinds, terms, 0, j, parities, words, sums, out);
                 differ |= out[0] != expected[b] || out[4] != following[b];
             }
         double z = now();
         plain[t] = (m - a) / (ROUNDS * BLOCKS);
         table[t] = (n - m) / (ROUNDS * BLOCKS);
-        proved[t] = (o - n) / (ROUNDS * BLOCKS);
-        pair[t] = (z - o) / (ROUNDS * BLOCKS);
+        proved[t] = (z - n) / (ROUNDS * BLOCKS);
     }
-    double a = median(plain), b = median(table), c = median(proved), d = median(pair);
-    printf("%-19s: plain C loop %5.0f ns, C loop with table %5.0f ns, proved search %5.0f ns, proved pair %5.0f ns; search %.2f to the plain loop, "
+    double a = median(plain), b = median(table), c = median(proved);
+    printf("%-19s: plain C loop %5.0f ns, C loop with table %5.0f ns, proved search %5.0f ns; %.2f to the plain loop, "
            "%.2f to the table\n",
-           name, a, b, c, d, c / a, c / b);
+           name, a, b, c, c / a, c / b);
     if (differ)
         printf("a word differs\n");
     return differ;

@@ -26,7 +26,6 @@ extern "C" {
         heights: *mut u8,
         starts: *mut u16,
         biases: *mut i32,
-        frees: *mut u8,
     ) -> u32;
     fn measured_run(
         m: usize,
@@ -62,7 +61,6 @@ struct Proved {
     heights: [u8; 512],
     starts: [u16; 512],
     biases: [i32; 512],
-    frees: [u8; 512],
     numbers: Vec<i32>,
     bytes: Vec<u8>,
     walk: [Vec<i32>; 3],
@@ -78,7 +76,6 @@ impl Proved {
             heights: [0; 512],
             starts: [0; 512],
             biases: [0; 512],
-            frees: [0; 512],
             numbers: vec![77; numbers],
             bytes: vec![77; bytes],
             walk: [vec![0; entries], vec![0; entries], vec![0; entries]],
@@ -96,7 +93,6 @@ impl Proved {
                 self.heights.as_mut_ptr(),
                 self.starts.as_mut_ptr(),
                 self.biases.as_mut_ptr(),
-                self.frees.as_mut_ptr(),
             )
         } as usize;
     }

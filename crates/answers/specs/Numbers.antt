@@ -1,5 +1,4 @@
--- The numbers of answers that are no plain outcome: of a slice that is lent at a wrong length, where 7 stands in the table's order, and of a test. Assumes
--- nothing.
+-- The number of a slice that is lent at a wrong length, where 7 stands in the table's order. Assumes nothing.
 use mathlib.Core.Bool.{cond}
 use Prim.Native.Nat.{ℕ}
 use Rattle.codebook.specs.declared.Outcome.{Outcome}
@@ -7,8 +6,6 @@ use Rattle.codebook.specs.declared.Outcome.the-variants.{Done, Refused}
 use Rattle.codebook.specs.declared.Refusal.the-variants.{Mismatch, BadSetting}
 use Rattle.codebook.specs.Refusals.{refusalNumber}
 use Rattle.codebook.specs.Loading.{Load, refused, loaded, load}
-use Rattle.codec.specs.declared.Tested.{Tested}
-use Rattle.codec.specs.declared.Tested.the-variants.{InCode, NotInCode, Refused as NotTested}
 use Rattle.machine.specs.Calls.{Input, settingsOk}
 
 -- the number where shape or record are lent at a wrong length: the book's fault, else 7
@@ -24,9 +21,3 @@ decodingMismatchWith (loaded B) c = cond (settingsOk c) (refusalNumber Mismatch)
 -- that number of a call
 unfoldable pub decodingMismatch : Input → ℕ
 decodingMismatch c = decodingMismatchWith (load (c .book)) c
-
--- test: 0 in the code, 255 not in the code, else the refusal
-abbrev pub testedNumber : Tested → ℕ
-testedNumber InCode = 0
-testedNumber NotInCode = 255
-testedNumber (NotTested r) = refusalNumber r

@@ -1,5 +1,5 @@
 // The numbers of answers that are no plain outcome: of a slice lent at a wrong length, and of a test. Relies on the crates loading, checks and codebook;
-// specs/Numbers.antt says what each number is.
+// specs/Numbers.antt says what the first is, codec/specs/Numbers the second.
 use checks::Checked;
 use checks::Settings;
 use codebook::Outcome;
@@ -9,7 +9,8 @@ use loading::load;
 ghost use mathlib.Core.Path.{_≡_};
 ghost use mathlib.Core.List.{[]};
 ghost use Rattle.machine.specs.Calls.{given};
-ghost use Rattle.answers.specs.Numbers.{lengthMismatch, decodingMismatch, testedNumber};
+ghost use Rattle.codec.specs.Numbers.{testedNumber};
+ghost use Rattle.answers.specs.Numbers.{lengthMismatch, decodingMismatch};
 
 // The number where shape or record have a wrong length, by what loading comes to.
 pub fn length_mismatch(o: Outcome) -> u32

@@ -159,7 +159,6 @@ pub fn attempt(
     let mut heights = [0u8; 512];
     let mut starts = [0u16; 512];
     let mut biases = [0i32; 512];
-    let mut frees = [0u8; 512];
     let x = load_tables(
         book,
         &mut kinds,
@@ -167,7 +166,6 @@ pub fn attempt(
         &mut heights,
         &mut starts,
         &mut biases,
-        &mut frees,
     );
     let outcome = x.outcome;
     if let Outcome::Refused(r) = outcome {

@@ -12,8 +12,8 @@ ghost use mathlib.Core.Path.{_≡_};
 ghost use Rattle.codebook.specs.Refusals.{outcomeNumber};
 ghost use Rattle.codec.specs.Record.{statusOf};
 ghost use Rattle.codec.specs.Calls.{encodeCall, testCall, readDataCall};
+ghost use Rattle.codec.specs.Numbers.{testedNumber};
 ghost use Rattle.machine.specs.Calls.{given, lent};
-ghost use Rattle.answers.specs.Numbers.{testedNumber};
 ghost use Rattle.numbered.specs.Answers.{loadAnswer, makeRecordWrote, readRecordAnswer};
 ghost use Rattle.slices.specs.Slices.{plainAnswered, hookAnswered};
 

@@ -15,6 +15,8 @@ impl Settings {
 
     pub const MOST_PATHS: u32 = 256;
 
+    pub const LEAST_LIMIT: u32 = 0;
+
     pub const MOST_LIMIT: u32 = 1048576;
 
     // The settings with these numbers, if each is in its range.
@@ -27,7 +29,7 @@ impl Settings {
         if paths < Settings::LEAST_PATHS || Settings::MOST_PATHS < paths {
             return Checked::Bad(Refusal::BadSetting);
         }
-        if Settings::MOST_LIMIT < limit {
+        if limit < Settings::LEAST_LIMIT || Settings::MOST_LIMIT < limit {
             return Checked::Bad(Refusal::BadSetting);
         }
         Checked::Good(Settings {

@@ -14,7 +14,7 @@ use Rattle.laws.specs.Lists.{tab, over}
 use Rattle.laws.proofs.Lists.{length-tab, tab-last, over-last, over-length}
 use Rattle.codebook.specs.declared.Progress.{Progress}
 use Rattle.codebook.specs.declared.Command.the-variants.{Block as NextBlock}
-use Rattle.codebook.specs.Book.{Kind, free, frozen, tied, Block, freeCount, startOf, blockAt, kindsOf}
+use Rattle.codebook.specs.Book.{Kind, free, frozen, tied, Block, freeCount, startOf}
 use Rattle.codebook.specs.Loading.{Loading, total, next, bookOf}
 use Rattle.codebook.specs.Tables.{Tables, kindCodes}
 use Rattle.codebook.specs.Progress.{HoldsLoaded, tables, freeCodes}
@@ -44,15 +44,6 @@ module _ (p : Progress) (t old : Tables) (s : Loading) (h : HoldsLoaded p t old 
   abbrev x : Block
   x = record { j = j; bias = bias }
 
-  -- the kinds of the blocks before it stay
-  kinds-before : (b : ℕ) → b < length (s .blocks) → kindsOf (bookOf s) b ≡ kindsOf (bookOf (next s (NextBlock j bias))) b
-  unfolding kindsOf blockAt bookOf next
-  kinds-before b l = rw (List·getD-append (s .blocks) (x ∷ []) noBlock b l, start-append (s .blocks) (x ∷ []) b (omega arith))
-
-  kinds-there : kindsOf (bookOf (next s (NextBlock j bias))) (length (s .blocks)) ≡ take (2 ^ j) (drop (s .covered) (s .kinds))
-  unfolding kindsOf blockAt bookOf next
-  kinds-there = rw (getD-at (s .blocks) x [] noBlock (length (s .blocks)) refl, start-append (s .blocks) (x ∷ []) (length (s .blocks)) (omega arith), h .counts .start)
-
   -- the free codes of its part of the kinds' table
   pub block-free : (count : ℕ) → p .filled ≡ p .n → p .covered + 2 ^ j ≤ p .n → (length (t .kinds) ≡ 512 → count ≡ freeCodes (take (2 ^ j) (drop (p .covered) (t .kinds)))) → count ≡ freeCount (take (2 ^ j) (drop (s .covered) (s .kinds)))
   unfolding over
@@ -65,7 +56,7 @@ module _ (p : Progress) (t old : Tables) (s : Loading) (h : HoldsLoaded p t old 
 
   pub block-holds : (count : ℕ) → length (s .kinds) ≡ total s → p .covered + 2 ^ j ≤ p .n → p .covered < p .n → count ≡ freeCount (take (2 ^ j) (drop (s .covered) (s .kinds)))
       → HoldsLoaded (record { m = p .m; n = p .n; filled = p .filled; ties = p .ties; tying = false; free = p .free + count; blocks = p .blocks + 1; covered = p .covered + 2 ^ j })
-      (tables (t .kinds) (t .terms) (set (t .heights) (p .blocks) j) (set (t .starts) (p .blocks) (p .covered)) (set (t .biases) (p .blocks) bias) (set (t .frees) (p .blocks) count))
+      (tables (t .kinds) (t .terms) (set (t .heights) (p .blocks) j) (set (t .starts) (p .blocks) (p .covered)) (set (t .biases) (p .blocks) bias))
       old (next s (NextBlock j bias))
   unfolding next total
   block-holds count all room below e =
@@ -113,8 +104,4 @@ module _ (p : Progress) (t old : Tables) (s : Loading) (h : HoldsLoaded p t old 
             ap (λ l. set l (p .blocks) bias) (h .biases)
             ∙ over-last (map (λ (y : Block). y .bias) bs) (old .biases) bias (p .blocks) (length-map bs (λ (y : Block). y .bias) ∙ sym (c .blocks)) (omega (arith, h .sized .biases))
             ∙ ap (λ l. over l (old .biases)) (sym (map-append (λ (y : Block). y .bias) bs (x ∷ [])));
-        frees =
-            ap (λ l. set l (p .blocks) count) (h .frees)
-            ∙ over-last (tab (length bs) (λ b. freeCount (kindsOf (bookOf s) b))) (old .frees) count (p .blocks) (length-tab (length bs) _ ∙ sym (c .blocks)) (omega (arith, h .sized .frees))
-            ∙ ap (λ l. over l (old .frees)) (rw more (sym (tab-last (length bs) (λ b. freeCount (kindsOf (bookOf s) b)) (λ b. freeCount (kindsOf (bookOf (next s (NextBlock j bias))) b)) count (λ b l. ap freeCount (kinds-before b l)) (ap freeCount kinds-there ∙ sym e))));
       }

@@ -12,7 +12,7 @@ use Rattle.codebook.specs.declared.Outcome.the-variants.{Done, Refused}
 use Rattle.codebook.specs.declared.Command.{Command}
 use Rattle.codebook.specs.declared.Command.the-variants.{Length, Free, Zero, Tie, Term, Block as NextBlock, End}
 use Rattle.codebook.specs.declared.Shape.{Shape}
-use Rattle.codebook.specs.Refusals.{unless}
+use Rattle.codebook.specs.Refusals.{refusalNumber, unless}
 use Rattle.codebook.specs.Book.{Kind, free, frozen, tied, Block, Book, freeCount}
 
 -- ---- the commands
@@ -193,3 +193,8 @@ load bytes = loadFrom (length bytes) start bytes
 unfoldable pub shapeOf : Load → Shape
 shapeOf (refused r) = record { outcome = Refused r; n = 0; k = 0; blocks = 0 }
 shapeOf (loaded B) = record { outcome = Done; n = 2 ^ (B .m); k = freeCount (B .kinds); blocks = length (B .blocks) }
+
+-- the number of a call on a book: that of the refusal where it does not load, else what the call's own tests come to
+unfoldable pub numberBy : Load → (Book → ℕ) → ℕ
+numberBy (refused r) own = refusalNumber r
+numberBy (loaded B) own = own B

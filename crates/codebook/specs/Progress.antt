@@ -21,7 +21,7 @@ use Rattle.codebook.specs.declared.Progress.{Progress}
 use Rattle.codebook.specs.declared.Step.{Step}
 use Rattle.codebook.specs.declared.Step.the-variants.{Next, End as Ended, Refused}
 use Rattle.codebook.specs.Refusals.{unless}
-use Rattle.codebook.specs.Book.{Kind, free, frozen, tied, Block, freeCount, tiedCount, startOf, kindsOf}
+use Rattle.codebook.specs.Book.{Kind, free, frozen, tied, Block, freeCount, tiedCount, startOf}
 use Rattle.codebook.specs.Loading.{Loading, total, lastTerms, listed, width, command, placed, fault, next, bookOf}
 use Rattle.codebook.specs.Tables.{Tables, kindCodes, tieSet}
 
@@ -91,7 +91,6 @@ pub record Sized (t : Tables) : Type 0 where
   pub heights : length (t .heights) ≡ 512
   pub starts : length (t .starts) ≡ 512
   pub biases : length (t .biases) ≡ 512
-  pub frees : length (t .frees) ≡ 512
 
 -- the tables t, which were old at first, are those of what is loaded, as far as it goes
 pub record HoldsLoaded (p : Progress) (t old : Tables) (s : Loading) : Type 0 where
@@ -102,7 +101,6 @@ pub record HoldsLoaded (p : Progress) (t old : Tables) (s : Loading) : Type 0 wh
   pub heights : t .heights ≡ over (map (λ (x : Block). x .j) (s .blocks)) (old .heights)
   pub starts : t .starts ≡ over (tab (length (s .blocks)) (startOf (s .blocks))) (old .starts)
   pub biases : t .biases ≡ over (map (λ (x : Block). x .bias) (s .blocks)) (old .biases)
-  pub frees : t .frees ≡ over (tab (length (s .blocks)) (λ b. freeCount (kindsOf (bookOf s) b))) (old .frees)
 
 -- the sizes of a book that is loaded
 unfoldable pub sizesAt : Progress → Sizes
@@ -137,13 +135,13 @@ blockFits start n j bias = leb j 5 && eqb (start % 2 ^ j) 0 && leb (start + 2 ^ 
 
 -- ---- parts of the tables
 
--- the six tables as one record
-abbrev pub tables : List ℕ → List ℕ → List ℕ → List ℕ → List ℤ → List ℕ → Tables
-tables kinds terms heights starts biases frees = record { kinds = kinds; terms = terms; heights = heights; starts = starts; biases = biases; frees = frees }
+-- the five tables as one record
+abbrev pub tables : List ℕ → List ℕ → List ℕ → List ℕ → List ℤ → Tables
+tables kinds terms heights starts biases = record { kinds = kinds; terms = terms; heights = heights; starts = starts; biases = biases }
 
 -- tables with other kinds and sets of ties
 abbrev pub withIndices : Tables → List ℕ → List ℕ → Tables
-withIndices t kinds terms = tables kinds terms (t .heights) (t .starts) (t .biases) (t .frees)
+withIndices t kinds terms = tables kinds terms (t .heights) (t .starts) (t .biases)
 
 -- after: what before becomes as the values vs are written behind the first ones, whatever these are
 unfoldable pub Extends : {A : Type 0} → List A → List A → ℕ → List A → Type 0

@@ -1,8 +1,7 @@
--- The refusals' numbers and words: document 01, "Refusal table". Assumes nothing.
+-- The refusals' numbers: document 01, "Refusal table". Assumes nothing.
 use mathlib.Core.Bool.{Bool, true, false}
 use mathlib.Core.Option.{Option, some}
 use Prim.Native.Nat.{ℕ}
-use Prim.Native.String.{String}
 use Rattle.codebook.specs.declared.Refusal.{Refusal}
 use Rattle.codebook.specs.declared.Refusal.the-variants.{Truncated, Unknown, Misplaced, OutOfRange, TooManyTied, TooManyFree, Mismatch, BadSetting, BadValue, AboveLimit, Unreadable}
 use Rattle.codebook.specs.declared.Outcome.{Outcome}
@@ -22,20 +21,6 @@ refusalNumber BadValue = 9
 refusalNumber AboveLimit = 10
 refusalNumber Unreadable = 11
 
--- the trade's word for it
-unfoldable pub word : Refusal → String
-word Truncated = "short"
-word Unknown = "strange"
-word Misplaced = "misplaced"
-word OutOfRange = "off range"
-word TooManyTied = "overtied"
-word TooManyFree = "heavy"
-word Mismatch = "misfit"
-word BadSetting = "bad setting"
-word BadValue = "bad value"
-word AboveLimit = "faint"
-word Unreadable = "unreadable"
-
 -- an outcome's number: 0, or the refusal's
 abbrev pub outcomeNumber : Outcome → ℕ
 outcomeNumber Done = 0
@@ -45,3 +30,8 @@ outcomeNumber (Refused r) = refusalNumber r
 unfoldable pub unless : Bool → Refusal → Option Refusal → Option Refusal
 unless true r other = other
 unless false r other = some r
+
+-- the same in numbers: n where the test fails, else what comes after it
+unfoldable pub unlessNumber : Bool → ℕ → ℕ → ℕ
+unlessNumber true n other = other
+unlessNumber false n other = n

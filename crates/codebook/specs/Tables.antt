@@ -8,7 +8,7 @@ use lib.IntN.{ℤ}
 use Rattle.laws.specs.Lists.{tab, over}
 use Rattle.codebook.specs.declared.Outcome.the-variants.{Done, Refused}
 use Rattle.codebook.specs.declared.Sizes.{Sizes}
-use Rattle.codebook.specs.Book.{Kind, free, frozen, tied, Block, Book, freeCount, startOf, kindsOf}
+use Rattle.codebook.specs.Book.{Kind, free, frozen, tied, Block, Book, freeCount, startOf}
 use Rattle.codebook.specs.Loading.{Load, refused, loaded, member}
 
 -- the codes of kinds, after so many ties: 0 is free, 1 zero, 2 + t the t-th tie
@@ -25,14 +25,13 @@ tieSet t (free ∷ ks) i = tieSet t ks i
 tieSet t (frozen ∷ ks) i = tieSet t ks i
 tieSet t (tied terms ∷ ks) i = cond (member i terms) (2 ^ t) 0 + tieSet (suc t) ks i
 
--- for each index its kind's code and its set of ties; for each block its j, start, bias and number of free indices
+-- for each index its kind's code and its set of ties; for each block its j, start and bias
 pub record Tables : Type 0 where
   pub kinds : List ℕ
   pub terms : List ℕ
   pub heights : List ℕ
   pub starts : List ℕ
   pub biases : List ℤ
-  pub frees : List ℕ
 
 -- the tables of a book
 unfoldable pub tablesOf : Book → Tables
@@ -44,7 +43,6 @@ tablesOf B =
       heights = map (λ (x : Block). x .j) (B .blocks);
       starts = tab blocks (startOf (B .blocks));
       biases = map (λ (x : Block). x .bias) (B .blocks);
-      frees = tab blocks (λ b. freeCount (kindsOf B b));
     }
 
 -- tables written over the start of others
@@ -56,7 +54,6 @@ overlaid new old =
       heights = over (new .heights) (old .heights);
       starts = over (new .starts) (old .starts);
       biases = over (new .biases) (old .biases);
-      frees = over (new .frees) (old .frees);
     }
 
 -- what loading leaves in the tables: a book's are written over what they held; nothing is said of them where loading is refused, and no

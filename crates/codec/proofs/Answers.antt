@@ -48,6 +48,10 @@ not-done r e = let z : _≡_ {A = ℕ} 0 1 = cc in omega arith
 pub not-in-code : (r : Refusal) → NotTested r ≡ InCode → ⊥
 not-in-code r e = let z : _≡_ {A = ℕ} 0 1 = cc in omega arith
 
+-- a refused test does not say no
+pub not-said-no : (r : Refusal) → NotTested r ≡ NotInCode → ⊥
+not-said-no r e = let z : _≡_ {A = ℕ} 0 1 = cc in omega arith
+
 answer-in : (b : Bool) → T b → cond b InCode NotInCode ≡ InCode
 answer-in true t = refl
 answer-in false t = absurd t
@@ -55,6 +59,10 @@ answer-in false t = absurd t
 answer-out : (b : Bool) → cond b InCode NotInCode ≡ InCode → T b
 answer-out true e = tt
 answer-out false e = let z : _≡_ {A = ℕ} 0 1 = cc in omega arith
+
+answer-no : (b : Bool) → (T b → ⊥) → cond b InCode NotInCode ≡ NotInCode
+answer-no true f = absurd (f tt)
+answer-no false f = refl
 
 -- a record that is read is the record of the bits
 pub hook-out : (o : Option HookRecord) → recordRead o .outcome ≡ Done → o ≡ some (recordRead o .hook)
@@ -117,6 +125,16 @@ module _ (B : Book) where
   pub test-in : (c : List ℕ) → length c ≡ 2 ^ (B .m) → All Bit c → T (inCode B c) → testWith (loaded B) c ≡ InCode
   unfolding testWith
   test-in c w h t = both-in (wordFits B c) (areBits c) _ _ (word-in c w) (bits-in c h) ∙ answer-in (inCode B c) t
+
+  pub test-no : (c : List ℕ) → testWith (loaded B) c ≡ NotInCode → (length c ≡ 2 ^ (B .m)) × All Bit c
+  unfolding testWith
+  test-no c e =
+      let (s, t, _) = both-out (λ (r : Tested). r ≡ NotInCode) (wordFits B c) (areBits c) (not-said-no BadValue) (not-said-no Mismatch) e in
+      (word-out c s, bits-out c t)
+
+  pub test-out : (c : List ℕ) → length c ≡ 2 ^ (B .m) → All Bit c → (T (inCode B c) → ⊥) → testWith (loaded B) c ≡ NotInCode
+  unfolding testWith
+  test-out c w h f = both-in (wordFits B c) (areBits c) _ _ (word-in c w) (bits-in c h) ∙ answer-no (inCode B c) f
 
   -- ---- read data
 

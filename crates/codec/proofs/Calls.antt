@@ -24,7 +24,7 @@ use Rattle.codec.proofs.Answers.{IsDone, not-done, not-in-code, hook-ou
 use Rattle.codec.proofs.Answers.{encode-done, encode-wrote, test-yes, test-in, read-done, read-wrote, make-done, make-wrote, record-done, record-read}
 
 -- what holds of every refusal and of every book within the limits holds of the loading of any bytes
-by-load : (P : Load → Type 0) → ((r : Refusal) → P (refused r)) → ((B : Book) → Valid B → P (loaded B)) → (book : List ℕ) → P (load book)
+pub by-load : (P : Load → Type 0) → ((r : Refusal) → P (refused r)) → ((B : Book) → Valid B → P (loaded B)) → (book : List ℕ) → P (load book)
 by-load P f g book = go (load book) refl
   where
     go : (l : Load) → load book ≡ l → P l

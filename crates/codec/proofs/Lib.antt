@@ -4,6 +4,8 @@ pub mod Digits
 pub mod Record
 pub mod Answers
 pub mod Calls
+pub mod Numbers
+pub mod Testing
 pub mod Ties
 pub mod TieSets
 pub mod Turns

@@ -1,6 +1,6 @@
 -- What loading tells the calls: by its outcome a refusal or a book, with the book's sizes, and the tables of its kinds. And what
 -- each call answers by its tests. Assumes nothing.
-use mathlib.Core.Path.{_≡_, refl, sym, ap, _∙_}
+use mathlib.Core.Path.{_≡_, refl, sym, ap, _∙_, subst}
 use mathlib.Core.Bool.{Bool, true, false, cond, _&&_}
 use mathlib.Core.List.{List}
 use Prim.Native.Nat.{ℕ, _^_, _≤_}
@@ -19,6 +19,7 @@ use Rattle.codebook.specs.declared.Outcome.{Outcome}
 use Rattle.codebook.specs.declared.Outcome.the-variants.{Done, Refused}
 use Rattle.codebook.specs.declared.Sizes.{Sizes}
 use Rattle.codebook.specs.declared.Shape.{Shape}
+use Rattle.codebook.specs.Refusals.{outcomeNumber}
 use Rattle.codebook.specs.Book.{Book, freeCount}
 use Rattle.codebook.specs.Limits.{Valid}
 use Rattle.codebook.specs.Loading.{Load, refused, loaded, load, shapeOf}
@@ -26,6 +27,8 @@ use Rattle.codebook.specs.Tables.{Tables, kindCodes, tieSet, tablesOf, overlaid
 use Rattle.codebook.proofs.Loaded.{loaded-valid}
 use Rattle.codebook.proofs.Codes.{codes-length}
 use Rattle.codec.specs.declared.HookRecord.{HookRecord}
+use Rattle.codec.specs.declared.RecordRead.{RecordRead}
+use Rattle.codec.specs.declared.Tested.{Tested}
 use Rattle.codec.specs.declared.Tested.the-variants.{InCode, NotInCode, Refused as NotTested}
 use Rattle.codec.specs.Code.{encode, inCode, readData}
 use Rattle.codec.specs.Record.{recordFits, recordBits, readRecord}
@@ -33,7 +36,11 @@ use Rattle.codec.specs.Tabled.{Tabled}
 use Rattle.codec.specs.Calls.{areBits, wordFits, dataFits, holdsRecord, Wrote, kept, wrote, notRead, recordRead}
 use Rattle.codec.specs.Calls.{encodeWith, testWith, readDataWith, makeRecordWith, readRecordWith}
 use Rattle.codec.specs.Calls.{encodeCall, testCall, readDataCall, makeRecordCall, readRecordCall}
+use Rattle.codec.specs.Numbers.{testedNumber, testNumber, readRecordNumber}
+use Rattle.codec.specs.Testing.{TestedExactly}
 use Rattle.codec.proofs.Answers.{bits-out}
+use Rattle.codec.proofs.Numbers.{test-number, read-record-number}
+use Rattle.codec.proofs.Testing.{tested-exactly}
 
 -- ---- what loading comes to
 
@@ -126,9 +133,21 @@ both-fit a m b n e = let (p, q) = and-true (eqb a m) (eqb b n) e in (eqb-true a 
 pub are-bits : (bs : List ℕ) → areBits bs ≡ true → All Bit bs
 are-bits bs e = bits-out bs (rw e tt)
 
--- an answer and a buffer that are the definition's
-pub told : {w : Wrote} (o : Outcome) (b : List ℕ) → w ≡ record { outcome = o; buffer = b } → (o ≡ w .outcome) × (b ≡ w .buffer)
-told o b e = (sym (ap (λ (w : Wrote). w .outcome) e), sym (ap (λ (w : Wrote). w .buffer) e))
+-- an answer and a buffer that are the definition's, and the answer's number
+pub told : {w : Wrote} {n : ℕ} (o : Outcome) (b : List ℕ) → outcomeNumber (w .outcome) ≡ n → w ≡ record { outcome = o; buffer = b } →
+    ((o ≡ w .outcome) × (b ≡ w .buffer)) × (outcomeNumber o ≡ n)
+told o b k e =
+    let p = sym (ap (λ (w : Wrote). w .outcome) e) in
+    ((p, sym (ap (λ (w : Wrote). w .buffer) e)), ap outcomeNumber p ∙ k)
+
+-- a test's answer that is the definition's: its number, and what it means by encoding
+pub test-told : (book c : List ℕ) {t : Tested} → t ≡ testCall book c → (t ≡ testCall book c) × ((testedNumber t ≡ testNumber book c) × TestedExactly book c t)
+test-told book c e = (e, (ap testedNumber e ∙ test-number book c, subst (TestedExactly book c) (sym e) (tested-exactly book c)))
+
+-- a record that is read as the definition says, and the answer's number
+pub record-told : (book ds : List ℕ) {r : RecordRead} → r ≡ readRecordCall book ds →
+    (r ≡ readRecordCall book ds) × (outcomeNumber (r .outcome) ≡ readRecordNumber book ds)
+record-told book ds e = (e, ap (λ (r : RecordRead). outcomeNumber (r .outcome)) e ∙ read-record-number book ds)
 
 -- ---- what each call answers
 

@@ -1,6 +1,6 @@
 // The calls: encode, test, read data, make record, read record. Each takes a book's bytes, which are loaded first; then lengths, then values are
 // tested, and a lent buffer is written on success alone. Relies on the crates loading, filling and hooks and on polar's transform; codec/specs/Calls
-// says what each call answers.
+// says what each call answers, codec/specs/Numbers its number in document 01, codec/specs/Testing what a test means by encoding.
 use codebook::Outcome;
 use codebook::Refusal;
 use codebook::Sizes;
@@ -27,12 +27,15 @@ ghost use lib.Dec.{eqb};
 ghost use Rattle.laws.specs.Lists.{All};
 ghost use Rattle.polar.specs.Bits.{Bit};
 ghost use Rattle.polar.specs.Transform.{transform};
+ghost use Rattle.codebook.specs.Refusals.{outcomeNumber};
 ghost use Rattle.codebook.specs.Book.{Kind, Book, freeCount};
 ghost use Rattle.codebook.specs.Loading.{load, loaded};
 ghost use Rattle.codebook.specs.Tables.{sizesOf};
 ghost use Rattle.codec.specs.Code.{freeBits, obeysAll};
 ghost use Rattle.codec.specs.Tabled.{Coded, Tabled, Some};
 ghost use Rattle.codec.specs.Calls.{encodeCall, testCall, readDataCall, makeRecordCall, readRecordCall};
+ghost use Rattle.codec.specs.Numbers.{testedNumber, encodeNumber, testNumber, readDataNumber, makeRecordNumber, readRecordNumber};
+ghost use Rattle.codec.specs.Testing.{TestedExactly};
 
 // Loads a book: its sizes, and the tables of its kinds.
 fn load_kinds(book: &[u8], kinds: &mut [u8; 512], terms: &mut [u32; 512]) -> Sizes
@@ -42,16 +45,7 @@ fn load_kinds(book: &[u8], kinds: &mut [u8; 512], terms: &mut [u32; 512]) -> Siz
     let mut heights = [0u8; 512];
     let mut starts = [0u16; 512];
     let mut biases = [0i32; 512];
-    let mut frees = [0u8; 512];
-    load_tables(
-        book,
-        kinds,
-        terms,
-        &mut heights,
-        &mut starts,
-        &mut biases,
-        &mut frees,
-    )
+    load_tables(book, kinds, terms, &mut heights, &mut starts, &mut biases)
 }
 
 // Whether two lengths are these.
@@ -80,6 +74,7 @@ fn copy(from: &[u8], to: &mut [u8])
 pub fn encode(book: &[u8], bits: &[u8], word: &mut [u8]) -> Outcome
     ensures { λ r. ⌜ (let w = encodeCall (now (book .entry)) (now (bits .entry)) (now (word .entry)) in
         (r ≡ w .outcome) × (now (word .exit) ≡ w .buffer)) ⌝ }
+    ensures number { λ r. ⌜ outcomeNumber r ≡ encodeNumber (now (book .entry)) (now (bits .entry)) (now (word .entry)) ⌝ }
 {
     let mut kinds = [0u8; 512];
     let mut terms = [0u32; 512];
@@ -114,6 +109,8 @@ fn in_code(kinds: &[u8; 512], terms: &[u32; 512], m: u32, word: &[u8], u: &mut [
 // Tests a word.
 pub fn test(book: &[u8], word: &[u8]) -> Tested
     ensures { λ r. ⌜ r ≡ testCall (now (book .entry)) (now (word .entry)) ⌝ }
+    ensures number { λ r. ⌜ testedNumber r ≡ testNumber (now (book .entry)) (now (word .entry)) ⌝ }
+    ensures exactly { λ r. ⌜ TestedExactly (now (book .entry)) (now (word .entry)) r ⌝ }
 {
     let mut kinds = [0u8; 512];
     let mut terms = [0u32; 512];
@@ -136,12 +133,13 @@ pub fn test(book: &[u8], word: &[u8]) -> Tested
     Tested::NotInCode
 }
 
-// The data bits of a word: u is scratch.
+// The data bits of a word: u becomes the input bits that the word comes from.
 pub fn data_of(kinds: &[u8; 512], m: u32, word: &[u8], u: &mut [u8], bits: &mut [u8])
     requires { ⌜ Some (λ ks. Coded ks (now kinds) × (length ks ≡ length (now word)) × (freeCount ks ≡ length (now bits))) ⌝ }
     requires { ⌜ (length (now word) ≡ length (now u)) × (length (now word) ≡ 2 ^ m) × All Bit (now word) ⌝ }
     ensures { λ _. ⌜ ((ks : List Kind) → Coded ks (now (kinds .entry)) → length ks ≡ length (now (word .entry)) →
         freeCount ks ≡ length (now (bits .entry)) → now (bits .exit) ≡ freeBits ks (transform m (now (word .entry)))) ⌝ }
+    ensures { λ _. ⌜ now (u .exit) ≡ transform m (now (word .entry)) ⌝ }
 {
     copy(word, u);
     transform(u, m);
@@ -152,6 +150,7 @@ pub fn data_of(kinds: &[u8; 512], m: u32, word: &[u8], u: &mut [u8], bits: &mut 
 pub fn read_data(book: &[u8], word: &[u8], bits: &mut [u8]) -> Outcome
     ensures { λ r. ⌜ (let w = readDataCall (now (book .entry)) (now (word .entry)) (now (bits .entry)) in
         (r ≡ w .outcome) × (now (bits .exit) ≡ w .buffer)) ⌝ }
+    ensures number { λ r. ⌜ outcomeNumber r ≡ readDataNumber (now (book .entry)) (now (word .entry)) (now (bits .entry)) ⌝ }
 {
     let mut kinds = [0u8; 512];
     let mut terms = [0u32; 512];
@@ -176,6 +175,7 @@ pub fn read_data(book: &[u8], word: &[u8], bits: &mut [u8]) -> Outcome
 pub fn make_record(book: &[u8], h: HookRecord, bits: &mut [u8]) -> Outcome
     ensures { λ r. ⌜ (let w = makeRecordCall (now (book .entry)) h (now (bits .entry)) in
         (r ≡ w .outcome) × (now (bits .exit) ≡ w .buffer)) ⌝ }
+    ensures number { λ r. ⌜ outcomeNumber r ≡ makeRecordNumber (now (book .entry)) h (now (bits .entry)) ⌝ }
 {
     let x = load(book);
     let outcome = x.outcome;
@@ -195,6 +195,7 @@ pub fn make_record(book: &[u8], h: HookRecord, bits: &mut [u8]) -> Outcome
 // Reads the record of data bits.
 pub fn read_record(book: &[u8], bits: &[u8]) -> RecordRead
     ensures { λ r. ⌜ r ≡ readRecordCall (now (book .entry)) (now (bits .entry)) ⌝ }
+    ensures number { λ r. ⌜ outcomeNumber (r .outcome) ≡ readRecordNumber (now (book .entry)) (now (bits .entry)) ⌝ }
 {
     let x = load(book);
     let outcome = x.outcome;

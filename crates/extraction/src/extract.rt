@@ -108,14 +108,13 @@ fn third(
     at: Block,
     kept: &mut [u32],
     words: &mut [u32; 256],
-    sets: &mut [u32; 256],
     sums: &mut [u32; 128],
 )
-    requires { ⌜ Lent m paths (memory (now rows) (now holders) (now numbers) (now bytes)) × (length (now order) ≡ 256) × (queued + 1 ≤ paths) × Cells paths (now kept) × Scratch (now words) (now sets) (now sums) ⌝ }
+    requires { ⌜ Lent m paths (memory (now rows) (now holders) (now numbers) (now bytes)) × (length (now order) ≡ 256) × (queued + 1 ≤ paths) × Cells paths (now kept) × (length (now words) ≡ 256) × (length (now sums) ≡ 128) ⌝ }
     requires { ⌜ ((vs : List ℕ) × Thirding m paths (memory (now rows) (now holders) (now numbers) (now bytes)) e (queueOf (now order) queued) vs (now kinds) (now terms) last at (now kept)) ⌝ }
     requires { ⌜ Rising (now order) queued ⌝ }
     ensures { λ _. ⌜ Lent m paths (memory (now (rows .exit)) (now (holders .exit)) (now (numbers .exit)) (now (bytes .exit)))
-        × (length (now (order .exit)) ≡ 256) × Cells paths (now (kept .exit)) × Scratch (now (words .exit)) (now (sets .exit)) (now (sums .exit)) ⌝ }
+        × (length (now (order .exit)) ≡ 256) × Cells paths (now (kept .exit)) × (length (now (words .exit)) ≡ 256) × (length (now (sums .exit)) ≡ 128) ⌝ }
     ensures { λ _. ⌜ ((vs : List ℕ) (c : Thirding m paths (memory (now (rows .entry)) (now (holders .entry)) (now (numbers .entry)) (now (bytes .entry))) e (queueOf (now (order .entry)) queued) vs (now (kinds .entry)) (now (terms .entry)) last at (now (kept .entry)))
         → (let h = c .moving .hand in let k = R.move (h .book) (h .arrays) (h .taken) (h .rest) in
         Stands (h .book) paths (memory (now (rows .exit)) (now (holders .exit)) (now (numbers .exit)) (now (bytes .exit))) (queueOf (now (order .exit)) (suc queued)) vs
@@ -127,7 +126,7 @@ fn third(
     let slot = slot_of(e);
     let spent = rows[slot * 16 + 10] + rows[slot * 16 + 11];
     let parities = rows[slot * 16 + 14];
-    let found = nearest_words(rows, numbers, kinds, terms, m, slot, at, words, sets, sums);
+    let found = nearest_words(rows, numbers, kinds, terms, m, slot, at, words, sums);
     let near = found.first;
     let cost = near.cost;
     put(
@@ -230,7 +229,6 @@ pub fn extract(
         at,
         kept,
         words,
-        sets,
         sums,
     );
     x.queued = queued + 1;

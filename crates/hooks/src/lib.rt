@@ -1,6 +1,6 @@
 // Hook records made into data bits and read from them. Relies on the crate codec, whose definitions say what the bits are.
-pub mod fields;
-pub mod hook;
+mod fields;
+mod hook;
 
 pub use fields::are_bits;
 pub use hook::not_read;

@@ -207,7 +207,7 @@ module _ (p : Progress) (t old : Tables) (s : Loading) (h : HoldsLoaded p t old 
   unfolding Filled overlaid tablesOf bookOf
   end-filled =
       let terms = h .terms ∙ ap (λ (n : ℕ). over (tab n (tieSet 0 (s .kinds))) (old .terms)) (total-begun s begun) in
-      λ i. record { kinds = h .kinds i; terms = terms i; heights = h .heights i; starts = h .starts i; biases = h .biases i; frees = h .frees i }
+      λ i. record { kinds = h .kinds i; terms = terms i; heights = h .heights i; starts = h .starts i; biases = h .biases i }
 
 -- ---- the run
 
@@ -237,7 +237,6 @@ reached-none bytes t sized =
         heights = refl;
         starts = refl;
         biases = refl;
-        frees = refl;
       };
       goes = refl;
       within = zero-le;

@@ -12,7 +12,8 @@ use obeying::obey;
 ghost use mathlib.Core.Path.{_≡_};
 ghost use mathlib.Core.Bool.{cond};
 ghost use Prim.Native.Nat.{_<_};
-ghost use Rattle.codebook.specs.Loading.{load, refused, shapeOf};
+ghost use Rattle.codebook.specs.Refusals.{outcomeNumber};
+ghost use Rattle.codebook.specs.Loading.{load, refused, shapeOf, numberBy};
 ghost use Rattle.codebook.specs.Tables.{sizesOf, Filled};
 ghost use Rattle.codebook.specs.Progress.{Sized, tables, sizesAt};
 
@@ -24,9 +25,8 @@ fn held(
     heights: [u8; 512],
     starts: [u16; 512],
     biases: [i32; 512],
-    frees: [u8; 512],
 )
-    ensures { λ _. ⌜ Sized (tables kinds terms heights starts biases frees) ⌝ }
+    ensures { λ _. ⌜ Sized (tables kinds terms heights starts biases) ⌝ }
 {}
 
 // The same of arrays behind references.
@@ -36,11 +36,10 @@ fn sized(
     heights: &[u8; 512],
     starts: &[u16; 512],
     biases: &[i32; 512],
-    frees: &[u8; 512],
 )
-    ensures { λ _. ⌜ Sized (tables (now (kinds .entry)) (now (terms .entry)) (now (heights .entry)) (now (starts .entry)) (now (biases .entry)) (now (frees .entry))) ⌝ }
+    ensures { λ _. ⌜ Sized (tables (now (kinds .entry)) (now (terms .entry)) (now (heights .entry)) (now (starts .entry)) (now (biases .entry))) ⌝ }
 {
-    held(*kinds, *terms, *heights, *starts, *biases, *frees);
+    held(*kinds, *terms, *heights, *starts, *biases);
 }
 
 // The answer of a refusal: zeros beside it.
@@ -80,12 +79,11 @@ pub fn load_tables(
     heights: &mut [u8; 512],
     starts: &mut [u16; 512],
     biases: &mut [i32; 512],
-    frees: &mut [u8; 512],
 ) -> Sizes
     ensures answer { λ r. ⌜ r ≡ sizesOf (load (now (book .entry))) ⌝ }
-    ensures filled { λ _. ⌜ Filled (load (now (book .entry))) (tables (now (kinds .entry)) (now (terms .entry)) (now (heights .entry)) (now (starts .entry)) (now (biases .entry)) (now (frees .entry))) (tables (now (kinds .exit)) (now (terms .exit)) (now (heights .exit)) (now (starts .exit)) (now (biases .exit)) (now (frees .exit))) ⌝ }
+    ensures filled { λ _. ⌜ Filled (load (now (book .entry))) (tables (now (kinds .entry)) (now (terms .entry)) (now (heights .entry)) (now (starts .entry)) (now (biases .entry))) (tables (now (kinds .exit)) (now (terms .exit)) (now (heights .exit)) (now (starts .exit)) (now (biases .exit))) ⌝ }
 {
-    sized(kinds, terms, heights, starts, biases, frees);
+    sized(kinds, terms, heights, starts, biases);
     let mut p = Progress {
         m: 0,
         n: 0,
@@ -101,7 +99,7 @@ pub fn load_tables(
         let Read::Found(c, next, whole) = read_command(book, at) else {
             return refuse(Refusal::Unknown);
         };
-        match obey(c, whole, p, kinds, terms, heights, starts, biases, frees) {
+        match obey(c, whole, p, kinds, terms, heights, starts, biases) {
             Step::Next(q) => {
                 p = q;
                 at = next;
@@ -120,13 +118,13 @@ pub fn load_tables(
 // Loads a book: the answer alone.
 pub fn load(book: &[u8]) -> Shape
     ensures { λ r. ⌜ r ≡ shapeOf (load (now (book .entry))) ⌝ }
+    ensures number { λ r. ⌜ outcomeNumber (r .outcome) ≡ numberBy (load (now (book .entry))) (λ _. 0) ⌝ }
 {
     let mut kinds = [0u8; 512];
     let mut terms = [0u32; 512];
     let mut heights = [0u8; 512];
     let mut starts = [0u16; 512];
     let mut biases = [0i32; 512];
-    let mut frees = [0u8; 512];
     let x = load_tables(
         book,
         &mut kinds,
@@ -134,7 +132,6 @@ pub fn load(book: &[u8]) -> Shape
         &mut heights,
         &mut starts,
         &mut biases,
-        &mut frees,
     );
     let outcome = x.outcome;
     Shape {

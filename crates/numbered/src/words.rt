@@ -7,7 +7,7 @@ use coding::test;
 ghost use mathlib.Core.Path.{_≡_};
 ghost use Rattle.codebook.specs.Refusals.{outcomeNumber};
 ghost use Rattle.codec.specs.Calls.{encodeCall, testCall, readDataCall};
-ghost use Rattle.answers.specs.Numbers.{testedNumber};
+ghost use Rattle.codec.specs.Numbers.{testedNumber};
 
 // Encodes data bits into a lent word.
 pub fn encode_number(book: &[u8], bits: &[u8], word: &mut [u8]) -> u32

@@ -105,7 +105,6 @@ module _ (p : Progress) (t old : Tables) (s : Loading) (h : HoldsLoaded p t old 
         heights = h .heights;
         starts = h .starts;
         biases = h .biases;
-        frees = h .frees ∙ ap (λ l. over l (old .frees)) (tab-same _ _ _ (λ i b. absurd (omega arith)));
       }
 
   -- ---- the length
@@ -131,7 +130,6 @@ module _ (p : Progress) (t old : Tables) (s : Loading) (h : HoldsLoaded p t old 
         heights = rw bs at (h .heights);
         starts = rw bs at (h .starts);
         biases = rw bs at (h .biases);
-        frees = rw bs at (h .frees);
       }
 
   -- ---- a run of free or zero indices

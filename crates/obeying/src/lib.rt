@@ -185,12 +185,11 @@ fn place_block(
     heights: &mut [u8; 512],
     starts: &mut [u16; 512],
     biases: &mut [i32; 512],
-    frees: &mut [u8; 512],
 ) -> Step
     requires { ⌜ Safe p ⌝ }
     requires { ⌜ (p .filled ≡ p .n) × (p .covered < p .n) ⌝ }
     requires { ⌜ blockFits (p .covered) (p .n) j bias ≡ true ⌝ }
-    ensures { λ r. ⌜ ((terms : List ℕ) → Obeys p (Command.Block j bias) true (tables (now (kinds .entry)) terms (now (heights .entry)) (now (starts .entry)) (now (biases .entry)) (now (frees .entry))) (tables (now (kinds .entry)) terms (now (heights .exit)) (now (starts .exit)) (now (biases .exit)) (now (frees .exit))) r) ⌝ }
+    ensures { λ r. ⌜ ((terms : List ℕ) → Obeys p (Command.Block j bias) true (tables (now (kinds .entry)) terms (now (heights .entry)) (now (starts .entry)) (now (biases .entry))) (tables (now (kinds .entry)) terms (now (heights .exit)) (now (starts .exit)) (now (biases .exit))) r) ⌝ }
 {
     let length = power(j);
     let start = p.covered;
@@ -202,7 +201,6 @@ fn place_block(
     heights[b] = j as u8;
     starts[b] = start as u16;
     biases[b] = bias;
-    frees[b] = free as u8;
     let mut q = p;
     q.tying = false;
     q.blocks = p.blocks + 1;
@@ -220,11 +218,10 @@ fn block(
     heights: &mut [u8; 512],
     starts: &mut [u16; 512],
     biases: &mut [i32; 512],
-    frees: &mut [u8; 512],
 ) -> Step
     requires { ⌜ Safe p ⌝ }
     requires { ⌜ (p .filled ≡ p .n) × (p .covered < p .n) ⌝ }
-    ensures { λ r. ⌜ ((terms : List ℕ) → (byteOf c ≡ 4 → ⊥) → Obeys p c whole (tables (now (kinds .entry)) terms (now (heights .entry)) (now (starts .entry)) (now (biases .entry)) (now (frees .entry))) (tables (now (kinds .entry)) terms (now (heights .exit)) (now (starts .exit)) (now (biases .exit)) (now (frees .exit))) r) ⌝ }
+    ensures { λ r. ⌜ ((terms : List ℕ) → (byteOf c ≡ 4 → ⊥) → Obeys p c whole (tables (now (kinds .entry)) terms (now (heights .entry)) (now (starts .entry)) (now (biases .entry))) (tables (now (kinds .entry)) terms (now (heights .exit)) (now (starts .exit)) (now (biases .exit))) r) ⌝ }
 {
     let Command::Block(j, bias) = c else {
         return Step::Refused(Refusal::Misplaced);
@@ -235,7 +232,7 @@ fn block(
     if !fits(p.covered, p.n, j, bias) {
         return Step::Refused(Refusal::OutOfRange);
     }
-    place_block(p, j, bias, kinds, heights, starts, biases, frees)
+    place_block(p, j, bias, kinds, heights, starts, biases)
 }
 
 // A command after those before it: a term belongs to the tie before it; else the length comes first, then index commands until all indices
@@ -249,10 +246,9 @@ pub fn obey(
     heights: &mut [u8; 512],
     starts: &mut [u16; 512],
     biases: &mut [i32; 512],
-    frees: &mut [u8; 512],
 ) -> Step
     requires { ⌜ Safe p ⌝ }
-    ensures { λ r. ⌜ Obeys p c whole (tables (now (kinds .entry)) (now (terms .entry)) (now (heights .entry)) (now (starts .entry)) (now (biases .entry)) (now (frees .entry))) (tables (now (kinds .exit)) (now (terms .exit)) (now (heights .exit)) (now (starts .exit)) (now (biases .exit)) (now (frees .exit))) r ⌝ }
+    ensures { λ r. ⌜ Obeys p c whole (tables (now (kinds .entry)) (now (terms .entry)) (now (heights .entry)) (now (starts .entry)) (now (biases .entry))) (tables (now (kinds .exit)) (now (terms .exit)) (now (heights .exit)) (now (starts .exit)) (now (biases .exit))) r ⌝ }
 {
     if let Command::Term(i) = c {
         return term(p, whole, i, terms);
@@ -264,7 +260,7 @@ pub fn obey(
         return index(c, whole, p, kinds, terms);
     }
     if p.covered < p.n {
-        return block(c, whole, p, kinds, heights, starts, biases, frees);
+        return block(c, whole, p, kinds, heights, starts, biases);
     }
     let Command::End = c else {
         return Step::Refused(Refusal::Misplaced);

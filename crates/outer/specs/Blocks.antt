@@ -1,5 +1,5 @@
 -- A block of a book as the tables hold it, the set of parities before it, and a word of it as the search answers it: what the contracts of
--- `nearest`, `nearest_pair` and `next_after` (crate search) cite beside specs/Words.antt. Assumes nothing.
+-- `nearest_pair` and `next_after` (crate search) cite beside specs/Words.antt. Assumes nothing.
 use mathlib.Core.Path.{_≡_}
 use mathlib.Core.Bool.{true, false}
 use mathlib.Core.List.{List, [], _∷_}

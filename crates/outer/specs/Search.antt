@@ -1,5 +1,5 @@
 -- The search of a block's words as its code goes: tables with an entry for each setting of the free bits, costs by half bytes, and the least
--- key among the settings. The contracts of `nearest`, `nearest_pair` and `next_after` (crate search) speak of specs/Words.antt; those of their
+-- key among the settings. The contracts of `nearest_pair` and `next_after` (crate search) speak of specs/Words.antt; those of their
 -- parts, in the crates tables, passes, short and search, speak of this. Assumes nothing.
 use mathlib.Core.Path.{_≡_}
 use mathlib.Core.Bool.{Bool, true, false}

@@ -5,13 +5,13 @@ ghost use mathlib.Core.Path.{_≡_};
 ghost use mathlib.Core.Bool.{true};
 ghost use mathlib.Core.Option.{some};
 ghost use Prim.Native.Nat.{ℕ, _+_, _^_, _≤_, _<_};
+ghost use lib.ListN.{length};
 ghost use Rattle.polar.specs.Layers.{part};
 ghost use Rattle.codebook.specs.Book.{Book};
 ghost use Rattle.codec.specs.Ties.{Parities};
 ghost use Rattle.outer.specs.Search.{keyOf, found, foundPair, Scratch, Searchable};
 ghost use Rattle.outer.specs.Words.{Word, nearest, nextAfter};
 ghost use Rattle.outer.specs.Blocks.{paritySet, Bits, BlockTabled, candidateOf, Nexts};
-use outer::Candidate;
 use outer::Next;
 use outer::Pair;
 use passes::least_two::key;
@@ -81,42 +81,6 @@ fn search(
     }
 }
 
-// The nearest word of a block: of all settings of its free bits, after the given parities, the least cost, equals by the smaller number. The
-// tables are scratch.
-pub fn nearest(
-    numbers: &[i32],
-    at: usize,
-    kinds: &[u8; 512],
-    terms: &[u32; 512],
-    start: usize,
-    j: u32,
-    parities: u32,
-    words: &mut [u32; 256],
-    sets: &mut [u32; 256],
-    sums: &mut [u32; 128],
-) -> Candidate
-    requires { ⌜ Searchable (now numbers) at (now kinds) start j ⌝ }
-    requires { ⌜ Scratch (now words) (now sets) (now sums) ⌝ }
-    ensures { λ _. ⌜ Scratch (now (words .exit)) (now (sets .exit)) (now (sums .exit)) ⌝ }
-    ensures { λ r. ⌜ ((B : Book) (b : ℕ) (x : Parities) → BlockTabled B b (now (kinds .entry)) (now (terms .entry)) start j
-        → Bits x → parities ≡ paritySet B x → r ≡ candidateOf B (nearest B (part at (2 ^ j) (now (numbers .entry))) x b)) ⌝ }
-{
-    let found = search(
-        numbers,
-        at,
-        kinds,
-        terms,
-        start,
-        j,
-        parities,
-        0,
-        words,
-        sets,
-        sums,
-    );
-    found.first
-}
-
 // The word of least key, and the one of least key after it.
 fn search_pair(
     numbers: &[i32],
@@ -127,12 +91,11 @@ fn search_pair(
     j: u32,
     parities: u32,
     words: &mut [u32; 256],
-    sets: &mut [u32; 256],
     sums: &mut [u32; 128],
 ) -> Pair
     requires { ⌜ Searchable (now numbers) at (now kinds) start j ⌝ }
-    requires { ⌜ Scratch (now words) (now sets) (now sums) ⌝ }
-    ensures { λ _. ⌜ Scratch (now (words .exit)) (now (sets .exit)) (now (sums .exit)) ⌝ }
+    requires { ⌜ (length (now words) ≡ 256) × (length (now sums) ≡ 128) ⌝ }
+    ensures { λ _. ⌜ (length (now (words .exit)) ≡ 256) × (length (now (sums .exit)) ≡ 128) ⌝ }
     ensures { λ r. ⌜ r ≡ foundPair (now (kinds .entry)) (now (terms .entry)) start parities (2 ^ j) (part at (2 ^ j) (now (numbers .entry))) ⌝ }
 {
     let n = power(j);
@@ -152,7 +115,8 @@ fn search_pair(
     find_two(numbers, at, n, 0, &steps, &ties, free, words, sums)
 }
 
-// The nearest word of a block, and the next after it, by one search.
+// The nearest word of a block, and the next after it, by one search: of all settings of its free bits, after the given parities, the least cost, equals
+// by the smaller number. The tables are scratch.
 pub fn nearest_pair(
     numbers: &[i32],
     at: usize,
@@ -162,30 +126,18 @@ pub fn nearest_pair(
     j: u32,
     parities: u32,
     words: &mut [u32; 256],
-    sets: &mut [u32; 256],
     sums: &mut [u32; 128],
 ) -> Pair
     requires { ⌜ Searchable (now numbers) at (now kinds) start j ⌝ }
-    requires { ⌜ Scratch (now words) (now sets) (now sums) ⌝ }
-    ensures { λ _. ⌜ Scratch (now (words .exit)) (now (sets .exit)) (now (sums .exit)) ⌝ }
+    requires { ⌜ (length (now words) ≡ 256) × (length (now sums) ≡ 128) ⌝ }
+    ensures { λ _. ⌜ (length (now (words .exit)) ≡ 256) × (length (now (sums .exit)) ≡ 128) ⌝ }
     ensures { λ r. ⌜ ((B : Book) (b : ℕ) (x : Parities) → BlockTabled B b (now (kinds .entry)) (now (terms .entry)) start j
         → Bits x → parities ≡ paritySet B x
         → (r .first ≡ candidateOf B (nearest B (part at (2 ^ j) (now (numbers .entry))) x b))
         × ((w : Word) → nearest B (part at (2 ^ j) (now (numbers .entry))) x b ≡ some w
         → r .second ≡ candidateOf B (nextAfter w B (part at (2 ^ j) (now (numbers .entry))) x b))) ⌝ }
 {
-    search_pair(
-        numbers,
-        at,
-        kinds,
-        terms,
-        start,
-        j,
-        parities,
-        words,
-        sets,
-        sums,
-    )
+    search_pair(numbers, at, kinds, terms, start, j, parities, words, sums)
 }
 
 // The next word of a block after the one with this cost and number and, where that is known too, the next after it.

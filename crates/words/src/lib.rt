@@ -3,6 +3,7 @@ ghost use mathlib.Core.Path.{_≡_};
 ghost use mathlib.Core.Option.{some};
 ghost use Prim.Native.Nat.{ℕ, suc, _+_, _^_, _≤_, _<_};
 ghost use lib.IntN.{pos, negℤ, _-ℤ_};
+ghost use lib.ListN.{length};
 ghost use Rattle.polar.specs.Layers.{part, Within};
 ghost use Rattle.codebook.specs.Book.{Book};
 ghost use Rattle.codec.specs.Ties.{Parities};
@@ -73,13 +74,12 @@ pub fn nearest_words(
     slot: usize,
     at: Block,
     words: &mut [u32; 256],
-    sets: &mut [u32; 256],
     sums: &mut [u32; 128],
 ) -> Pair
     requires { ⌜ HasRow slot (now rows) × (m ≤ 9) × (at .height ≤ m) × Id 256 (idAt (now rows) slot (at .height)) ⌝ }
     requires { ⌜ Searchable (now numbers) (spot m (idAt (now rows) slot (at .height)) (at .height)) (now kinds) (at .start) (at .height) ⌝ }
-    requires { ⌜ Scratch (now words) (now sets) (now sums) ⌝ }
-    ensures { λ _. ⌜ Scratch (now (words .exit)) (now (sets .exit)) (now (sums .exit)) ⌝ }
+    requires { ⌜ (length (now words) ≡ 256) × (length (now sums) ≡ 128) ⌝ }
+    ensures { λ _. ⌜ (length (now (words .exit)) ≡ 256) × (length (now (sums .exit)) ≡ 128) ⌝ }
     ensures { λ r. ⌜ ((B : Book) (b : ℕ) (x : Parities) → BlockTabled B b (now (kinds .entry)) (now (terms .entry)) (at .start) (at .height)
         → Bits x → cell (now (rows .entry)) slot 14 ≡ paritySet B x
         → (let vs = part (spot m (idAt (now (rows .entry)) slot (at .height)) (at .height)) (2 ^ (at .height)) (now (numbers .entry)) in
@@ -100,7 +100,6 @@ pub fn nearest_words(
         j as u32,
         parities,
         words,
-        sets,
         sums,
     )
 }

@@ -1,4 +1,4 @@
--- `codec::call::both_fit` meets its contract: by its first test. Assumes nothing.
+-- `coding::both_fit` meets its contract: by its first test. Assumes nothing.
 use mathlib.Core.Path.{refl}
 use borrow.Author.Tests.{eq-eqb, ne-eqb}
 use Rattle.coding.proofs.both_fit.Statement.{statement}

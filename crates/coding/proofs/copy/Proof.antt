@@ -1,4 +1,4 @@
--- `codec::call::copy` meets its contract. The loop's invariant: the first i bits are copied. Assumes nothing.
+-- `coding::copy` meets its contract. The loop's invariant: the first i bits are copied. Assumes nothing.
 use mathlib.Core.Path.{_≡_, refl, sym, ap, _∙_}
 use mathlib.Core.List.{[], _∷_, _++_}
 use Prim.Native.Nat.{_-_, _≤_}

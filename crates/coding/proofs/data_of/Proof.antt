@@ -1,4 +1,4 @@
--- `codec::call::data_of` meets its contract: what is read is the word's u. Assumes nothing.
+-- `coding::data_of` meets its contract: what is read is the word's u. Assumes nothing.
 use mathlib.Core.Path.{_≡_, sym, ap, _∙_, subst}
 use Prim.Native.Nat.{_^_}
 use borrow.Author.Needs.{needs}
@@ -43,11 +43,14 @@ same-length-2 : tie.Need-same-length-2
 same-length-2 c = search needs
 
 returns : tie.Need-returns
-returns c = λ ks C w f.
+returns c =
     let F = c .before .before in
     let X = F .before .before .before .before .before in
-    let s = X .before .before .before .before .before .before .before .before .before in
-    F .free-bits .ensures ks C (w ∙ s .pre .1 .1 ∙ sym (transform-length (s .args .m) (s .args .word .now) (s .pre .1 .1)) ∙ ap length (sym (back X))) f ∙ ap (freeBits ks) (back X)
+    let s = X .before .before .before .before .before .before .before .before .before in (
+      λ ks C w f.
+          F .free-bits .ensures ks C (w ∙ s .pre .1 .1 ∙ sym (transform-length (s .args .m) (s .args .word .now) (s .pre .1 .1)) ∙ ap length (sym (back X))) f ∙ ap (freeBits ks) (back X),
+      back X,
+    )
 
 pub data-of-spec : {M : Type 1} → statement M
 data-of-spec =

@@ -1,4 +1,4 @@
--- `codec::call::encode` meets its contract: by loading's outcome and the tests. Assumes nothing.
+-- `coding::encode` meets its contract: by loading's outcome and the tests. Assumes nothing.
 use mathlib.Core.Path.{_≡_, sym, ap, ap₂, _∙_, subst}
 use mathlib.Core.Bool.{_&&_}
 use mathlib.Core.List.{[]}
@@ -16,6 +16,7 @@ use Rattle.codebook.specs.Book.{freeCount}
 use Rattle.codec.specs.Code.{fill, encode}
 use Rattle.codec.specs.Tabled.{Tabled}
 use Rattle.codec.proofs.Fill.{fill-after}
+use Rattle.codec.proofs.Numbers.{encode-number}
 use Rattle.coding.proofs.Told.{Known, sizes-refused, sizes-known, both-fit, are-bits, told, encode-refused, encode-mismatch, encode-bad, encode-good}
 use Rattle.coding.proofs.encode.Statement.{statement}
 use Rattle.coding.proofs.encode.Tie as tie
@@ -69,7 +70,7 @@ returns c =
     let l = c .before .before .before in
     let a = start l .args in
     let o = c .before .outcome .given in
-    told _ (a .word .now)
+    told _ (a .word .now) (encode-number (a .book .now) (a .bits .now) (a .word .now))
     (encode-refused (a .book .now) (a .bits .now) (a .word .now) (o .0 .0) (sizes-refused (a .book .now) (l .load-kinds .result) (o .0 .0) (l .load-kinds .ensures .0) (o .1)))
 
 enum-told : tie.Need-enum-told
@@ -83,7 +84,7 @@ returns-2 c =
     let t = c .before in
     let K = known (t .before) in
     let a = start (t .before .before .before) .args in
-    told _ (a .word .now) (encode-mismatch (a .book .now) (a .bits .now) (a .word .now) (K .is) (K .loads) (fits t) (not-true _ (c .if1 .taken)))
+    told _ (a .word .now) (encode-number (a .book .now) (a .bits .now) (a .word .now)) (encode-mismatch (a .book .now) (a .bits .now) (a .word .now) (K .is) (K .loads) (fits t) (not-true _ (c .if1 .taken)))
 
 are-bits-requires : tie.Need-are-bits-requires
 are-bits-requires c κs = search needs
@@ -94,7 +95,7 @@ returns-3 c =
     let t = b .before .before in
     let K = known (t .before) in
     let a = start (t .before .before .before) .args in
-    told _ (a .word .now)
+    told _ (a .word .now) (encode-number (a .book .now) (a .bits .now) (a .word .now))
     (encode-bad (a .book .now) (a .bits .now) (a .word .now) (K .is) (K .loads) (fits t) (not-false _ (b .before .if1 .left)) (sym (b .are-bits .ensures) ∙ not-true _ (c .if2 .taken)))
 
 fill-requires : tie.Need-fill-requires
@@ -126,7 +127,7 @@ returns-4 c =
     let K = known (t .before) in
     let a = start (t .before .before .before) .args in
     let e = x .transform .ensures ∙ ap₂ transform (K .height) (filled w) in
-    told Done (x .transform .last .0)
+    told Done (x .transform .last .0) (encode-number (a .book .now) (a .bits .now) (a .word .now))
     (encode-good (a .book .now) (a .bits .now) (a .word .now) (K .is) (K .loads) (fits t) (not-false _ (b .before .if1 .left)) (sym (b .are-bits .ensures) ∙ not-false _ (q .if2 .left))
     ∙ ap (λ v. record { outcome = Done; buffer = v }) (sym e))
 

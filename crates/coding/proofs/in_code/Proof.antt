@@ -1,4 +1,4 @@
--- `codec::call::in_code` meets its contract: what is tested is the word's u. Assumes nothing.
+-- `coding::in_code` meets its contract: what is tested is the word's u. Assumes nothing.
 use mathlib.Core.Path.{_≡_, sym, ap, _∙_, subst}
 use Prim.Native.Nat.{_^_}
 use borrow.Author.Needs.{needs}

@@ -1,4 +1,4 @@
--- `codec::call::load_kinds` meets its contract: the loader's tables hold a loaded book's kinds. Assumes nothing.
+-- `coding::load_kinds` meets its contract: the loader's tables hold a loaded book's kinds. Assumes nothing.
 use borrow.Author.Needs.{needs}
 use Rattle.coding.proofs.Told.{load-tabled}
 use Rattle.coding.proofs.load_kinds.Statement.{statement}
@@ -9,7 +9,7 @@ load-tables-requires c κs = search needs
 
 returns : tie.Need-returns
 returns c =
-    let s = c .before .before .before .before .before .before .before .before in
+    let s = c .before .before .before .before .before .before .before in
     (c .load-tables .ensures .0, λ B e. load-tabled (s .args .book .now) B _ _ e (c .load-tables .ensures .1))
 
 pub load-kinds-spec : {M : Type 1} → statement M

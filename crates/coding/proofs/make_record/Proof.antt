@@ -1,4 +1,4 @@
--- `codec::call::make_record` meets its contract: by loading's outcome and the tests. Assumes nothing.
+-- `coding::make_record` meets its contract: by loading's outcome and the tests. Assumes nothing.
 use mathlib.Core.Path.{_≡_, sym, ap, _∙_}
 use mathlib.Core.Bool.{_&&_}
 use borrow.Author.Needs.{needs}
@@ -8,6 +8,7 @@ use lib.Dec.{eqb}
 use Rattle.codebook.specs.declared.Outcome.the-variants.{Done}
 use Rattle.codebook.specs.Book.{Book, freeCount}
 use Rattle.codebook.specs.Loading.{load, loaded}
+use Rattle.codec.proofs.Numbers.{make-record-number}
 use Rattle.coding.proofs.Told.{shape-refused, shape-known, both-fit, told, make-refused, make-mismatch, make-bad, make-good}
 use Rattle.coding.proofs.make_record.Statement.{statement}
 use Rattle.coding.proofs.make_record.Tie as tie
@@ -21,7 +22,7 @@ known : (t : tie.After-enum-told) → let l = t .before .before in
     (B : Book) × (load (start l .args .book .now) ≡ loaded B) × (l .load .result .k ≡ freeCount (B .kinds))
 known t =
     let l = t .before .before in
-    shape-known (start l .args .book .now) (l .load .result) (l .load .ensures) (t .enum-told .given .1)
+    shape-known (start l .args .book .now) (l .load .result) (l .load .ensures .0) (t .enum-told .given .1)
 
 fits : (t : tie.After-both-fit) → let k = freeCount (known (t .before .before) .0 .kinds) in
     t .both-fit .result ≡ (eqb k 32 && eqb (length (start (t .before .before .before .before) .args .bits .now)) k)
@@ -47,7 +48,7 @@ returns c =
     let l = c .before .before .before in
     let a = start l .args in
     let o = c .before .outcome .given in
-    told _ (a .bits .now) (make-refused (a .book .now) (a .bits .now) (a .h) (o .0 .0) (shape-refused (a .book .now) (l .load .result) (o .0 .0) (l .load .ensures) (o .1)))
+    told _ (a .bits .now) (make-record-number (a .book .now) (a .h) (a .bits .now)) (make-refused (a .book .now) (a .bits .now) (a .h) (o .0 .0) (shape-refused (a .book .now) (l .load .result) (o .0 .0) (l .load .ensures .0) (o .1)))
 
 enum-told : tie.Need-enum-told
 enum-told c = search needs
@@ -63,7 +64,7 @@ returns-2 c =
     let t = c .before in
     let K = known (t .before .before) in
     let a = start (t .before .before .before .before) .args in
-    told _ (a .bits .now) (make-mismatch (a .book .now) (a .bits .now) (K .0) (K .1) (fits t) (a .h) (not-true _ (c .if1 .taken)))
+    told _ (a .bits .now) (make-record-number (a .book .now) (a .h) (a .bits .now)) (make-mismatch (a .book .now) (a .bits .now) (K .0) (K .1) (fits t) (a .h) (not-true _ (c .if1 .taken)))
 
 record-fits-requires : tie.Need-record-fits-requires
 record-fits-requires c κs = search needs
@@ -74,7 +75,7 @@ returns-3 c =
     let t = b .before .before in
     let K = known (t .before .before) in
     let a = start (t .before .before .before .before) .args in
-    told _ (a .bits .now)
+    told _ (a .bits .now) (make-record-number (a .book .now) (a .h) (a .bits .now))
     (make-bad (a .book .now) (a .bits .now) (K .0) (K .1) (fits t) (a .h) (not-false _ (b .before .if1 .left)) (sym (b .record-fits .ensures) ∙ not-true _ (c .if2 .taken)))
 
 put-record-requires : tie.Need-put-record-requires
@@ -91,7 +92,7 @@ returns-4 c =
     let t = b .before .before in
     let K = known (t .before .before) in
     let a = start (t .before .before .before .before) .args in
-    told Done (x .put-record .last .0)
+    told Done (x .put-record .last .0) (make-record-number (a .book .now) (a .h) (a .bits .now))
     (make-good (a .book .now) (a .bits .now) (K .0) (K .1) (fits t) (a .h) (not-false _ (b .before .if1 .left)) (sym (b .record-fits .ensures) ∙ not-false _ (q .if2 .left))
     ∙ ap (λ v. record { outcome = Done; buffer = v }) (sym (x .put-record .ensures)))
 

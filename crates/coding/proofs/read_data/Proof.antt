@@ -1,4 +1,4 @@
--- `codec::call::read_data` meets its contract: by loading's outcome and the tests. Assumes nothing.
+-- `coding::read_data` meets its contract: by loading's outcome and the tests. Assumes nothing.
 use mathlib.Core.Path.{_≡_, sym, ap, ap₂, _∙_}
 use mathlib.Core.Bool.{_&&_}
 use Prim.Native.Nat.{_^_, _≤_}
@@ -14,6 +14,7 @@ use Rattle.codebook.specs.declared.Outcome.the-variants.{Done}
 use Rattle.codebook.specs.Book.{freeCount}
 use Rattle.codec.specs.Code.{freeBits, readData}
 use Rattle.codec.specs.Tabled.{Tabled}
+use Rattle.codec.proofs.Numbers.{read-data-number}
 use Rattle.coding.proofs.Told.{Known, known-small, sizes-refused, sizes-known, zeros-part, both-fit, are-bits, told, read-refused, read-mismatch, read-bad, read-good}
 use Rattle.coding.proofs.read_data.Statement.{statement}
 use Rattle.coding.proofs.read_data.Tie as tie
@@ -65,7 +66,7 @@ returns c =
     let l = c .before .before .before in
     let a = start l .args in
     let o = c .before .outcome .given in
-    told _ (a .bits .now)
+    told _ (a .bits .now) (read-data-number (a .book .now) (a .word .now) (a .bits .now))
     (read-refused (a .book .now) (a .bits .now) (a .word .now) (o .0 .0) (sizes-refused (a .book .now) (l .load-kinds .result) (o .0 .0) (l .load-kinds .ensures .0) (o .1)))
 
 enum-told : tie.Need-enum-told
@@ -79,7 +80,7 @@ returns-2 c =
     let t = c .before in
     let K = known (t .before) in
     let a = start (t .before .before .before) .args in
-    told _ (a .bits .now) (read-mismatch (a .book .now) (a .bits .now) (a .word .now) (K .is) (K .loads) (fits t) (not-true _ (c .if1 .taken)))
+    told _ (a .bits .now) (read-data-number (a .book .now) (a .word .now) (a .bits .now)) (read-mismatch (a .book .now) (a .bits .now) (a .word .now) (K .is) (K .loads) (fits t) (not-true _ (c .if1 .taken)))
 
 are-bits-requires : tie.Need-are-bits-requires
 are-bits-requires c κs = search needs
@@ -90,7 +91,7 @@ returns-3 c =
     let t = b .before .before in
     let K = known (t .before) in
     let a = start (t .before .before .before) .args in
-    told _ (a .bits .now)
+    told _ (a .bits .now) (read-data-number (a .book .now) (a .word .now) (a .bits .now))
     (read-bad (a .book .now) (a .bits .now) (a .word .now) (K .is) (K .loads) (fits t) (not-false _ (b .before .if1 .left)) (sym (b .are-bits .ensures) ∙ not-true _ (c .if2 .taken)))
 
 array-borrow-prefix-u : tie.Need-array-borrow-prefix-u
@@ -119,8 +120,8 @@ returns-4 c =
     let K = known (t .before) in
     let a = start (t .before .before .before) .args in
     let z = passed q in
-    let e = x .data-of .ensures _ (z .0 .coded) (z .1) (z .2) ∙ ap (λ m. freeBits (K .is .kinds) (transform m (a .word .now))) (K .height) in
-    told Done (x .data-of .last .1 .1 .1 .1 .0)
+    let e = x .data-of .ensures .0 _ (z .0 .coded) (z .1) (z .2) ∙ ap (λ m. freeBits (K .is .kinds) (transform m (a .word .now))) (K .height) in
+    told Done (x .data-of .last .1 .1 .1 .1 .0) (read-data-number (a .book .now) (a .word .now) (a .bits .now))
     (read-good (a .book .now) (a .bits .now) (a .word .now) (K .is) (K .loads) (fits t) (not-false _ (b .before .if1 .left)) (sym (b .are-bits .ensures) ∙ not-false _ (q .if2 .left))
     ∙ ap (λ v. record { outcome = Done; buffer = v }) (sym e))
 

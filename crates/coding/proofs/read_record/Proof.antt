@@ -1,4 +1,4 @@
--- `codec::call::read_record` meets its contract: by loading's outcome and the tests. Assumes nothing.
+-- `coding::read_record` meets its contract: by loading's outcome and the tests. Assumes nothing.
 use mathlib.Core.Path.{_≡_, sym, ap, _∙_}
 use mathlib.Core.Bool.{_&&_}
 use borrow.Author.Needs.{needs}
@@ -7,7 +7,7 @@ use lib.ListN.{length}
 use lib.Dec.{eqb}
 use Rattle.codebook.specs.Book.{Book, freeCount}
 use Rattle.codebook.specs.Loading.{load, loaded}
-use Rattle.coding.proofs.Told.{shape-refused, shape-known, both-fit, are-bits, record-refused, record-mismatch, record-bad, record-good}
+use Rattle.coding.proofs.Told.{shape-refused, shape-known, both-fit, are-bits, record-told, record-refused, record-mismatch, record-bad, record-good}
 use Rattle.coding.proofs.read_record.Statement.{statement}
 use Rattle.coding.proofs.read_record.Tie as tie
 
@@ -20,7 +20,7 @@ known : (t : tie.After-enum-told) → let l = t .before .before in
     (B : Book) × (load (start l .args .book .now) ≡ loaded B) × (l .load .result .k ≡ freeCount (B .kinds))
 known t =
     let l = t .before .before in
-    shape-known (start l .args .book .now) (l .load .result) (l .load .ensures) (t .enum-told .given .1)
+    shape-known (start l .args .book .now) (l .load .result) (l .load .ensures .0) (t .enum-told .given .1)
 
 fits : (t : tie.After-both-fit) → let k = freeCount (known (t .before .before) .0 .kinds) in
     t .both-fit .result ≡ (eqb k 32 && eqb (length (start (t .before .before .before .before) .args .bits .now)) k)
@@ -64,7 +64,7 @@ returns c =
     let l = c .before .before .before .before in
     let a = start l .args in
     let o = c .before .before .outcome .given in
-    c .not-read .ensures ∙ record-refused (a .book .now) (a .bits .now) (o .0 .0) (shape-refused (a .book .now) (l .load .result) (o .0 .0) (l .load .ensures) (o .1))
+    record-told (a .book .now) (a .bits .now) (c .not-read .ensures ∙ record-refused (a .book .now) (a .bits .now) (o .0 .0) (shape-refused (a .book .now) (l .load .result) (o .0 .0) (l .load .ensures .0) (o .1)))
 
 enum-told : tie.Need-enum-told
 enum-told c = search needs
@@ -74,7 +74,7 @@ returns-2 c =
     let t = c .before .before in
     let K = known (t .before .before) in
     let a = start (t .before .before .before .before) .args in
-    c .not-read2 .ensures ∙ record-mismatch (a .book .now) (a .bits .now) (K .0) (K .1) (fits t) (not-true _ (c .before .if1 .taken))
+    record-told (a .book .now) (a .bits .now) (c .not-read2 .ensures ∙ record-mismatch (a .book .now) (a .bits .now) (K .0) (K .1) (fits t) (not-true _ (c .before .if1 .taken)))
 
 returns-3 : tie.Need-returns-3
 returns-3 c =
@@ -82,8 +82,9 @@ returns-3 c =
     let t = b .before .before in
     let K = known (t .before .before) in
     let a = start (t .before .before .before .before) .args in
-    c .not-read3 .ensures
-    ∙ record-bad (a .book .now) (a .bits .now) (K .0) (K .1) (fits t) (not-false _ (b .before .if1 .left)) (sym (b .are-bits .ensures) ∙ not-true _ (c .before .if2 .taken))
+    record-told (a .book .now) (a .bits .now)
+    (c .not-read3 .ensures
+    ∙ record-bad (a .book .now) (a .bits .now) (K .0) (K .1) (fits t) (not-false _ (b .before .if1 .left)) (sym (b .are-bits .ensures) ∙ not-true _ (c .before .if2 .taken)))
 
 record-of-requires : tie.Need-record-of-requires
 record-of-requires c κs = (holds (c .before .before), are-bits _ (sym (c .before .are-bits .ensures) ∙ not-false _ (c .if2 .left)))
@@ -95,8 +96,9 @@ returns-4 c =
     let t = b .before .before in
     let K = known (t .before .before) in
     let a = start (t .before .before .before .before) .args in
-    c .record-of .ensures
-    ∙ record-good (a .book .now) (a .bits .now) (K .0) (K .1) (fits t) (not-false _ (b .before .if1 .left)) (sym (b .are-bits .ensures) ∙ not-false _ (q .if2 .left))
+    record-told (a .book .now) (a .bits .now)
+    (c .record-of .ensures
+    ∙ record-good (a .book .now) (a .bits .now) (K .0) (K .1) (fits t) (not-false _ (b .before .if1 .left)) (sym (b .are-bits .ensures) ∙ not-false _ (q .if2 .left)))
 
 pub read-record-spec : {M : Type 1} → statement M
 read-record-spec =

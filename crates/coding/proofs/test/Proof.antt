@@ -1,4 +1,4 @@
--- `codec::call::test` meets its contract: by loading's outcome and the tests. Assumes nothing.
+-- `coding::test` meets its contract: by loading's outcome and the tests. Assumes nothing.
 use mathlib.Core.Path.{_≡_, sym, ap, _∙_}
 use mathlib.Core.Bool.{Bool, cond}
 use Prim.Native.Nat.{_^_}
@@ -12,7 +12,7 @@ use Rattle.codec.specs.declared.Tested.the-variants.{InCode, NotInCode}
 use Rattle.codec.specs.Code.{obeysAll, inCode}
 use Rattle.codec.specs.Tabled.{Tabled}
 use Rattle.codec.specs.Calls.{testCall}
-use Rattle.coding.proofs.Told.{Known, known-small, sizes-refused, sizes-known, zeros-part, are-bits, test-refused, test-mismatch, test-bad, test-good}
+use Rattle.coding.proofs.Told.{Known, known-small, sizes-refused, sizes-known, zeros-part, are-bits, test-told, test-refused, test-mismatch, test-bad, test-good}
 use Rattle.coding.proofs.test.Statement.{statement}
 use Rattle.coding.proofs.test.Tie as tie
 
@@ -64,7 +64,8 @@ returns c =
     let l = c .before .before .before in
     let a = start l .args in
     let o = c .before .outcome .given in
-    test-refused (a .book .now) (a .word .now) (o .0 .0) (sizes-refused (a .book .now) (l .load-kinds .result) (o .0 .0) (l .load-kinds .ensures .0) (o .1))
+    test-told (a .book .now) (a .word .now)
+    (test-refused (a .book .now) (a .word .now) (o .0 .0) (sizes-refused (a .book .now) (l .load-kinds .result) (o .0 .0) (l .load-kinds .ensures .0) (o .1)))
 
 enum-told : tie.Need-enum-told
 enum-told c = search needs
@@ -77,7 +78,7 @@ returns-2 c =
     let t = c .before .before in
     let K = known t in
     let a = start (t .before .before) .args in
-    test-mismatch (a .book .now) (a .word .now) (K .is) (K .loads) (λ e. c .if1 .taken (e ∙ sym (K .size)))
+    test-told (a .book .now) (a .word .now) (test-mismatch (a .book .now) (a .word .now) (K .is) (K .loads) (λ e. c .if1 .taken (e ∙ sym (K .size))))
 
 are-bits-requires : tie.Need-are-bits-requires
 are-bits-requires c κs = search needs
@@ -88,7 +89,8 @@ returns-3 c =
     let t = b .before .before .before in
     let K = known t in
     let a = start (t .before .before) .args in
-    test-bad (a .book .now) (a .word .now) (K .is) (K .loads) (b .before .if1 .left ∙ K .size) (sym (b .are-bits .ensures) ∙ not-true _ (c .if2 .taken))
+    test-told (a .book .now) (a .word .now)
+    (test-bad (a .book .now) (a .word .now) (K .is) (K .loads) (b .before .if1 .left ∙ K .size) (sym (b .are-bits .ensures) ∙ not-true _ (c .if2 .taken)))
 
 array-borrow-prefix-u : tie.Need-array-borrow-prefix-u
 array-borrow-prefix-u c = known-small (known (c .before .before .before .before .before .before))
@@ -104,10 +106,10 @@ in-code-requires c κs =
     ((_, (z .0, z .1)), (z .2 ∙ sym (K .size) ∙ zeros-part _ (known-small K), z .2 ∙ ap (λ n. 2 ^ n) (sym (K .height)), z .3))
 
 returns-4 : tie.Need-returns-4
-returns-4 c = ap (λ (r : Bool). cond r InCode NotInCode) (sym (c .if3 .taken)) ∙ answer (c .before .before)
+returns-4 c = test-told _ _ (ap (λ (r : Bool). cond r InCode NotInCode) (sym (c .if3 .taken)) ∙ answer (c .before .before))
 
 returns-5 : tie.Need-returns-5
-returns-5 c = ap (λ (r : Bool). cond r InCode NotInCode) (sym (c .if3 .left)) ∙ answer (c .before .before)
+returns-5 c = test-told _ _ (ap (λ (r : Bool). cond r InCode NotInCode) (sym (c .if3 .left)) ∙ answer (c .before .before))
 
 pub test-spec : {M : Type 1} → statement M
 test-spec =

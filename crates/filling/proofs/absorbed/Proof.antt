@@ -1,4 +1,4 @@
--- `codec::filling::absorbed` meets its contract: its test is the definition's. Assumes nothing.
+-- `filling::absorbed` meets its contract: its test is the definition's. Assumes nothing.
 use mathlib.Core.Path.{sym, ap}
 use mathlib.Core.Bool.{cond}
 use lib.Bits.{bitXor}

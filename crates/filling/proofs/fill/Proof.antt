@@ -1,4 +1,4 @@
--- `codec::filling::fill` meets its contract. The loop's invariant: the bits before index i are filled. Assumes nothing.
+-- `filling::fill` meets its contract. The loop's invariant: the bits before index i are filled. Assumes nothing.
 use mathlib.Core.Path.{_≡_, refl, sym, _∙_}
 use mathlib.Core.List.{List, [], _∷_, _++_}
 use mathlib.Core.Logic.{⊎-elim}

@@ -1,4 +1,4 @@
--- `codec::filling::forced` meets its contract: its test is the definition's. Assumes nothing.
+-- `filling::forced` meets its contract: its test is the definition's. Assumes nothing.
 use mathlib.Core.Path.{sym, ap}
 use mathlib.Core.Bool.{cond}
 use Prim.Native.Nat.{_-_, _/_, _%_, _^_}

@@ -1,4 +1,4 @@
--- `codec::filling::free_bits` meets its contract. The loop's invariant: the free bits before index i are written. Assumes nothing.
+-- `filling::free_bits` meets its contract. The loop's invariant: the free bits before index i are written. Assumes nothing.
 use mathlib.Core.Path.{_≡_, refl, ap, _∙_}
 use mathlib.Core.List.{List}
 use mathlib.Core.Logic.{⊎-elim}

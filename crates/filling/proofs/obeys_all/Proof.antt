@@ -1,4 +1,4 @@
--- `codec::filling::obeys_all` meets its contract. The loop's invariant: it goes by the bits from index i on. Assumes nothing.
+-- `filling::obeys_all` meets its contract. The loop's invariant: it goes by the bits from index i on. Assumes nothing.
 use mathlib.Core.Path.{_≡_, sym, _∙_}
 use mathlib.Core.List.{List}
 use mathlib.Core.Logic.{⊎-elim}

@@ -47,14 +47,14 @@ returns-3 c terms n old s h =
 
 place-block-requires : tie.Need-place-block-requires
 place-block-requires c κs =
-    let b = c .before .before .before .before in
+    let b = c .before .before .before in
     let d = b .before .before in
     let start = d .before .before .before .before in
     (start .pre .0, (start .pre .1, sym (b .before .fits2 .ensures) ∙ not-false (b .before .fits2 .result) (b .if2 .left)))
 
 returns-4 : tie.Need-returns-4
 returns-4 c terms n old s h =
-    let d = c .before .before .before .before .before .before .before in
+    let d = c .before .before .before .before .before .before in
     let g = d .before .before .c .given in
     let a = d .before .before .before .before .args in
     let back = toZ-ofZ w32 (g .0 .1 .0) (record { sfits = d .before .known-told .given .1 .0 .1 }) in

@@ -18,7 +18,7 @@ term-requires c κs = search needs
 returns : tie.Need-returns
 returns c old s h =
     let a = c .before .before .before .before .before .args in
-    rw (c .before .before .before .c .given .1) (c .term .ensures (tables (a .kinds .now) (a .terms .now) (a .heights .now) (a .starts .now) (a .biases .now) (a .frees .now)) old s h)
+    rw (c .before .before .before .c .given .1) (c .term .ensures (tables (a .kinds .now) (a .terms .now) (a .heights .now) (a .starts .now) (a .biases .now)) old s h)
 
 begin-requires : tie.Need-begin-requires
 begin-requires c κs = search needs
@@ -27,7 +27,7 @@ returns-2 : tie.Need-returns-2
 returns-2 c old s h =
     let m = c .before .before .before .before in
     let a = m .before .args in
-    c .begin .ensures (tables (a .kinds .now) (a .terms .now) (a .heights .now) (a .starts .now) (a .biases .now) (a .frees .now)) (not-term (a .c) (m .match .keys2)) old s h
+    c .begin .ensures (tables (a .kinds .now) (a .terms .now) (a .heights .now) (a .starts .now) (a .biases .now)) (not-term (a .c) (m .match .keys2)) old s h
 
 index-requires : tie.Need-index-requires
 index-requires c κs = search needs
@@ -36,14 +36,14 @@ returns-3 : tie.Need-returns-3
 returns-3 c old s h =
     let m = c .before .before .before .before .before .before .before in
     let a = m .before .args in
-    c .index .ensures (tables (a .kinds .now) (a .terms .now) (a .heights .now) (a .starts .now) (a .biases .now) (a .frees .now)) (not-term (a .c) (m .match .keys2)) old s h
+    c .index .ensures (tables (a .kinds .now) (a .terms .now) (a .heights .now) (a .starts .now) (a .biases .now)) (not-term (a .c) (m .match .keys2)) old s h
 
 block-requires : tie.Need-block-requires
 block-requires c κs = search needs
 
 returns-4 : tie.Need-returns-4
 returns-4 c old s h =
-    let m = c .before .before .before .before .before .before .before .before .before .before .before .before in
+    let m = c .before .before .before .before .before .before .before .before .before .before .before in
     let a = m .before .args in
     c .block .ensures (a .terms .now) (not-term (a .c) (m .match .keys2)) old s h
 

@@ -41,7 +41,7 @@ unfolding unless
 returns c terms old s h =
     let start = c .before .before .before in
     let a = start .args in
-    let table = tables (a .kinds .now) terms (a .heights .now) (a .starts .now) (a .biases .now) (a .frees .now) in
+    let table = tables (a .kinds .now) terms (a .heights .now) (a .starts .now) (a .biases .now) in
     let fit = block-fit (a .p) s (h .counts) (a .j) (a .bias) (start .pre .1 .1) in
     let stands = block-stands (a .p) s (h .counts) true (start .pre .1 .0 .0) (start .pre .1 .0 .1) (a .j) (a .bias) in
     let room = fits-facts (a .p .covered) (a .p .n) (a .j) (a .bias) (start .pre .1 .1) .1 in
@@ -75,12 +75,6 @@ mul-bias c = search needs
 element-set-from-bias : tie.Need-element-set-from-bias
 element-set-from-bias c = search needs
 
-cast-frees : tie.Need-cast-frees
-cast-frees c = search needs
-
-element-write-frees : tie.Need-element-write-frees
-element-write-frees c = search needs
-
 add-q : tie.Need-add-q
 add-q c = search needs
 
@@ -99,7 +93,7 @@ returns-2 c terms old s h =
     let d = c .before .before .before in
     let start = d .before .before .before in
     let a = start .args in
-    let table = tables (a .kinds .now) terms (a .heights .now) (a .starts .now) (a .biases .now) (a .frees .now) in
+    let table = tables (a .kinds .now) terms (a .heights .now) (a .starts .now) (a .biases .now) in
     let fit = block-fit (a .p) s (h .counts) (a .j) (a .bias) (start .pre .1 .1) in
     let stands = block-stands (a .p) s (h .counts) true (start .pre .1 .0 .0) (start .pre .1 .0 .1) (a .j) (a .bias) in
     let room = fits-facts (a .p .covered) (a .p .n) (a .j) (a .bias) (start .pre .1 .1) .1 in
@@ -125,8 +119,6 @@ place-block-spec =
     element-write-starts
     mul-bias
     element-set-from-bias
-    cast-frees
-    element-write-frees
     add-q
     add-q-2
     add-q-3

@@ -44,7 +44,7 @@ returns c =
     let o = c .before in
     let l = o .before .before in
     let r = o .outcome .given in
-    few-refused (call l) (l .before .before .args .room) (l .load .result) (r .0 .0) (l .load .ensures) (r .1)
+    few-refused (call l) (l .before .before .args .room) (l .load .result) (r .0 .0) (l .load .ensures .0) (r .1)
 
 enum-told : tie.Need-enum-told
 enum-told c = search needs
@@ -80,7 +80,7 @@ returns-3 : tie.Need-returns-3
 returns-3 c =
     let e = c .before in
     let l = loading e in
-    few-told (call l) (l .before .before .args .room) (l .load .result) (l .load .ensures) (checking e .before .enum-told .given .1) (set e)
+    few-told (call l) (l .before .before .args .room) (l .load .result) (l .load .ensures .0) (checking e .before .enum-told .given .1) (set e)
 
 pub few-spec : {M : Type 1} → statement M
 few-spec =

@@ -56,20 +56,20 @@ cast-nearest-pair c = search needs
 nearest-pair-requires : tie.Need-nearest-pair-requires
 unfolding idAt
 nearest-pair-requires c κs =
-    let s = c .before .before .before .before .before .before .before in
-    (rw (c .before .before .before .before .spot-of .ensures) (s .pre .1 .0), s .pre .1 .1)
+    let s = c .before .before .before .before .before .before in
+    (rw (c .before .before .before .spot-of .ensures) (s .pre .1 .0), s .pre .1 .1)
 
 returns : tie.Need-returns
 unfolding idAt cell
 returns c =
-    let a = c .before .before .before .before .before .before .before .before .args in
+    let a = c .before .before .before .before .before .before .before .args in
     let j = a .at .height in (
       c .nearest-pair .ensures .0,
       λ B b x o h e.
           subst (λ n. let vs = part n (2 ^ j) (a .numbers .now) in
           (c .nearest-pair .result .first ≡ candidateOf B (nearest B vs x b))
           × ((w : Word) → nearest B vs x b ≡ some w → c .nearest-pair .result .second ≡ candidateOf B (nextAfter w B vs x b)))
-          (c .before .before .before .before .before .spot-of .ensures) (c .nearest-pair .ensures .1 B b x o h e),
+          (c .before .before .before .before .spot-of .ensures) (c .nearest-pair .ensures .1 B b x o h e),
     )
 
 pub nearest-words-spec : {M : Type 1} → statement M

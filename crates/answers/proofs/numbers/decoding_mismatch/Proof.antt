@@ -26,7 +26,7 @@ returns c =
     let a = l .before .before .args in
     let o = k .outcome .given in
     c .refusal-number .ensures
-    ∙ mismatch-book (given (a .book .now) (a .visits) (a .paths) (a .limit) []) (o .0 .0) (shape-refused (a .book .now) (l .load .result) (o .0 .0) (l .load .ensures) (o .1))
+    ∙ mismatch-book (given (a .book .now) (a .visits) (a .paths) (a .limit) []) (o .0 .0) (shape-refused (a .book .now) (l .load .result) (o .0 .0) (l .load .ensures .0) (o .1))
 
 enum-told : tie.Need-enum-told
 enum-told c = search needs
@@ -46,7 +46,7 @@ returns-2 c =
     let t = s .before in
     let l = t .before .before in
     let a = l .before .before .args in
-    let (B, e, _) = shape-known (a .book .now) (l .load .result) (l .load .ensures) (t .enum-told .given .1) in
+    let (B, e, _) = shape-known (a .book .now) (l .load .result) (l .load .ensures .0) (t .enum-told .given .1) in
     mismatch-setting (given (a .book .now) (a .visits) (a .paths) (a .limit) []) B e
     (sym (settings-fit (given (a .book .now) (a .visits) (a .paths) (a .limit) []))
     ∙ none-made (a .visits) (a .paths) (a .limit) (c .enum-told2 .given .0 .0) (sym (s .checked .ensures) ∙ c .enum-told2 .given .1))
@@ -58,7 +58,7 @@ returns-3 c =
     let t = s .before in
     let l = t .before .before in
     let a = l .before .before .args in
-    let (B, e, _) = shape-known (a .book .now) (l .load .result) (l .load .ensures) (t .enum-told .given .1) in
+    let (B, e, _) = shape-known (a .book .now) (l .load .result) (l .load .ensures .0) (t .enum-told .given .1) in
     mismatch-length (given (a .book .now) (a .visits) (a .paths) (a .limit) []) B e
     (sym (settings-fit (given (a .book .now) (a .visits) (a .paths) (a .limit) []))
     ∙ these-made (a .visits) (a .paths) (a .limit) (k .s .given .0 .0) (sym (s .checked .ensures) ∙ k .s .given .1) .0)

@@ -1,7 +1,7 @@
 -- `answers::numbers::tested_number` meets its contract: each case has its number. Assumes nothing.
 use mathlib.Core.Path.{sym, ap}
 use borrow.Author.Needs.{needs}
-use Rattle.answers.specs.Numbers.{testedNumber}
+use Rattle.codec.specs.Numbers.{testedNumber}
 use Rattle.answers.proofs.numbers.tested_number.Statement.{statement}
 use Rattle.answers.proofs.numbers.tested_number.Tie as tie
 

@@ -23,7 +23,7 @@ use Rattle.attempts.proofs.attempt.attempt.Tie as tie
 
 -- where the book is loaded, and where the call begins
 abbrev start : tie.After-load-tables → tie.Start
-start l = l .before .before .before .before .before .before .before .before .before .before .before .before .before
+start l = l .before .before .before .before .before .before .before .before .before .before .before .before
 
 -- what the call is given and lent
 abbrev call : tie.Start → Input
@@ -152,7 +152,7 @@ readied e =
     let y = l .load-tables .last .1 in
     let s = start l in
     ready (call s) (buffers s) (l .load-tables .result) (l .load-tables .ensures .0) (known t) _
-    (tables (y .0) (y .1 .0) (y .1 .1 .0) (y .1 .1 .1 .0) (y .1 .1 .1 .1 .0) (y .1 .1 .1 .1 .1 .0)) (l .load-tables .ensures .1) (free e)
+    (tables (y .0) (y .1 .0) (y .1 .1 .0) (y .1 .1 .1 .0) (y .1 .1 .1 .1 .0)) (l .load-tables .ensures .1) (free e)
 
 -- the tables as the loader leaves them
 long : (t : tie.After-enum-told) → let y = loading t .load-tables .last .1 .1 .1 in (length (y .0) ≡ 512) × (length (y .1 .0) ≡ 512) × (length (y .1 .1 .0) ≡ 512)
@@ -160,7 +160,7 @@ long t =
     let l = loading t in
     let y = l .load-tables .last .1 in
     load-long (start l .args .book .now) (known t .is) (known t .loads) _
-    (tables (y .0) (y .1 .0) (y .1 .1 .0) (y .1 .1 .1 .0) (y .1 .1 .1 .1 .0) (y .1 .1 .1 .1 .1 .0)) (l .load-tables .ensures .1) (omega arith)
+    (tables (y .0) (y .1 .0) (y .1 .1 .0) (y .1 .1 .1 .0) (y .1 .1 .1 .1 .0)) (l .load-tables .ensures .1) (omega arith)
     (length-replicate {A = ℕ} 512 0) (length-replicate {A = ℕ} 512 0) (length-replicate {A = ℤ} 512 (pos 0))
 
 judge-requires : tie.Need-judge-requires

@@ -275,7 +275,7 @@ returns-2 c =
             let o = x .run-cleared .ensures .1 .0 (ready-running r (a .visits) (a .paths)) in
             let y = M.runOf (r .book) (a .visits) (a .paths) (a .values .now) in
             let f = kinds-fit x r in
-            let free = d .data-of .ensures (r .book .kinds) (r .tables .booked .tabled .coded) (f .0) (f .1) in (
+            let free = d .data-of .ensures .0 (r .book .kinds) (r .tables .booked .tabled .coded) (f .0) (f .1) in (
               within (a .limit) y (found r (a .visits) (a .paths) (s .pre .0 .0)) (x .run-cleared .result) (o .0) (e .if1 .left),
               o .2,
               o .3,

@@ -1,4 +1,4 @@
--- `checks::Settings::checked` meets its contract: each refusal by the test that a range fails, the settings by all five. Assumes nothing.
+-- `checks::Settings::checked` meets its contract: each refusal by the test that a range fails, the settings by all six. Assumes nothing.
 use mathlib.Core.Logic.{⊎-elim}
 use native.Mathlib.Omega.{arith}
 use borrow.Author.Tests.{ltb-true, ltb-false}
@@ -21,11 +21,12 @@ returns-2 c =
 returns-3 : tie.Need-returns-3
 returns-3 c =
     let a = c .before .before .before .before .before .args in
-    refused (a .visits) (a .paths) (a .limit) (λ r. omega (arith, c .if5 .taken, r .limited))
+    refused (a .visits) (a .paths) (a .limit)
+    (λ r. ⊎-elim (λ w. omega (arith, w .taken)) (λ w. omega (arith, ltb-true 1048576 (a .limit) (w .1 .taken), r .limited)) (c .if5 .came))
 
 returns-4 : tie.Need-returns-4
 returns-4 c =
-    let d = c .before in
+    let d = c .before .before in
     let a = d .before .before .before .before .args in
     made (a .visits) (a .paths) (a .limit)
     (record {
@@ -33,7 +34,7 @@ returns-4 c =
       visits = ltb-false 32 (a .visits) (d .before .before .if2 .left);
       alive = d .before .if3 .left;
       paths = ltb-false 256 (a .paths) (d .if4 .left);
-      limited = c .if5 .left;
+      limited = ltb-false 1048576 (a .limit) (c .if6 .left);
     })
 
 pub checked-spec : {M : Type 1} → statement M

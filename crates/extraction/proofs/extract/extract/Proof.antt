@@ -62,16 +62,16 @@ copied c o = c .second .ensures .1 .1 .0 (extract-seconding o)
 
 third-requires : tie.Need-third-requires
 third-requires c κs =
-    let t = c .before .before .before .before .before .before .before .before .before .before .before .before .before .before in
+    let t = c .before .before .before .before .before .before .before .before .before .before .before .before .before in
     let a = start t .args in
     let f = t .second .ensures in (
-      (f .0 .0, f .0 .1, f .1 .0 .2, f .0 .3, f .0 .4),
+      (f .0 .0, f .0 .1, f .1 .0 .2, f .0 .3, f .0 .4 .words-size, f .0 .4 .sums-size),
       ((vacants t, extract-thirding (own (start t)) (a .t .next) (a .t .crowded) (words t) (copied t (own (start t)))), f .1 .1 .1 .0),
     )
 
 -- after the move, for any state; and the words kept
 abbrev seconded : tie.After-third → tie.After-second
-seconded c = c .before .before .before .before .before .before .before .before .before .before .before .before .before .before .before
+seconded c = c .before .before .before .before .before .before .before .before .before .before .before .before .before .before
 
 abbrev at-third : tie.After-third → Memory
 at-third c = let f = c .third .last in memory (f .0) (f .1 .0) (f .1 .1 .1 .0) (f .1 .1 .1 .1 .0)
@@ -124,7 +124,7 @@ returns c =
         f .0 .2,
         ap length (f .0 .3) ∙ visit-length (a .visits .now) b ∙ s .pre .0 .3,
         l .2,
-        l .3,
+        record { words-size = l .3; sets-size = t .second .ensures .0 .4 .sets-size; sums-size = l .4 },
       ),
       (
         (f .0 .5 ∙ t .second .ensures .1 .0 .0, f .0 .7),

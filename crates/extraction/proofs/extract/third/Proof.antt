@@ -132,19 +132,19 @@ mul-parities-2 c = search needs
 nearest-words-requires : tie.Need-nearest-words-requires
 unfolding memory
 nearest-words-requires c κs =
-    let t = c .before .before .before .before .before .before .before .before in
+    let t = c .before .before .before .before .before .before .before in
     let s = start (made t) in
     let o = own s in
     let l = made t .calculate .ensures .0 .0 in
     let st = values-there (made t) _ o in
     rw (slot-is t) (
       (row-there t, l .deep, third-low o, third-id o st (l .many)),
-      (third-searchable o st l, s .pre .0 .4),
+      (third-searchable o st l, (s .pre .0 .4, s .pre .0 .5)),
     )
 
 -- the words found, for any state
 abbrev slotted : tie.After-nearest-words → tie.After-slot-of
-slotted c = c .before .before .before .before .before .before .before .before .before
+slotted c = c .before .before .before .before .before .before .before .before
 
 two-found : (c : tie.After-nearest-words) (vs : List ℕ) (o : Third (start (made (slotted c))) vs) →
     let y = at-made (made (slotted c)) in
@@ -330,7 +330,8 @@ returns c =
         },
         i .insert .ensures .0 .0,
         omega (arith, k .0 .size, start (made t) .pre .0 .3),
-        u .nearest-words .ensures .0,
+        u .nearest-words .ensures .0 .0,
+        u .nearest-words .ensures .0 .1,
       ),
       (
         λ vs o.

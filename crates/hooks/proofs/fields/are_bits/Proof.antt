@@ -1,4 +1,4 @@
--- `codec::fields::are_bits` meets its contract. The loop's invariant: whether all are bits goes by those from i on. Assumes nothing.
+-- `hooks::fields::are_bits` meets its contract. The loop's invariant: whether all are bits goes by those from i on. Assumes nothing.
 use mathlib.Core.Path.{_≡_, refl, _∙_}
 use Prim.Native.Nat.{_-_, _≤_}
 use native.Mathlib.Omega.{arith}

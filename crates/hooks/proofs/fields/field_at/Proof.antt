@@ -1,4 +1,4 @@
--- `codec::fields::field_at` meets its contract. The loop's invariant: the digits so far, and the bits left, make the field. Assumes nothing.
+-- `hooks::fields::field_at` meets its contract. The loop's invariant: the digits so far, and the bits left, make the field. Assumes nothing.
 use mathlib.Core.Path.{_≡_, refl, sym, ap, _∙_}
 use Prim.Native.Nat.{_+_, _-_, _^_, _≤_, _<_}
 use native.Mathlib.Omega.{arith}

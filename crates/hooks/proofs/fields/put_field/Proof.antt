@@ -1,4 +1,4 @@
--- `codec::fields::put_field` meets its contract. The loop's invariant: the first i bits are written, and the rest is as it was. Assumes nothing.
+-- `hooks::fields::put_field` meets its contract. The loop's invariant: the first i bits are written, and the rest is as it was. Assumes nothing.
 use mathlib.Core.Path.{_≡_, refl, sym}
 use mathlib.Core.Logic.{inr}
 use Prim.Native.Nat.{_+_, _-_}

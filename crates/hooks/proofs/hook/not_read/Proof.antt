@@ -1,4 +1,4 @@
--- `codec::hook::not_read` meets its contract. Assumes nothing.
+-- `hooks::hook::not_read` meets its contract. Assumes nothing.
 use mathlib.Core.Path.{refl}
 use Rattle.codec.specs.Record.{noRecord}
 use Rattle.codec.specs.Calls.{notRead}

@@ -1,4 +1,4 @@
--- `codec::hook::put_record` meets its contract: the fields follow each other and fill the 32 bits. Assumes nothing.
+-- `hooks::hook::put_record` meets its contract: the fields follow each other and fill the 32 bits. Assumes nothing.
 use mathlib.Core.Path.{refl, _∙_}
 use mathlib.Core.List.{[], _++_, append-assoc}
 use native.Mathlib.Omega.{arith}

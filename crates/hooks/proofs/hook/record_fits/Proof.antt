@@ -1,4 +1,4 @@
--- `codec::hook::record_fits` meets its contract: its tests are the definition's. Assumes nothing.
+-- `hooks::hook::record_fits` meets its contract: its tests are the definition's. Assumes nothing.
 use mathlib.Core.Path.{refl}
 use borrow.Author.Tests.{le-ltb, lt-ltb}
 use Rattle.codec.specs.Record.{recordFits}

@@ -1,4 +1,4 @@
--- `codec::hook::record_of` meets its contract: by the status's number. Assumes nothing.
+-- `hooks::hook::record_of` meets its contract: by the status's number. Assumes nothing.
 use mathlib.Core.Path.{_≡_, sym, ap, _∙_}
 use Prim.Native.Nat.{ℕ}
 use native.Mathlib.Omega.{arith}

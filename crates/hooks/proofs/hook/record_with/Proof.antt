@@ -1,4 +1,4 @@
--- `codec::hook::record_with` meets its contract: by the spare bits, and field by field. Assumes nothing.
+-- `hooks::hook::record_with` meets its contract: by the spare bits, and field by field. Assumes nothing.
 use mathlib.Core.Path.{refl, sym, _∙_}
 use borrow.Author.Needs.{needs}
 use borrow.Author.Tests.{eq-eqb, ne-eqb}

@@ -1,4 +1,4 @@
--- `codec::hook::status_number` meets its contract: each case has its number. Assumes nothing.
+-- `hooks::hook::status_number` meets its contract: each case has its number. Assumes nothing.
 use mathlib.Core.Path.{sym, ap}
 use borrow.Author.Needs.{needs}
 use Rattle.codec.specs.Record.{statusNumber}

@@ -8,7 +8,7 @@ load-requires : tie.Need-load-requires
 load-requires c κs = search needs
 
 returns : tie.Need-returns
-returns c = free-within _ _ (c .load .ensures)
+returns c = free-within _ _ (c .load .ensures .0)
 
 pub shape-spec : {M : Type 1} → statement M
 shape-spec = tie.close (tie.spec load-requires returns)

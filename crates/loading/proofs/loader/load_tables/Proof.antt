@@ -12,11 +12,11 @@ use Rattle.loading.proofs.loader.load_tables.Statement.{statement}
 use Rattle.loading.proofs.loader.load_tables.Tie as tie
 
 abbrev Inv-loop : tie.InvT-loop
-Inv-loop book kinds₀ terms₀ heights₀ starts₀ biases₀ frees₀ p₀ at₀ kinds terms heights starts biases frees p at =
-    Reached book (tables kinds₀ terms₀ heights₀ starts₀ biases₀ frees₀) p (tables kinds terms heights starts biases frees) at
+Inv-loop book kinds₀ terms₀ heights₀ starts₀ biases₀ p₀ at₀ kinds terms heights starts biases p at =
+    Reached book (tables kinds₀ terms₀ heights₀ starts₀ biases₀) p (tables kinds terms heights starts biases) at
 
 abbrev μ-loop : tie.MeasureT-loop
-μ-loop book kinds₀ terms₀ heights₀ starts₀ biases₀ frees₀ p₀ at₀ kinds terms heights starts biases frees p at =
+μ-loop book kinds₀ terms₀ heights₀ starts₀ biases₀ p₀ at₀ kinds terms heights starts biases p at =
     length book - at
 
 sized-requires : tie.Need-sized-requires Inv-loop μ-loop
@@ -40,13 +40,13 @@ refuse-requires c κs = search needs
 returns : tie.Need-returns Inv-loop μ-loop
 returns c =
     let at = c .before .before .before .before .before in
-    let book = at .before .before .before .before .before .before .before .before .before .args .book .now in
+    let book = at .before .before .before .before .before .before .before .before .args .book .now in
     let l = at .loop in
     let read = sym (c .before .before .before .read-command .ensures) ∙ c .before .enum-told .given .1 in
     refused-answer book _ _ Unknown _ (reached-unlisted _ _ _ _ _ (l .inv) (c .before .before .before .before .loop-test .taken) read) (c .refuse .ensures)
 
 obey-requires : tie.Need-obey-requires Inv-loop μ-loop
-obey-requires c κs = c .before .before .before .before .before .before .before .before .before .before .before .loop .inv .holds .counts .safe
+obey-requires c κs = c .before .before .before .before .before .before .before .before .before .before .loop .inv .holds .counts .safe
 
 enum-known-q : tie.Need-enum-known-q Inv-loop μ-loop
 enum-known-q c = search needs
@@ -54,7 +54,7 @@ enum-known-q c = search needs
 loop-less : tie.Need-loop-less Inv-loop μ-loop
 loop-less c =
     let o = c .before .before .before in
-    let d = o .before .before .before .before .before .before .before .before in
+    let d = o .before .before .before .before .before .before .before in
     let x = d .c .given .0 in
     let e = sym (d .before .before .read-command .ensures) ∙ d .c .given .1 in
     let h = d .before .before .before .loop-test .taken in
@@ -64,7 +64,7 @@ loop-less c =
 loop-again : tie.Need-loop-again Inv-loop μ-loop
 loop-again c =
     let o = c .before .before .before in
-    let d = o .before .before .before .before .before .before .before .before in
+    let d = o .before .before .before .before .before .before .before in
     let x = d .c .given .0 in
     let e = sym (d .before .before .read-command .ensures) ∙ d .c .given .1 in
     let h = d .before .before .before .loop-test .taken in
@@ -80,7 +80,7 @@ finish-requires c κs = search needs
 returns-2 : tie.Need-returns-2 Inv-loop μ-loop
 returns-2 c =
     let o = c .before .before .before .before in
-    let d = o .before .before .before .before .before .before .before .before in
+    let d = o .before .before .before .before .before .before .before in
     let x = d .c .given .0 in
     let e = sym (d .before .before .read-command .ensures) ∙ d .c .given .1 in
     let h = d .before .before .before .loop-test .taken in
@@ -97,7 +97,7 @@ refuse-requires-2 c κs = search needs
 returns-3 : tie.Need-returns-3 Inv-loop μ-loop
 returns-3 c =
     let o = c .before .before .before .before in
-    let d = o .before .before .before .before .before .before .before .before in
+    let d = o .before .before .before .before .before .before .before in
     let x = d .c .given .0 in
     let e = sym (d .before .before .read-command .ensures) ∙ d .c .given .1 in
     let h = d .before .before .before .loop-test .taken in

@@ -1,4 +1,4 @@
--- `answers::book::load_answer` meets its contract: the shape is written where its length is 3, and kept where it is not. Assumes nothing.
+-- `numbered::book::load_answer` meets its contract: the shape is written where its length is 3, and kept where it is not. Assumes nothing.
 use mathlib.Core.Path.{_∙_, sym, ap}
 use mathlib.Core.List.{[], _∷_}
 use Rattle.codebook.specs.Refusals.{outcomeNumber}
@@ -20,7 +20,7 @@ returns c =
     let loads = c .before .before in
     let a = loads .before .before .before .args in
     let w = sym (load-left (a .book .now) (a .shape .now) (c .before .if1 .taken)) in
-    (c .length-mismatch .ensures ∙ ap (λ s. lengthMismatch (s .outcome)) (loads .load .ensures) ∙ ap (λ x. x .number) w, ap (λ x. x .slice) w)
+    (c .length-mismatch .ensures ∙ ap (λ s. lengthMismatch (s .outcome)) (loads .load .ensures .0) ∙ ap (λ x. x .number) w, ap (λ x. x .slice) w)
 
 slice-write-shape : tie.Need-slice-write-shape
 slice-write-shape c = search needs
@@ -44,8 +44,8 @@ returns-2 c =
     let s = loads .load .result in
     let e = c .before .if1 .left in
     let w = sym (load-written (a .book .now) (a .shape .now) e) in (
-      c .outcome-number .ensures ∙ ap (λ s. outcomeNumber (s .outcome)) (loads .load .ensures) ∙ ap (λ x. x .number) w,
-      three (a .shape .now) (s .n) (s .k) (s .blocks) e ∙ ap (λ s. s .n ∷ s .k ∷ s .blocks ∷ []) (loads .load .ensures) ∙ ap (λ x. x .slice) w,
+      c .outcome-number .ensures ∙ ap (λ s. outcomeNumber (s .outcome)) (loads .load .ensures .0) ∙ ap (λ x. x .number) w,
+      three (a .shape .now) (s .n) (s .k) (s .blocks) e ∙ ap (λ s. s .n ∷ s .k ∷ s .blocks ∷ []) (loads .load .ensures .0) ∙ ap (λ x. x .slice) w,
     )
 
 pub load-answer-spec : {M : Type 1} → statement M

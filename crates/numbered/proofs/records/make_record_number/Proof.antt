@@ -1,4 +1,4 @@
--- `answers::records::make_record_number` meets its contract: it is the codec's call on the record of the fields, and its outcome's number. Assumes nothing.
+-- `numbered::records::make_record_number` meets its contract: it is the codec's call on the record of the fields, and its outcome's number. Assumes nothing.
 use mathlib.Core.Path.{_∙_, ap}
 use Rattle.codebook.specs.Refusals.{outcomeNumber}
 use Rattle.codec.specs.Record.{statusOf}
@@ -25,7 +25,7 @@ returns c =
     let made = c .before .before .before in
     let given = made .before .before in
     let a = given .before .before .before .args in
-    let e = made .make-record .ensures in
+    let e = made .make-record .ensures .0 in
     let w = ap (λ h. makeRecordCall (a .book .now) h (a .bits .now)) (given .record-from .ensures)
     ∙ from-fields (a .book .now) (a .plant) (a .carcass) (a .side) (statusOf (a .status)) (a .bits .now) in
     (c .outcome-number .ensures ∙ ap outcomeNumber (e .0) ∙ ap (λ x. outcomeNumber (x .outcome)) w, e .1 ∙ ap (λ x. x .buffer) w)

@@ -1,4 +1,4 @@
--- `answers::records::read_record_answer` meets its contract: the record is written where its length is 4, and kept where it is not. Assumes nothing.
+-- `numbered::records::read_record_answer` meets its contract: the record is written where its length is 4, and kept where it is not. Assumes nothing.
 use mathlib.Core.Path.{_∙_, sym, ap}
 use Rattle.codebook.specs.Refusals.{outcomeNumber}
 use Rattle.answers.specs.Slices.{recordSlice}
@@ -18,7 +18,7 @@ returns : tie.Need-returns
 returns c =
     let a = c .before .before .before .before .before .before .args in
     let w = sym (record-left (a .book .now) (a .bits .now) (a .hook .now) (c .before .before .if1 .taken)) in
-    (c .length-mismatch .ensures ∙ ap (λ s. lengthMismatch (s .outcome)) (c .before .load .ensures) ∙ ap (λ x. x .number) w, ap (λ x. x .slice) w)
+    (c .length-mismatch .ensures ∙ ap (λ s. lengthMismatch (s .outcome)) (c .before .load .ensures .0) ∙ ap (λ x. x .number) w, ap (λ x. x .slice) w)
 
 read-record-requires : tie.Need-read-record-requires
 read-record-requires c κs = search needs
@@ -37,8 +37,8 @@ returns-2 c =
     let reads = c .before .before .before .before .before .before in
     let a = reads .before .before .before .before .before .args in
     let w = sym (record-written (a .book .now) (a .bits .now) (a .hook .now) (reads .before .if1 .left)) in (
-      c .outcome-number .ensures ∙ ap (λ x. outcomeNumber (x .outcome)) (reads .read-record .ensures) ∙ ap (λ x. x .number) w,
-      c .before .before .before .put-hook .ensures ∙ ap (λ x. recordSlice (x .hook)) (reads .read-record .ensures) ∙ ap (λ x. x .slice) w,
+      c .outcome-number .ensures ∙ ap (λ x. outcomeNumber (x .outcome)) (reads .read-record .ensures .0) ∙ ap (λ x. x .number) w,
+      c .before .before .before .put-hook .ensures ∙ ap (λ x. recordSlice (x .hook)) (reads .read-record .ensures .0) ∙ ap (λ x. x .slice) w,
     )
 
 pub read-record-answer-spec : {M : Type 1} → statement M

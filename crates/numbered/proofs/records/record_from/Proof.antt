@@ -1,4 +1,4 @@
--- `answers::records::record_from` meets its contract: by the status's number. Assumes nothing.
+-- `numbered::records::record_from` meets its contract: by the status's number. Assumes nothing.
 use mathlib.Core.Path.{sym, ap}
 use native.Mathlib.Omega.{arith}
 use Rattle.codec.specs.Record.{statusOf}

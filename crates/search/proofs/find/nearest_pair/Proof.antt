@@ -16,7 +16,7 @@ search-pair-requires c κs = search needs
 returns : tie.Need-returns
 unfolding foundPair
 returns c =
-    let s = c .before .before .before .before in
+    let s = c .before .before .before in
     let a = s .args in
     let l = part (a .at) (2 ^ a .j) (a .numbers .now) in
     let size = part-length (a .at) (2 ^ a .j) (a .numbers .now) (s .pre .0 .within) in (

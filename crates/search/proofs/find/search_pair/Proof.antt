@@ -85,7 +85,7 @@ find-two-requires : tie.Need-find-two-requires
 find-two-requires c κs =
     let s = c .before .before .before .before .before .before .before .before .before in
     let e = c .before .before .before .before .before .before .before .before .power .ensures in
-    (s .pre .1 .words-size, s .pre .1 .sums-size, few (c .before .before .before .before .before), rw e (s .pre .0 .walk .short), rw e (s .pre .0 .within), rw e (s .pre .0 .small))
+    (s .pre .1 .0, s .pre .1 .1, few (c .before .before .before .before .before), rw e (s .pre .0 .walk .short), rw e (s .pre .0 .within), rw e (s .pre .0 .small))
 
 returns-3 : tie.Need-returns-3
 returns-3 c =
@@ -97,7 +97,7 @@ returns-3 c =
     let short : p .result ≤ 32 = rw (p .ensures) (s .pre .0 .walk .short) in
     let t = c .find-two in
     let r = t .ensures .1 x (w .ensures .3) (entry-word (a .kinds .now) (a .terms .now) (a .start) (a .parities) (p .result) short) in (
-      record { words-size = t .ensures .0 .0; sets-size = s .pre .1 .sets-size; sums-size = t .ensures .0 .1 },
+      t .ensures .0,
       pair-passed (a .kinds .now) (a .terms .now) (a .start) (a .parities) (a .at) (a .j) (p .result) (2 ^ w .result) (a .numbers .now) (p .ensures) (w .ensures .2) _ (r .0) (r .1),
     )
 
