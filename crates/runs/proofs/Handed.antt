@@ -32,7 +32,8 @@ use Rattle.machine.specs.Machine.{runOf}
 use Rattle.machine.specs.Calls.{Input, Lent, Called, settingsOk, lentOk, valuesOk, barred, countsOf, afterRun, isDone}
 use Rattle.machine.specs.Calls.{plainRan, plainRefused, plainChecked, plainWith, plainCall}
 use Rattle.machine.specs.Calls.{hookOf, hookRan, hookRefused, hookChecked, hookWith, hookCall}
-use Rattle.runs.specs.Handed.{Made, finalWord, HandedOut, Withheld, PlainHanded, HookHanded}
+use Rattle.machine.specs.Numbers.{finalWord}
+use Rattle.runs.specs.Handed.{Made, HandedOut, Withheld, PlainHanded, HookHanded}
 use Rattle.runs.proofs.Final.{run-exact}
 
 -- ---- what bars a call
