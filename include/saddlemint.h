@@ -129,7 +129,7 @@ uint32_t saddlemint_decode(const uint8_t *book, size_t book_len, uint32_t visits
  *   record: exactly 4 entries: plant, carcass, side, status
  * Answers as saddlemint_decode, and 11 where the data hold no record; word and data are then left as they were.
  * record is written with every answer, zeros on a refusal; where counts_len or record_len is not 4 the answer is 1 to 6, 8, or else 7, and
- * every buffer is as it was.
+ * every buffer is as it was, but of counts and record the one that has its 4 entries is zeros.
  */
 uint32_t saddlemint_decode_hook(const uint8_t *book, size_t book_len, uint32_t visits, uint32_t paths, uint32_t limit,
                                 const int16_t *values, size_t values_len, uint8_t *word, size_t word_len, uint8_t *data, size_t data_len,

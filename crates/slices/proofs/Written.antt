@@ -10,7 +10,12 @@ use Rattle.codebook.specs.Refusals.{outcomeNumber}
 use Rattle.machine.specs.Calls.{Input, Lent, plainCall, hookCall}
 use Rattle.answers.specs.Slices.{countsSlice, recordSlice}
 use Rattle.answers.proofs.Slices.{at-length, at-other}
-use Rattle.slices.specs.Slices.{Answered, mismatch, plainAnswered, hookAnswered}
+use Rattle.slices.specs.Slices.{Answered, cleared, mismatch, plainAnswered, hookAnswered}
+
+-- a slice of another length is left
+pub cleared-left : (slice : List ℕ) → (length slice ≡ 4 → ⊥) → cleared slice ≡ slice
+unfolding cleared
+cleared-left slice f = at-other _ _ (length slice) 4 f
 
 module _ (c : Input) (l : Lent) (counts hook : List ℕ) where
   pub plain-written : length counts ≡ 4 →

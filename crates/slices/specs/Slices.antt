@@ -1,7 +1,8 @@
 -- The decoding calls with a number as the answer, and counts and record in lent slices of 4 entries. These are written with every answer; but one that is
--- lent at another length is refused as 7, where 7 stands in the table's order, and then every slice keeps what it held. Assumes nothing.
+-- lent at another length is refused as 7, where 7 stands in the table's order, and keeps what it held; the other is zeros then, as with every refusal
+-- from 1 to 9. Assumes nothing.
 use mathlib.Core.Bool.{cond, _&&_}
-use mathlib.Core.List.{List, []}
+use mathlib.Core.List.{List, [], _∷_}
 use Prim.Native.Nat.{ℕ}
 use lib.ListN.{length}
 use lib.Dec.{eqb}
@@ -17,9 +18,13 @@ pub record Answered : Type 0 where
   pub counts : List ℕ
   pub hook : List ℕ
 
--- the answer where counts or record have a wrong length: its number, and every buffer and slice as it was
+-- counts or record of a call that makes no run: zeros in a slice of 4 entries; one of another length keeps what it held
+unfoldable pub cleared : List ℕ → List ℕ
+cleared slice = cond (eqb (length slice) 4) (0 ∷ 0 ∷ 0 ∷ 0 ∷ []) slice
+
+-- the answer where counts or record have a wrong length: its number, every buffer as it was, and zeros in whichever of the two has its length
 unfoldable pub mismatch : Input → Lent → List ℕ → List ℕ → Answered
-mismatch c l counts hook = record { number = decodingMismatch c; lent = l; counts = counts; hook = hook }
+mismatch c l counts hook = record { number = decodingMismatch c; lent = l; counts = cleared counts; hook = cleared hook }
 
 -- the plain call, which has no record
 unfoldable pub plainAnswered : Input → Lent → List ℕ → Answered

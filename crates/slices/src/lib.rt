@@ -8,7 +8,20 @@ use decoder::decode;
 use decoder::decode_hook;
 ghost use mathlib.Core.Path.{_≡_};
 ghost use Rattle.machine.specs.Calls.{given, lent};
-ghost use Rattle.slices.specs.Slices.{plainAnswered, hookAnswered};
+ghost use Rattle.slices.specs.Slices.{cleared, plainAnswered, hookAnswered};
+
+// Zeros for a slice of 4 entries; one of another length is left.
+fn clear(slice: &mut [u32])
+    ensures { λ _. ⌜ now (slice .exit) ≡ cleared (now (slice .entry)) ⌝ }
+{
+    if slice.len() != 4 {
+        return;
+    }
+    slice[0] = 0;
+    slice[1] = 0;
+    slice[2] = 0;
+    slice[3] = 0;
+}
 
 // The plain decoding call.
 pub fn decode_slices(
@@ -81,9 +94,11 @@ pub fn decode_hook_slices(
         × (now (counts .exit) ≡ a .counts) × (now (hook .exit) ≡ a .hook)) ⌝ }
 {
     if counts.len() != 4 {
+        clear(hook);
         return decoding_mismatch(book, visits, paths, limit);
     }
     if hook.len() != 4 {
+        clear(counts);
         return decoding_mismatch(book, visits, paths, limit);
     }
     let x = decode_hook(

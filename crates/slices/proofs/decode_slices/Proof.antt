@@ -6,7 +6,7 @@ use Rattle.machine.specs.Calls.{Input, Lent, given, lent}
 use Rattle.answers.specs.Slices.{countsSlice}
 use Rattle.answers.proofs.Mismatches.{mismatch-values}
 use Rattle.slices.specs.Slices.{mismatch}
-use Rattle.slices.proofs.Written.{plain-written, plain-left}
+use Rattle.slices.proofs.Written.{cleared-left, plain-written, plain-left}
 use borrow.Author.Needs.{needs}
 use Rattle.slices.proofs.decode_slices.Statement.{statement}
 use Rattle.slices.proofs.decode_slices.Tie as tie
@@ -31,7 +31,7 @@ returns c =
     let w = sym (plain-left (input s) (buffers s) (a .counts .now) [] (c .before .if1 .taken)) in (
       c .decoding-mismatch .ensures ∙ mismatch-values (a .book .now) (a .visits) (a .paths) (a .limit) [] (a .values .now) ∙ ap (λ x. x .number) w,
       ap (λ x. x .lent) w,
-      ap (λ x. x .counts) w,
+      sym (cleared-left (a .counts .now) (c .before .if1 .taken)) ∙ ap (λ x. x .counts) w,
     )
 
 decode-requires : tie.Need-decode-requires

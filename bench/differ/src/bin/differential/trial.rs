@@ -303,8 +303,7 @@ impl Trial<'_> {
     fn decode(&mut self, hook: bool) -> Result<u32, String> {
         let case = self.case;
         let (raw, sizes) = (case.raw, case.sizes);
-        let (counts, record) = (self.near(4), self.near(4));
-        let fits = counts == 4 && (record == 4 || !hook);
+        let lengths = (self.near(4), self.near(4));
         let mut book = self.book();
         let mut values = self.input("values", &case.values);
         let mut word = self.garbage("word", sizes.word);
@@ -314,8 +313,8 @@ impl Trial<'_> {
         let mut path = self.garbage("walk path", sizes.walk[0]);
         let mut blocks = self.garbage("walk blocks", sizes.walk[1]);
         let mut score = self.garbage("walk score", sizes.walk[2]);
-        let mut counts = self.garbage("counts", counts);
-        let mut record = self.garbage("record", record);
+        let mut counts = self.garbage("counts", lengths.0);
+        let mut record = self.garbage("record", lengths.1);
         let answer = if hook {
             unsafe {
                 saddlemint_decode_hook(
@@ -375,7 +374,7 @@ impl Trial<'_> {
                 )
             }
         };
-        let expected = self.expected(hook, fits);
+        let expected = self.expected(hook, lengths);
         let lent = &expected.lent;
         same(answer, expected.answer)?;
         book.kept()?;
@@ -392,19 +391,20 @@ impl Trial<'_> {
         Ok(answer)
     }
 
-    /// What a decoding call should do; `fits` says whether counts and record
-    /// have their lengths.
-    fn expected(&mut self, hook: bool, fits: bool) -> Expected {
+    /// What a decoding call should do with counts and record of these lengths.
+    /// Where one is wrong, the other is zeros.
+    fn expected(&mut self, hook: bool, (counts, record): (usize, usize)) -> Expected {
         let case = self.case;
         let mut lent = Buffers::new(&case.sizes);
-        if !fits {
+        if counts != 4 || (record != 4 && hook) {
+            let zeros = |length| if length == 4 { vec![0; 4] } else { Vec::new() };
             let refusal = book::load(&case.book).err();
             let refusal = refusal.or(Settings::new(case.raw).err());
             cut(&mut lent, 0, (0, 0), 0);
             return Expected {
                 answer: number(refusal.or(Some(Refusal::Misfit))),
-                counts: Vec::new(),
-                record: Vec::new(),
+                counts: zeros(counts),
+                record: zeros(record),
                 lent,
             };
         }
