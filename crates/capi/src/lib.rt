@@ -15,7 +15,7 @@ ghost use Rattle.codec.specs.Calls.{encodeCall, testCall, readDataCall};
 ghost use Rattle.codec.specs.Numbers.{testedNumber};
 ghost use Rattle.machine.specs.Calls.{given, lent};
 ghost use Rattle.numbered.specs.Answers.{loadAnswer, makeRecordWrote, readRecordAnswer};
-ghost use Rattle.slices.specs.Slices.{plainAnswered, hookAnswered};
+ghost use Rattle.slices.specs.Slices.{plainAnswered, hookAnswered, PlainSlices, HookSlices};
 
 // Loads a book: its n, k and V.
 #[no_mangle]
@@ -93,12 +93,12 @@ pub extern "C" fn saddlemint_decode(
     walk_score: &mut [i32],
     counts: &mut [u32],
 ) -> u32
-    ensures { λ r. ⌜ (let a = plainAnswered (given (now (book .entry)) visits paths limit (now (values .entry)))
-        (lent (now (word .entry)) (now (bits .entry)) (now (numbers .entry)) (now (bytes .entry)) (now («walk_path» .entry)) (now («walk_blocks» .entry)) (now («walk_score» .entry)))
-        (now (counts .entry)) in
-        (r ≡ a .number)
-        × (lent (now (word .exit)) (now (bits .exit)) (now (numbers .exit)) (now (bytes .exit)) (now («walk_path» .exit)) (now («walk_blocks» .exit)) (now («walk_score» .exit)) ≡ a .lent)
-        × (now (counts .exit) ≡ a .counts)) ⌝ }
+    ensures { λ r. ⌜ (let c = given (now (book .entry)) visits paths limit (now (values .entry)) in
+        let l = lent (now (word .entry)) (now (bits .entry)) (now (numbers .entry)) (now (bytes .entry)) (now («walk_path» .entry)) (now («walk_blocks» .entry)) (now («walk_score» .entry)) in
+        let after = lent (now (word .exit)) (now (bits .exit)) (now (numbers .exit)) (now (bytes .exit)) (now («walk_path» .exit)) (now («walk_blocks» .exit)) (now («walk_score» .exit)) in
+        let a = plainAnswered c l (now (counts .entry)) in
+        (r ≡ a .number) × (after ≡ a .lent) × (now (counts .exit) ≡ a .counts)
+        × PlainSlices c l (now (counts .entry)) r after (now (counts .exit))) ⌝ }
 {
     decode_slices(
         book,
@@ -135,12 +135,12 @@ pub extern "C" fn saddlemint_decode_hook(
     counts: &mut [u32],
     hook: &mut [u32],
 ) -> u32
-    ensures { λ r. ⌜ (let a = hookAnswered (given (now (book .entry)) visits paths limit (now (values .entry)))
-        (lent (now (word .entry)) (now (bits .entry)) (now (numbers .entry)) (now (bytes .entry)) (now («walk_path» .entry)) (now («walk_blocks» .entry)) (now («walk_score» .entry)))
-        (now (counts .entry)) (now (hook .entry)) in
-        (r ≡ a .number)
-        × (lent (now (word .exit)) (now (bits .exit)) (now (numbers .exit)) (now (bytes .exit)) (now («walk_path» .exit)) (now («walk_blocks» .exit)) (now («walk_score» .exit)) ≡ a .lent)
-        × (now (counts .exit) ≡ a .counts) × (now (hook .exit) ≡ a .hook)) ⌝ }
+    ensures { λ r. ⌜ (let c = given (now (book .entry)) visits paths limit (now (values .entry)) in
+        let l = lent (now (word .entry)) (now (bits .entry)) (now (numbers .entry)) (now (bytes .entry)) (now («walk_path» .entry)) (now («walk_blocks» .entry)) (now («walk_score» .entry)) in
+        let after = lent (now (word .exit)) (now (bits .exit)) (now (numbers .exit)) (now (bytes .exit)) (now («walk_path» .exit)) (now («walk_blocks» .exit)) (now («walk_score» .exit)) in
+        let a = hookAnswered c l (now (counts .entry)) (now (hook .entry)) in
+        (r ≡ a .number) × (after ≡ a .lent) × (now (counts .exit) ≡ a .counts) × (now (hook .exit) ≡ a .hook)
+        × HookSlices c l (now (counts .entry)) (now (hook .entry)) r after (now (counts .exit)) (now (hook .exit))) ⌝ }
 {
     decode_hook_slices(
         book,

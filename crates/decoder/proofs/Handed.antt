@@ -16,6 +16,7 @@ use Rattle.polar.proofs.Transform.{transform-bits}
 use Rattle.codebook.specs.declared.Refusal.{Refusal}
 use Rattle.codebook.specs.declared.Outcome.{Outcome}
 use Rattle.codebook.specs.declared.Outcome.the-variants.{Done, Refused}
+use Rattle.codebook.specs.Refusals.{outcomeNumber}
 use Rattle.codebook.specs.Book.{Book, freeCount}
 use Rattle.codebook.specs.Loading.{Load, refused, loaded, load}
 use Rattle.codec.specs.Code.{readData}
@@ -27,6 +28,7 @@ use Rattle.machine.specs.declared.Counts.{Counts}
 use Rattle.machine.specs.declared.Decoded.{Decoded}
 use Rattle.machine.specs.declared.HookDecoded.{HookDecoded}
 use Rattle.machine.specs.Calls.{Input, Lent, lent, Called, barred, afterRun, isDone, plainCall, hookCall}
+use Rattle.machine.specs.Numbers.{plainNumber, hookNumber}
 use Rattle.runs.specs.Handed.{PlainHanded, HookHanded}
 use Rattle.runs.proofs.Handed.{plain-handed-out, hook-handed-out}
 use Rattle.attempts.specs.Attempt.{fitsFor, Attempted, ranOf, noRun, unbarred, attemptWith, attempted, Holding, readAs}
@@ -34,6 +36,7 @@ use Rattle.attempts.proofs.Attempts.{alike, Yields}
 use Rattle.attempts.proofs.Unbarred.{nothing-bars, asked-holds}
 use Rattle.attempts.specs.WholeRun.{WholeRun}
 use Rattle.attempts.proofs.Whole.{lent-exact, whole-attempt, whole-same}
+use Rattle.machine.proofs.Numbers.{plain-number, hook-number}
 use Rattle.decoder.proofs.Handing.{handed, plainOf, plain-handed, hookOfAttempt, hook-handed}
 
 -- ---- word and data
@@ -118,20 +121,20 @@ hook-data c l = go (load (c .book)) refl
 -- the plain call that answers x and leaves these buffers
 abbrev PlainSaid : Input → Lent → Decoded → Lent → Type 0
 PlainSaid c l x now =
-    (x ≡ plainCall c l .answer) × (now ≡ plainCall c l .lent) × WholeRun (fitsFor false) c l (x .counts) now × PlainHanded c l x now
+    (x ≡ plainCall c l .answer) × (now ≡ plainCall c l .lent) × WholeRun (fitsFor false) c l (x .counts) now × PlainHanded c l x now × (outcomeNumber (x .outcome) ≡ plainNumber c l)
 
 -- and the hook call
 abbrev HookSaid : Input → Lent → HookDecoded → Lent → Type 0
 HookSaid c l x now =
-    (x ≡ hookCall c l .answer) × (now ≡ hookCall c l .lent) × WholeRun (fitsFor true) c l (x .counts) now × HookHanded c l x now
+    (x ≡ hookCall c l .answer) × (now ≡ hookCall c l .lent) × WholeRun (fitsFor true) c l (x .counts) now × HookHanded c l x now × (outcomeNumber (x .outcome) ≡ hookNumber c l)
 
 -- from answer, buffers and run the rest follows
 module _ (c : Input) (l now : Lent) where
   plain-said : (x : Decoded) → x ≡ plainCall c l .answer → now ≡ plainCall c l .lent → WholeRun (fitsFor false) c l (x .counts) now → PlainSaid c l x now
-  plain-said x p q w = (p, q, w, subst₂ (PlainHanded c l) (sym p) (sym q) (plain-handed-out c l))
+  plain-said x p q w = (p, q, w, subst₂ (PlainHanded c l) (sym p) (sym q) (plain-handed-out c l), ap (λ (z : Decoded). outcomeNumber (z .outcome)) p ∙ plain-number c l)
 
   hook-said : (x : HookDecoded) → x ≡ hookCall c l .answer → now ≡ hookCall c l .lent → WholeRun (fitsFor true) c l (x .counts) now → HookSaid c l x now
-  hook-said x p q w = (p, q, w, subst₂ (HookHanded c l) (sym p) (sym q) (hook-handed-out c l))
+  hook-said x p q w = (p, q, w, subst₂ (HookHanded c l) (sym p) (sym q) (hook-handed-out c l), ap (λ (z : HookDecoded). outcomeNumber (z .outcome)) p ∙ hook-number c l)
 
 -- ---- the calls, from what an attempt yields
 

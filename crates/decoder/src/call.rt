@@ -8,7 +8,9 @@ use machine::Decoded;
 use machine::HookDecoded;
 ghost use mathlib.Core.Path.{_≡_};
 ghost use mathlib.Core.Bool.{true, false};
+ghost use Rattle.codebook.specs.Refusals.{outcomeNumber};
 ghost use Rattle.machine.specs.Calls.{given, lent, plainCall, hookCall};
+ghost use Rattle.machine.specs.Numbers.{plainNumber, hookNumber};
 ghost use Rattle.runs.specs.Handed.{PlainHanded, HookHanded};
 ghost use Rattle.attempts.specs.Attempt.{fitsFor};
 ghost use Rattle.attempts.specs.WholeRun.{WholeRun};
@@ -32,7 +34,7 @@ pub fn decode(
         let l = lent (now (word .entry)) (now (bits .entry)) (now (numbers .entry)) (now (bytes .entry)) (now («walk_path» .entry)) (now («walk_blocks» .entry)) (now («walk_score» .entry)) in
         let after = lent (now (word .exit)) (now (bits .exit)) (now (numbers .exit)) (now (bytes .exit)) (now («walk_path» .exit)) (now («walk_blocks» .exit)) (now («walk_score» .exit)) in
         (r ≡ plainCall c l .answer) × (after ≡ plainCall c l .lent) × WholeRun (fitsFor false) c l (r .counts) after
-        × PlainHanded c l r after) ⌝ }
+        × PlainHanded c l r after × (outcomeNumber (r .outcome) ≡ plainNumber c l)) ⌝ }
 {
     let mut found = [0u8; 512];
     let mut info = [0u8; 512];
@@ -77,7 +79,7 @@ pub fn decode_hook(
         let l = lent (now (word .entry)) (now (bits .entry)) (now (numbers .entry)) (now (bytes .entry)) (now («walk_path» .entry)) (now («walk_blocks» .entry)) (now («walk_score» .entry)) in
         let after = lent (now (word .exit)) (now (bits .exit)) (now (numbers .exit)) (now (bytes .exit)) (now («walk_path» .exit)) (now («walk_blocks» .exit)) (now («walk_score» .exit)) in
         (r ≡ hookCall c l .answer) × (after ≡ hookCall c l .lent) × WholeRun (fitsFor true) c l (r .counts) after
-        × HookHanded c l r after) ⌝ }
+        × HookHanded c l r after × (outcomeNumber (r .outcome) ≡ hookNumber c l)) ⌝ }
 {
     let mut found = [0u8; 512];
     let mut info = [0u8; 512];

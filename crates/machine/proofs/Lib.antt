@@ -1,2 +1,3 @@
 pub mod Computing
+pub mod Numbers
 pub mod Table

@@ -32,8 +32,9 @@ use Rattle.machine.specs.Machine.{runOf}
 use Rattle.machine.specs.Calls.{Input, Lent, Called, settingsOk, lentOk, valuesOk, barred, finalOf, endOf, finalIn, within, countsOf, afterRun, isDone}
 use Rattle.machine.specs.Calls.{plainRan, plainRefused, plainChecked, plainWith, plainCall}
 use Rattle.machine.specs.Calls.{hookOf, hookRan, hookRefused, hookChecked, hookWith, hookCall}
+use Rattle.machine.specs.Numbers.{finalEnd, finalWord}
 use Rattle.runs.specs.Runs.{Ended}
-use Rattle.runs.specs.Handed.{Made, finalWord, HandedOut, Withheld, PlainHanded, HookHanded}
+use Rattle.runs.specs.Handed.{Made, HandedOut, Withheld, PlainHanded, HookHanded}
 use Rattle.runs.proofs.Ends.{run-ends}
 use Rattle.runs.proofs.Final.{run-exact}
 
@@ -120,30 +121,30 @@ module _ (c : Input) (l : Lent) (B : Book) where
         eqb→eq (length (c .values)) (2 ^ (B .m)) (first-holds (eqb (length (c .values)) (2 ^ (B .m))) (lentOk B c l) (λ e. rw e refl) s)
 
     handed-out : far ≤ c .T → HandedOut B c (countsOf steps (finalWord B c)) (afterRun B c l steps (finalWord B c) true)
-    unfolding finalWord countsOf afterRun
+    unfolding finalWord finalEnd countsOf afterRun
     handed-out h =
         let x = run-exact B (loaded-valid (c .book) B (m .loads)) (c .L) (c .D) (c .values) visited sized in
         record { final = refl; size = x .size; bits = x .bits; member = x .member; databits = x .databits; exact = x .discrepancy; within = h }
 
     withheld : Withheld B c l (countsOf steps (finalWord B c)) (afterRun B c l steps (finalWord B c) false)
-    unfolding finalWord countsOf afterRun
+    unfolding finalWord finalEnd countsOf afterRun
     withheld =
         let x = run-exact B (loaded-valid (c .book) B (m .loads)) (c .L) (c .D) (c .values) visited sized in
         record { word = refl; databits = refl; counted = refl; exact = x .discrepancy }
 
     -- the run finds a word, so the limit alone decides
-    by-limit : within (c .T) (endOf B (c .values) (runOf B (c .L) (c .D) (c .values) .end)) ≡ leb far (c .T)
-    unfolding Ended finalWord endOf endAs
+    by-limit : within (c .T) (finalEnd B c) ≡ leb far (c .T)
+    unfolding Ended finalWord finalEnd endOf endAs
     by-limit =
         let (p, q, _) = run-ends B (c .L) (c .D) (c .values) visited in
-        found-within (c .T) (endOf B (c .values) (runOf B (c .L) (c .D) (c .values) .end)) (finalOf B (c .values) p) (ap (endOf B (c .values)) q)
+        found-within (c .T) (finalEnd B c) (finalOf B (c .values) p) (ap (endOf B (c .values)) q)
 
   -- what holds of the plain call's two ends, each under its condition, holds of the call
   abbrev plainEnd : Outcome → Bool → Called Decoded
   plainEnd o b = record { answer = record { outcome = o; counts = countsOf steps (finalWord B c) }; lent = afterRun B c l steps (finalWord B c) b }
 
   plain-by : (P : Called Decoded → Type 0) → Made true c l B → (far ≤ c .T → P (plainEnd Done true)) → (c .T < far → P (plainEnd (Refused AboveLimit) false)) → P (plainCall c l)
-  unfolding plainCall plainWith plainChecked plainRan finalWord
+  unfolding plainCall plainWith plainChecked plainRan finalWord finalEnd
   plain-by P m done above = subst P (sym ran) (go (lt-or (c .T) far))
     where
       ran : plainCall c l ≡ plainEnd (cond (leb far (c .T)) Done (Refused AboveLimit)) (leb far (c .T))
@@ -171,7 +172,7 @@ module _ (c : Input) (l : Lent) (B : Book) where
       → (c .T < far → P (hookEnd (notRead AboveLimit)))
       → (far ≤ c .T → readRecord (finalWord B c .bits) ≡ none → P (hookEnd (recordRead none)))
       → P (hookCall c l)
-  unfolding hookCall hookWith hookChecked hookRan hookOf finalWord
+  unfolding hookCall hookWith hookChecked hookRan hookOf finalWord finalEnd
   hook-by P m done above unreadable = subst P (sym ran) (go (lt-or (c .T) far))
     where
       ran : hookCall c l ≡ hookEnd (hookOf (leb far (c .T)) (finalWord B c))

@@ -21,10 +21,9 @@ use Rattle.codec.specs.Record.{readRecord}
 use Rattle.machine.specs.declared.Counts.{Counts}
 use Rattle.machine.specs.declared.Decoded.{Decoded}
 use Rattle.machine.specs.declared.HookDecoded.{HookDecoded}
-use Rattle.queue.specs.Queue.{Final}
-use Rattle.machine.specs.Machine.{runOf}
 use Rattle.codec.specs.Calls.{holds32}
-use Rattle.machine.specs.Calls.{Input, Lent, barred, endOf, finalIn}
+use Rattle.machine.specs.Calls.{Input, Lent, barred}
+use Rattle.machine.specs.Numbers.{finalWord}
 
 -- ---- the run of a call
 
@@ -34,10 +33,6 @@ pub record Made (fits : Bool) (c : Input) (l : Lent) (B : Book) : Type 0 where
   pub loads : load (c .book) ≡ loaded B
   -- nothing bars the call
   pub unbarred : barred B c l fits ≡ none
-
--- the machine's final word, with its data and its discrepancy
-unfoldable pub finalWord : Book → Input → Final
-finalWord B c = finalIn (endOf B (c .values) (runOf B (c .L) (c .D) (c .values) .end))
 
 -- ---- after a run
 

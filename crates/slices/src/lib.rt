@@ -1,5 +1,5 @@
 // The decoding calls with a number as the answer, and counts and record in lent slices: what C calls, but for the names. Relies on the crates decoder and
-// answers; specs/Slices.antt says what each answers and leaves.
+// answers; specs/Slices.antt says what each answers and leaves, and what demands 2 and 3 say of it.
 use answers::decoding_mismatch;
 use answers::put_counts;
 use answers::put_hook;
@@ -8,7 +8,7 @@ use decoder::decode;
 use decoder::decode_hook;
 ghost use mathlib.Core.Path.{_≡_};
 ghost use Rattle.machine.specs.Calls.{given, lent};
-ghost use Rattle.slices.specs.Slices.{cleared, plainAnswered, hookAnswered};
+ghost use Rattle.slices.specs.Slices.{cleared, plainAnswered, hookAnswered, PlainSlices, HookSlices};
 
 // Zeros for a slice of 4 entries; one of another length is left.
 fn clear(slice: &mut [u32])
@@ -39,12 +39,12 @@ pub fn decode_slices(
     walk_score: &mut [i32],
     counts: &mut [u32],
 ) -> u32
-    ensures { λ r. ⌜ (let a = plainAnswered (given (now (book .entry)) visits paths limit (now (values .entry)))
-        (lent (now (word .entry)) (now (bits .entry)) (now (numbers .entry)) (now (bytes .entry)) (now («walk_path» .entry)) (now («walk_blocks» .entry)) (now («walk_score» .entry)))
-        (now (counts .entry)) in
-        (r ≡ a .number)
-        × (lent (now (word .exit)) (now (bits .exit)) (now (numbers .exit)) (now (bytes .exit)) (now («walk_path» .exit)) (now («walk_blocks» .exit)) (now («walk_score» .exit)) ≡ a .lent)
-        × (now (counts .exit) ≡ a .counts)) ⌝ }
+    ensures { λ r. ⌜ (let c = given (now (book .entry)) visits paths limit (now (values .entry)) in
+        let l = lent (now (word .entry)) (now (bits .entry)) (now (numbers .entry)) (now (bytes .entry)) (now («walk_path» .entry)) (now («walk_blocks» .entry)) (now («walk_score» .entry)) in
+        let after = lent (now (word .exit)) (now (bits .exit)) (now (numbers .exit)) (now (bytes .exit)) (now («walk_path» .exit)) (now («walk_blocks» .exit)) (now («walk_score» .exit)) in
+        let a = plainAnswered c l (now (counts .entry)) in
+        (r ≡ a .number) × (after ≡ a .lent) × (now (counts .exit) ≡ a .counts)
+        × PlainSlices c l (now (counts .entry)) r after (now (counts .exit))) ⌝ }
 {
     if counts.len() != 4 {
         return decoding_mismatch(book, visits, paths, limit);
@@ -86,12 +86,12 @@ pub fn decode_hook_slices(
     counts: &mut [u32],
     hook: &mut [u32],
 ) -> u32
-    ensures { λ r. ⌜ (let a = hookAnswered (given (now (book .entry)) visits paths limit (now (values .entry)))
-        (lent (now (word .entry)) (now (bits .entry)) (now (numbers .entry)) (now (bytes .entry)) (now («walk_path» .entry)) (now («walk_blocks» .entry)) (now («walk_score» .entry)))
-        (now (counts .entry)) (now (hook .entry)) in
-        (r ≡ a .number)
-        × (lent (now (word .exit)) (now (bits .exit)) (now (numbers .exit)) (now (bytes .exit)) (now («walk_path» .exit)) (now («walk_blocks» .exit)) (now («walk_score» .exit)) ≡ a .lent)
-        × (now (counts .exit) ≡ a .counts) × (now (hook .exit) ≡ a .hook)) ⌝ }
+    ensures { λ r. ⌜ (let c = given (now (book .entry)) visits paths limit (now (values .entry)) in
+        let l = lent (now (word .entry)) (now (bits .entry)) (now (numbers .entry)) (now (bytes .entry)) (now («walk_path» .entry)) (now («walk_blocks» .entry)) (now («walk_score» .entry)) in
+        let after = lent (now (word .exit)) (now (bits .exit)) (now (numbers .exit)) (now (bytes .exit)) (now («walk_path» .exit)) (now («walk_blocks» .exit)) (now («walk_score» .exit)) in
+        let a = hookAnswered c l (now (counts .entry)) (now (hook .entry)) in
+        (r ≡ a .number) × (after ≡ a .lent) × (now (counts .exit) ≡ a .counts) × (now (hook .exit) ≡ a .hook)
+        × HookSlices c l (now (counts .entry)) (now (hook .entry)) r after (now (counts .exit)) (now (hook .exit))) ⌝ }
 {
     if counts.len() != 4 {
         clear(hook);

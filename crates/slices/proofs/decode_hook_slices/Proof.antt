@@ -9,7 +9,7 @@ use Rattle.machine.specs.Calls.{Input, Lent, given, lent}
 use Rattle.answers.specs.Slices.{countsSlice, recordSlice}
 use Rattle.answers.specs.Numbers.{decodingMismatch}
 use Rattle.answers.proofs.Mismatches.{mismatch-values}
-use Rattle.slices.specs.Slices.{cleared, mismatch, hookAnswered}
+use Rattle.slices.specs.Slices.{cleared, mismatch, hookAnswered, HookSlices}
 use Rattle.slices.proofs.Written.{cleared-left, hook-written, hook-left}
 use borrow.Author.Needs.{needs}
 use Rattle.slices.proofs.decode_hook_slices.Statement.{statement}
@@ -30,7 +30,8 @@ left : (s : tie.Start) {r : ℕ} {counts hook : List ℕ} → let a = s .args in
     → (length (a .counts .now) ≡ 4 → length (a .hook .now) ≡ 4 → ⊥)
     → let x = hookAnswered (input s) (buffers s) (a .counts .now) (a .hook .now) in
     (r ≡ x .number) × (buffers s ≡ x .lent) × (counts ≡ x .counts) × (hook ≡ x .hook)
-unfolding mismatch
+    × HookSlices (input s) (buffers s) (a .counts .now) (a .hook .now) r (buffers s) counts hook
+unfolding mismatch HookSlices
 left s e p q f =
     let a = s .args in
     let w = sym (hook-left (input s) (buffers s) (a .counts .now) (a .hook .now) f) in (
@@ -38,6 +39,7 @@ left s e p q f =
       ap (λ x. x .lent) w,
       p ∙ ap (λ x. x .counts) w,
       q ∙ ap (λ x. x .hook) w,
+      λ m n. absurd (f m n),
     )
 
 clear-requires : tie.Need-clear-requires
@@ -110,16 +112,20 @@ same-length-11 : tie.Need-same-length-11
 same-length-11 c = search needs
 
 returns-3 : tie.Need-returns-3
+unfolding HookSlices
 returns-3 c =
     let d = c .before .before .before .before .before .before .before .before .before .before .before .before .before .before .before .before .before .before .before .before .before in
     let s = d .before .before .before .before .before .before .before .before .before .before .before .before .before .before .before .before in
     let a = s .args in
     let w = sym (hook-written (input s) (buffers s) (a .counts .now) (a .hook .now) (d .before .before .before .before .before .before .before .before .before .if1 .left) (d .before .before .before .before .before .before .before .before .if2 .left)) in
-    let e = d .decode-hook .ensures in (
+    let e = d .decode-hook .ensures in
+    let p = c .before .before .before .before .before .before .before .before in
+    let h = c .before .before .before in (
       c .outcome-number .ensures ∙ ap (λ x. outcomeNumber (x .outcome)) (e .0) ∙ ap (λ x. x .number) w,
       e .1 ∙ ap (λ x. x .lent) w,
-      c .before .before .before .before .before .before .before .before .put-counts .ensures ∙ ap (λ x. countsSlice (x .counts)) (e .0) ∙ ap (λ x. x .counts) w,
-      c .before .before .before .put-hook .ensures ∙ ap (λ x. recordSlice (x .hook)) (e .0) ∙ ap (λ x. x .hook) w,
+      p .put-counts .ensures ∙ ap (λ x. countsSlice (x .counts)) (e .0) ∙ ap (λ x. x .counts) w,
+      h .put-hook .ensures ∙ ap (λ x. recordSlice (x .hook)) (e .0) ∙ ap (λ x. x .hook) w,
+      λ _ _. (d .decode-hook .result, c .outcome-number .ensures, p .put-counts .ensures, h .put-hook .ensures, e .3, e .2),
     )
 
 pub decode-hook-slices-spec : {M : Type 1} → statement M

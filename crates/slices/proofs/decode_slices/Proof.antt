@@ -5,7 +5,7 @@ use Rattle.codebook.specs.Refusals.{outcomeNumber}
 use Rattle.machine.specs.Calls.{Input, Lent, given, lent}
 use Rattle.answers.specs.Slices.{countsSlice}
 use Rattle.answers.proofs.Mismatches.{mismatch-values}
-use Rattle.slices.specs.Slices.{mismatch}
+use Rattle.slices.specs.Slices.{mismatch, PlainSlices}
 use Rattle.slices.proofs.Written.{cleared-left, plain-written, plain-left}
 use borrow.Author.Needs.{needs}
 use Rattle.slices.proofs.decode_slices.Statement.{statement}
@@ -24,7 +24,7 @@ decoding-mismatch-requires : tie.Need-decoding-mismatch-requires
 decoding-mismatch-requires c κs = search needs
 
 returns : tie.Need-returns
-unfolding mismatch
+unfolding mismatch PlainSlices
 returns c =
     let s = c .before .before .before .before .before .before .before in
     let a = s .args in
@@ -32,6 +32,7 @@ returns c =
       c .decoding-mismatch .ensures ∙ mismatch-values (a .book .now) (a .visits) (a .paths) (a .limit) [] (a .values .now) ∙ ap (λ x. x .number) w,
       ap (λ x. x .lent) w,
       sym (cleared-left (a .counts .now) (c .before .if1 .taken)) ∙ ap (λ x. x .counts) w,
+      λ n. absurd (c .before .if1 .taken n),
     )
 
 decode-requires : tie.Need-decode-requires
@@ -68,6 +69,7 @@ same-length-8 : tie.Need-same-length-8
 same-length-8 c = search needs
 
 returns-2 : tie.Need-returns-2
+unfolding PlainSlices
 returns-2 c =
     let d = c .before .before .before .before .before .before .before .before .before .before .before .before .before .before .before .before in
     let s = d .before .before .before .before .before .before .before .before .before .before .before .before .before .before in
@@ -77,6 +79,7 @@ returns-2 c =
       c .outcome-number .ensures ∙ ap (λ x. outcomeNumber (x .outcome)) (e .0) ∙ ap (λ x. x .number) w,
       e .1 ∙ ap (λ x. x .lent) w,
       p .put-counts .ensures ∙ ap (λ x. countsSlice (x .counts)) (e .0) ∙ ap (λ x. x .counts) w,
+      λ _. (d .decode .result, c .outcome-number .ensures, p .put-counts .ensures, e .3, e .2),
     )
 
 pub decode-slices-spec : {M : Type 1} → statement M
