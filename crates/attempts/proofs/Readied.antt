@@ -19,7 +19,7 @@ use Rattle.codebook.specs.declared.Sizes.{Sizes}
 use Rattle.codebook.specs.Refusals.{unless}
 use Rattle.codebook.specs.Book.{Book, Block, blockAt, startOf, freeCount}
 use Rattle.codebook.specs.Loading.{load, loaded}
-use Rattle.codebook.specs.Tables.{tablesOf, overlaid, Filled, sizesOf}
+use Rattle.codebook.specs.Tables.{tablesOf, overlaid, loadedUpTo, Filled, sizesOf}
 use Rattle.codebook.specs.Tables as C
 use Rattle.codebook.proofs.Loaded.{loaded-valid}
 use Rattle.coding.proofs.Told.{Known, load-tabled}
@@ -37,7 +37,7 @@ use Rattle.attempts.proofs.Unbarred.{Free}
 
 -- ---- the tables of a loaded book
 
-module _ (book : List ℕ) (B : Book) (e : load book ≡ loaded B) (old new : C.Tables) (f : Filled (load book) old new) where
+module _ (book : List ℕ) (B : Book) (e : load book ≡ loaded B) (old new : C.Tables) (f : Filled (load book) (loadedUpTo book) old new) where
   pub load-read : InTables B (new .kinds) (new .terms) (new .heights) (new .starts) (new .biases)
   unfolding Filled overlaid tablesOf blockAt
   load-read =
@@ -141,7 +141,7 @@ known-blocks x e K = ap (λ (y : Sizes). y .blocks) (e ∙ ap sizesOf (K .loads)
 pub known-few : {book : List ℕ} (x : Sizes) → x ≡ sizesOf (load book) → Known book (x .m) (x .n) (x .k) → x .blocks ≤ 512
 known-few x e K = omega (arith, known-blocks x e K, blocks-few (K .is) (K .valid))
 
-abbrev pub ready : (c : Input) (l : Lent) (x : Sizes) → x ≡ sizesOf (load (c .book)) → (K : Known (c .book) (x .m) (x .n) (x .k)) (old new : C.Tables) → Filled (load (c .book)) old new
+abbrev pub ready : (c : Input) (l : Lent) (x : Sizes) → x ≡ sizesOf (load (c .book)) → (K : Known (c .book) (x .m) (x .n) (x .k)) (old new : C.Tables) → Filled (load (c .book)) (loadedUpTo (c .book)) old new
     → Free (K .is) c l → Ready x (c .values) (new .kinds) (new .terms) (new .heights) (new .starts) (new .biases)
 ready c l x e K old new f free =
     record {

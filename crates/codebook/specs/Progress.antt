@@ -113,16 +113,16 @@ unfoldable pub Goes : Bool → (Progress → Type 0) → Step → Type 0
 Goes true P x = (q : Progress) × (x ≡ Ended q) × P q
 Goes false P x = (q : Progress) × (x ≡ Next q) × P q
 
--- a step: the refusal, where there is one
-unfoldable pub Judged : Option Refusal → Bool → (Progress → Type 0) → Step → Type 0
-Judged none end P x = Goes end P x
-Judged (some r) end P x = x ≡ Refused r
+-- a step: the refusal, where there is one, and then K
+unfoldable pub Judged : Option Refusal → Bool → Type 0 → (Progress → Type 0) → Step → Type 0
+Judged none end K P x = Goes end P x
+Judged (some r) end K P x = (x ≡ Refused r) × K
 
--- A function's promise: at the numbers p, the command c and its operands, whole or cut, are judged, and the tables t become u; whatever is
--- loaded so far, and whatever the tables first held.
+-- A function's promise: at the numbers p, the command c and its operands, whole or cut, are judged, and the tables t become u, the same where it is
+-- refused; whatever is loaded so far, and whatever the tables first held.
 abbrev pub Obeys : Progress → Command → Bool → Tables → Tables → Step → Type 0
 Obeys p c whole t u x =
-    (old : Tables) (s : Loading) → HoldsLoaded p t old s → Judged (verdict s c whole) (isEnd c) (λ q. HoldsLoaded q u old (next s c)) x
+    (old : Tables) (s : Loading) → HoldsLoaded p t old s → Judged (verdict s c whole) (isEnd c) (u ≡ t) (λ q. HoldsLoaded q u old (next s c)) x
 
 -- the command of a run of indices with this code, 0 free or 1 zero
 unfoldable pub runCommand : ℕ → ℕ → Command

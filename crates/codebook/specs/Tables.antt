@@ -2,14 +2,17 @@
 use mathlib.Core.Path.{_≡_}
 use mathlib.Core.Bool.{cond}
 use mathlib.Core.List.{List, [], _∷_, map}
-use Prim.Native.Nat.{ℕ, suc, _+_, _^_}
-use lib.ListN.{length}
+use mathlib.Core.Option.{Option, none, some}
+use Prim.Native.Nat.{ℕ, zero, suc, _+_, _^_}
+use lib.ListN.{length, take, drop}
+use lib.Dec.{eqb}
 use lib.IntN.{ℤ}
 use Rattle.laws.specs.Lists.{tab, over}
+use Rattle.codebook.specs.declared.Refusal.{Refusal}
 use Rattle.codebook.specs.declared.Outcome.the-variants.{Done, Refused}
 use Rattle.codebook.specs.declared.Sizes.{Sizes}
 use Rattle.codebook.specs.Book.{Kind, free, frozen, tied, Block, Book, freeCount, startOf}
-use Rattle.codebook.specs.Loading.{Load, refused, loaded, member}
+use Rattle.codebook.specs.Loading.{Loading, Load, refused, loaded, start, total, member, width, command, refusal, next}
 
 -- the codes of kinds, after so many ties: 0 is free, 1 zero, 2 + t the t-th tie
 unfoldable pub kindCodes : ℕ → List Kind → List ℕ
@@ -56,11 +59,38 @@ overlaid new old =
       biases = over (new .biases) (old .biases);
     }
 
--- what loading leaves in the tables: a book's are written over what they held; nothing is said of them where loading is refused, and no
--- later code reads them then
-unfoldable pub Filled : Load → Tables → Tables → Type 0
-Filled (refused r) old new = Unit {0}
-Filled (loaded B) old new = new ≡ overlaid (tablesOf B) old
+-- the tables of what is loaded so far
+unfoldable pub tablesSoFar : Loading → Tables
+tablesSoFar s =
+    record {
+      kinds = kindCodes 0 (s .kinds);
+      terms = tab (total s) (tieSet 0 (s .kinds));
+      heights = map (λ (x : Block). x .j) (s .blocks);
+      starts = tab (length (s .blocks)) (startOf (s .blocks));
+      biases = map (λ (x : Block). x .bias) (s .blocks);
+    }
+
+-- what is loaded, or what comes after it where nothing is refused
+unfoldable pub stays : Option Refusal → Loading → Loading → Loading
+stays (some r) s other = s
+stays none s other = other
+
+-- What is loaded where loading stops, as `loadFrom` goes: at the first faulty command or at the end, by the commands before it.
+unfoldable pub stopFrom : ℕ → Loading → List ℕ → Loading
+stopFrom zero s bytes = s
+stopFrom (suc fuel) s [] = s
+stopFrom (suc fuel) s (byte ∷ after) =
+    let more = stopFrom fuel (next s (command byte (take (width byte) after))) (drop (width byte) after) in
+    stays (refusal s byte after) s (cond (eqb byte 0x7f) s more)
+
+unfoldable pub loadedUpTo : List ℕ → Loading
+loadedUpTo bytes = stopFrom (length bytes) start bytes
+
+-- What loading leaves in the tables, by what it comes to and what is loaded where it stops: a book's tables are written over what they held; where loading
+-- is refused, those of what the commands before the faulty one loaded.
+unfoldable pub Filled : Load → Loading → Tables → Tables → Type 0
+Filled (refused r) s old new = new ≡ overlaid (tablesSoFar s) old
+Filled (loaded B) s old new = new ≡ overlaid (tablesOf B) old
 
 -- what loading answers beside the tables: m, n, k and V, zeros on a refusal
 unfoldable pub sizesOf : Load → Sizes

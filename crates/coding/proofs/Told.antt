@@ -23,7 +23,7 @@ use Rattle.codebook.specs.Refusals.{outcomeNumber}
 use Rattle.codebook.specs.Book.{Book, freeCount}
 use Rattle.codebook.specs.Limits.{Valid}
 use Rattle.codebook.specs.Loading.{Load, refused, loaded, load, shapeOf}
-use Rattle.codebook.specs.Tables.{Tables, kindCodes, tieSet, tablesOf, overlaid, Filled, sizesOf}
+use Rattle.codebook.specs.Tables.{Tables, kindCodes, tieSet, tablesOf, overlaid, loadedUpTo, Filled, sizesOf}
 use Rattle.codebook.proofs.Loaded.{loaded-valid}
 use Rattle.codebook.proofs.Codes.{codes-length}
 use Rattle.codec.specs.declared.HookRecord.{HookRecord}
@@ -95,7 +95,7 @@ module _ (book : List ℕ) where
       go (loaded B) p d = (B, p, ap (λ (y : Shape). y .k) (e ∙ ap shapeOf p))
 
   -- the tables hold a loaded book's kinds
-  pub load-tabled : (B : Book) (old new : Tables) → load book ≡ loaded B → Filled (load book) old new → Tabled (B .kinds) (new .kinds) (new .terms)
+  pub load-tabled : (B : Book) (old new : Tables) → load book ≡ loaded B → Filled (load book) (loadedUpTo book) old new → Tabled (B .kinds) (new .kinds) (new .terms)
   unfolding Filled overlaid tablesOf
   load-tabled B old new e f =
       let ok : Valid B = loaded-valid book B e in

@@ -14,7 +14,7 @@ ghost use mathlib.Core.Bool.{cond};
 ghost use Prim.Native.Nat.{_<_};
 ghost use Rattle.codebook.specs.Refusals.{outcomeNumber};
 ghost use Rattle.codebook.specs.Loading.{load, refused, shapeOf, numberBy};
-ghost use Rattle.codebook.specs.Tables.{sizesOf, Filled};
+ghost use Rattle.codebook.specs.Tables.{sizesOf, loadedUpTo, Filled};
 ghost use Rattle.codebook.specs.Progress.{Sized, tables, sizesAt};
 
 // A contract knows the length of an array by value, and not of one behind a reference: so the arrays are read whole once, and nothing is done
@@ -71,7 +71,7 @@ fn finish(p: Progress, follows: bool) -> Sizes
     }
 }
 
-// Loads a book into tables that the caller owns. Where it is refused, what the tables then hold means nothing.
+// Loads a book into tables that the caller owns. Where it is refused, they hold what the commands before the faulty one loaded.
 pub fn load_tables(
     book: &[u8],
     kinds: &mut [u8; 512],
@@ -81,7 +81,7 @@ pub fn load_tables(
     biases: &mut [i32; 512],
 ) -> Sizes
     ensures answer { λ r. ⌜ r ≡ sizesOf (load (now (book .entry))) ⌝ }
-    ensures filled { λ _. ⌜ Filled (load (now (book .entry))) (tables (now (kinds .entry)) (now (terms .entry)) (now (heights .entry)) (now (starts .entry)) (now (biases .entry))) (tables (now (kinds .exit)) (now (terms .exit)) (now (heights .exit)) (now (starts .exit)) (now (biases .exit))) ⌝ }
+    ensures filled { λ _. ⌜ Filled (load (now (book .entry))) (loadedUpTo (now (book .entry))) (tables (now (kinds .entry)) (now (terms .entry)) (now (heights .entry)) (now (starts .entry)) (now (biases .entry))) (tables (now (kinds .exit)) (now (terms .exit)) (now (heights .exit)) (now (starts .exit)) (now (biases .exit))) ⌝ }
 {
     sized(kinds, terms, heights, starts, biases);
     let mut p = Progress {

@@ -22,22 +22,24 @@ use Rattle.codebook.specs.declared.Step.the-variants.{Next, End as Ended, Refus
 use Rattle.codebook.specs.Refusals.{unless}
 use Rattle.codebook.specs.Book.{freeCount}
 use Rattle.codebook.specs.Loading.{Loading, total, lastTerms, member, placed, fault, grown, next}
+use Rattle.codebook.specs.Tables.{Tables}
 use Rattle.codebook.specs.Progress.{byteOf, isEnd, verdict, CountsLoaded, Goes, Judged, runCommand, blockFits, kindOf}
 use Rattle.codebook.proofs.Command.{the-type}
 
 -- ---- steps
 
-pub refuse : (o : Option Refusal) (end : Bool) (P : Progress → Type 0) (r : Refusal) → o ≡ some r → Judged o end P (Refused r)
+-- a refusal leaves the tables
+pub refuse : (t : Tables) (o : Option Refusal) (end : Bool) (P : Progress → Type 0) (r : Refusal) → o ≡ some r → Judged o end (t ≡ t) P (Refused r)
 unfolding Judged
-refuse o end P r e = rw e refl
+refuse t o end P r e = rw e (refl, refl)
 
-pub proceed : (o : Option Refusal) (P : Progress → Type 0) (q : Progress) → o ≡ none → P q → Judged o false P (Next q)
+pub proceed : (K : Type 0) (o : Option Refusal) (P : Progress → Type 0) (q : Progress) → o ≡ none → P q → Judged o false K P (Next q)
 unfolding Judged Goes
-proceed o P q e h = rw e (q, refl, h)
+proceed K o P q e h = rw e (q, refl, h)
 
-pub ends : (o : Option Refusal) (P : Progress → Type 0) (q : Progress) → o ≡ none → P q → Judged o true P (Ended q)
+pub ends : (K : Type 0) (o : Option Refusal) (P : Progress → Type 0) (q : Progress) → o ≡ none → P q → Judged o true K P (Ended q)
 unfolding Judged Goes
-ends o P q e h = rw e (q, refl, h)
+ends K o P q e h = rw e (q, refl, h)
 
 -- ---- operands that are cut, or whole
 

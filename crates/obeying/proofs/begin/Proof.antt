@@ -21,14 +21,14 @@ returns : tie.Need-returns
 returns c t n old s h =
     let start = c .before in
     let a = start .args in
-    refuse _ _ _ Misplaced (verdict-misplaced s (a .c) (a .whole) (begin-misplaced (a .p) s (h .counts) (start .pre) (a .c) (c .match .keys2) n))
+    refuse _ _ _ _ Misplaced (verdict-misplaced s (a .c) (a .whole) (begin-misplaced (a .p) s (h .counts) (start .pre) (a .c) (c .match .keys2) n))
 
 returns-2 : tie.Need-returns-2
 returns-2 c t n old s h =
     let g = c .before .before .c .given in
     let start = c .before .before .before .before in
     let a = start .args in
-    rw (g .1) (refuse _ _ _ Truncated (length-stands (a .p) s (h .counts) (a .whole) (start .pre) (g .0 .0) ∙ operands-cut (a .whole) _ (not-true (a .whole) (c .if1 .taken))))
+    rw (g .1) (refuse _ _ _ _ Truncated (length-stands (a .p) s (h .counts) (a .whole) (start .pre) (g .0 .0) ∙ operands-cut (a .whole) _ (not-true (a .whole) (c .if1 .taken))))
 
 returns-3 : tie.Need-returns-3
 returns-3 c t n old s h =
@@ -38,7 +38,7 @@ returns-3 c t n old s h =
     let a = start .args in
     let m = g .0 .0 in
     let whole = operands-whole (a .whole) (fault s (Length m)) (not-false (a .whole) (d .if1 .left)) in
-    rw (g .1) (refuse _ _ _ OutOfRange (length-stands (a .p) s (h .counts) (a .whole) (start .pre) m ∙ whole ∙ length-low (a .p) s (h .counts) m (c .if2 .taken)))
+    rw (g .1) (refuse _ _ _ _ OutOfRange (length-stands (a .p) s (h .counts) (a .whole) (start .pre) m ∙ whole ∙ length-low (a .p) s (h .counts) m (c .if2 .taken)))
 
 returns-4 : tie.Need-returns-4
 returns-4 c t n old s h =
@@ -48,7 +48,7 @@ returns-4 c t n old s h =
     let a = start .args in
     let m = g .0 .0 in
     let whole = operands-whole (a .whole) (fault s (Length m)) (not-false (a .whole) (d .if1 .left)) in
-    rw (g .1) (refuse _ _ _ OutOfRange (length-stands (a .p) s (h .counts) (a .whole) (start .pre) m ∙ whole ∙ length-high (a .p) s (h .counts) m (c .before .if2 .left) (c .if3 .taken)))
+    rw (g .1) (refuse _ _ _ _ OutOfRange (length-stands (a .p) s (h .counts) (a .whole) (start .pre) m ∙ whole ∙ length-high (a .p) s (h .counts) m (c .before .if2 .left) (c .if3 .taken)))
 
 power-requires : tie.Need-power-requires
 power-requires c κs = search needs
@@ -73,7 +73,7 @@ returns-5 c t n old s h =
     let high = c .before .before .before .if3 .left in
     let power = c .before .before .power .ensures in
     let whole = operands-whole (a .whole) (fault s (Length m)) (not-false (a .whole) (d .if1 .left)) in
-    rw (g .1) (proceed _ _ _ (length-stands (a .p) s (h .counts) (a .whole) (start .pre) m ∙ whole ∙ length-fits (a .p) s (h .counts) m low high)
+    rw (g .1) (proceed _ _ _ _ (length-stands (a .p) s (h .counts) (a .whole) (start .pre) m ∙ whole ∙ length-fits (a .p) s (h .counts) m low high)
     (rw power (begin-holds (a .p) (withIndices t (t .kinds) (a .terms .now)) old s h m _ (start .pre) low high (rw power at (c .clear .ensures)))))
 
 pub begin-spec : {M : Type 1} → statement M

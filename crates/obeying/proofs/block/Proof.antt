@@ -19,7 +19,7 @@ returns : tie.Need-returns
 returns c terms n old s h =
     let start = c .before in
     let a = start .args in
-    refuse _ _ _ Misplaced (verdict-misplaced s (a .c) (a .whole) (block-misplaced (a .p) s (h .counts) (start .pre .1 .0) (start .pre .1 .1) (a .c) (c .match .keys2) n))
+    refuse _ _ _ _ Misplaced (verdict-misplaced s (a .c) (a .whole) (block-misplaced (a .p) s (h .counts) (start .pre .1 .0) (start .pre .1 .1) (a .c) (c .match .keys2) n))
 
 returns-2 : tie.Need-returns-2
 returns-2 c terms n old s h =
@@ -27,7 +27,7 @@ returns-2 c terms n old s h =
     let start = c .before .before .before .before in
     let a = start .args in
     let stands = block-stands (a .p) s (h .counts) (a .whole) (start .pre .1 .0) (start .pre .1 .1) (g .0 .0) (g .0 .1 .0) in
-    rw (g .1) (refuse _ _ _ Truncated (stands ∙ operands-cut (a .whole) _ (not-true (a .whole) (c .if1 .taken))))
+    rw (g .1) (refuse _ _ _ _ Truncated (stands ∙ operands-cut (a .whole) _ (not-true (a .whole) (c .if1 .taken))))
 
 fits-requires : tie.Need-fits-requires
 fits-requires c κs = search needs
@@ -43,7 +43,7 @@ returns-3 c terms n old s h =
     let stands = block-stands (a .p) s (h .counts) (a .whole) (start .pre .1 .0) (start .pre .1 .1) j bias in
     let whole = operands-whole (a .whole) (fault s (NextBlock j bias)) (not-false (a .whole) (d .if1 .left)) in
     let unfit = rw (toZ-ofZ w32 bias (record { sfits = d .before .known-told .given .1 .0 .1 })) at (sym (c .before .fits2 .ensures) ∙ not-true (c .before .fits2 .result) (c .if2 .taken)) in
-    rw (g .1) (refuse _ _ _ OutOfRange (stands ∙ whole ∙ block-unfit (a .p) s (h .counts) j bias unfit))
+    rw (g .1) (refuse _ _ _ _ OutOfRange (stands ∙ whole ∙ block-unfit (a .p) s (h .counts) j bias unfit))
 
 place-block-requires : tie.Need-place-block-requires
 place-block-requires c κs =

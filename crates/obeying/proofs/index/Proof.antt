@@ -42,7 +42,7 @@ returns-3 c t n old s h =
     let table = withIndices t (a .kinds .now) (a .terms .now) in
     let left = start .pre .1 in
     let none = uncovered (a .p) table old s h (unfilled (a .p) table old s h left) in
-    refuse _ _ _ Misplaced (verdict-misplaced s (a .c) (a .whole) (index-misplaced (a .p) s (h .counts) left (omega (arith, h .counts .covered)) (a .c) (c .before .before .match .keys2) (c .before .match2 .keys2) (c .match3 .keys2) n))
+    refuse _ _ _ _ Misplaced (verdict-misplaced s (a .c) (a .whole) (index-misplaced (a .p) s (h .counts) left (omega (arith, h .counts .covered)) (a .c) (c .before .before .match .keys2) (c .before .match2 .keys2) (c .match3 .keys2) n))
 
 tie-requires : tie.Need-tie-requires
 tie-requires c κs = search needs

@@ -57,7 +57,7 @@ returns-5 c old s h =
     let start = m .before in
     let a = start .args in
     let begun = b .before .before .before .before .if1 .left in
-    refuse _ _ _ Misplaced (verdict-misplaced s (a .c) (a .whole) (end-misplaced (a .p) s (h .counts) begun (omega (arith, start .pre, b .before .before .if2 .left)) (omega (arith, start .pre, b .if3 .left)) (a .c) (c .match2 .keys2) (not-term (a .c) (m .match .keys2))))
+    refuse _ _ _ _ Misplaced (verdict-misplaced s (a .c) (a .whole) (end-misplaced (a .p) s (h .counts) begun (omega (arith, start .pre, b .before .before .if2 .left)) (omega (arith, start .pre, b .if3 .left)) (a .c) (c .match2 .keys2) (not-term (a .c) (m .match .keys2))))
 
 returns-6 : tie.Need-returns-6
 unfolding isEnd byteOf next
@@ -66,7 +66,7 @@ returns-6 c old s h =
     let start = b .before .before .before .before .before .before .before in
     let a = start .args in
     let begun = b .before .before .before .before .if1 .left in
-    rw (c .enum-told .given .1) (ends _ _ _ (end-stands (a .p) s (h .counts) (a .whole) begun (omega (arith, start .pre, b .if3 .left))) h)
+    rw (c .enum-told .given .1) (ends _ _ _ _ (end-stands (a .p) s (h .counts) (a .whole) begun (omega (arith, start .pre, b .if3 .left))) h)
 
 pub obey-spec : {M : Type 1} → statement M
 obey-spec =

@@ -46,7 +46,7 @@ returns c terms old s h =
     let stands = block-stands (a .p) s (h .counts) true (start .pre .1 .0 .0) (start .pre .1 .0 .1) (a .j) (a .bias) in
     let room = fits-facts (a .p .covered) (a .p .n) (a .j) (a .bias) (start .pre .1 .1) .1 in
     let count = block-free (a .p) table old s h (a .j) (a .bias) _ (start .pre .1 .0 .0) room (rw (c .before .before .power .ensures) at (c .before .count-free .ensures)) in
-    refuse _ _ _ TooManyFree (stands ∙ fit ∙ rw (lt-leb (freeCount (take (2 ^ (a .j)) (drop (s .covered) (s .kinds)))) 8 (rw count at (c .if1 .taken))))
+    refuse _ _ _ _ TooManyFree (stands ∙ fit ∙ rw (lt-leb (freeCount (take (2 ^ (a .j)) (drop (s .covered) (s .kinds)))) 8 (rw count at (c .if1 .taken))))
 
 cast-b : tie.Need-cast-b
 cast-b c = search needs
@@ -99,7 +99,7 @@ returns-2 c terms old s h =
     let room = fits-facts (a .p .covered) (a .p .n) (a .j) (a .bias) (start .pre .1 .1) .1 in
     let power = d .before .before .power .ensures in
     let count = block-free (a .p) table old s h (a .j) (a .bias) _ (start .pre .1 .0 .0) room (rw power at (d .before .count-free .ensures)) in
-    proceed _ _ _ (stands ∙ fit ∙ rw (le-leb (freeCount (take (2 ^ (a .j)) (drop (s .covered) (s .kinds)))) 8 (rw count at (d .if1 .left))))
+    proceed _ _ _ _ (stands ∙ fit ∙ rw (le-leb (freeCount (take (2 ^ (a .j)) (drop (s .covered) (s .kinds)))) 8 (rw count at (d .if1 .left))))
     (rw (power, toZ-ofZ w32 (a .bias) (start .fits .bias)) (block-holds (a .p) table old s h (a .j) (a .bias) _ (omega (arith, h .counts .filled, h .counts .n, start .pre .1 .0 .0)) room (start .pre .1 .0 .1) count))
 
 pub place-block-spec : {M : Type 1} → statement M

@@ -17,7 +17,7 @@ returns c t old s h =
     let start = c .before in
     let a = start .args in
     let stands = run-stands (a .p) s (h .counts) (a .whole) (start .pre .1 .0) (a .code) (a .count) in
-    refuse _ _ _ Truncated (stands ∙ operands-cut (a .whole) _ (not-true (a .whole) (c .if1 .taken)))
+    refuse _ _ _ _ Truncated (stands ∙ operands-cut (a .whole) _ (not-true (a .whole) (c .if1 .taken)))
 
 returns-2 : tie.Need-returns-2
 returns-2 c t old s h =
@@ -25,7 +25,7 @@ returns-2 c t old s h =
     let a = start .args in
     let stands = run-stands (a .p) s (h .counts) (a .whole) (start .pre .1 .0) (a .code) (a .count) in
     let whole = operands-whole (a .whole) (fault s (Free (a .count))) (not-false (a .whole) (c .before .if1 .left)) in
-    refuse _ _ _ OutOfRange (stands ∙ whole ∙ run-empty (a .p) s (h .counts) (a .count) (c .if2 .taken))
+    refuse _ _ _ _ OutOfRange (stands ∙ whole ∙ run-empty (a .p) s (h .counts) (a .count) (c .if2 .taken))
 
 sub-if3 : tie.Need-sub-if3
 sub-if3 c = search needs
@@ -36,7 +36,7 @@ returns-3 c t old s h =
     let a = start .args in
     let stands = run-stands (a .p) s (h .counts) (a .whole) (start .pre .1 .0) (a .code) (a .count) in
     let whole = operands-whole (a .whole) (fault s (Free (a .count))) (not-false (a .whole) (c .before .before .before .if1 .left)) in
-    refuse _ _ _ OutOfRange (stands ∙ whole ∙ run-past (a .p) s (h .counts) (a .count) (c .before .before .if2 .left) (c .if3 .taken))
+    refuse _ _ _ _ OutOfRange (stands ∙ whole ∙ run-past (a .p) s (h .counts) (a .count) (c .before .before .if2 .left) (c .if3 .taken))
 
 cast-fill : tie.Need-cast-fill
 cast-fill c = search needs
@@ -55,7 +55,7 @@ returns-4 c t old s h =
     let stands = run-stands (a .p) s (h .counts) (a .whole) (start .pre .1 .0) (a .code) (a .count) in
     let run = run-goes s (a .code) (a .count) in
     let whole = operands-whole (a .whole) (fault s (Free (a .count))) (not-false (a .whole) (d .before .before .before .if1 .left)) in
-    rw (run .0, run .1) (proceed _ _ _ (stands ∙ whole ∙ run-fits (a .p) s (h .counts) (a .count) (d .before .before .if2 .left) (d .if3 .left) (start .pre .1 .0))
+    rw (run .0, run .1) (proceed _ _ _ _ (stands ∙ whole ∙ run-fits (a .p) s (h .counts) (a .count) (d .before .before .if2 .left) (d .if3 .left) (start .pre .1 .0))
     (run-holds (a .p) (withIndices t (a .kinds .now) (t .terms)) old s h (a .count) (a .code) _ (start .pre .1 .1) (start .pre .1 .0) (omega (arith, d .if3 .left)) (c .before .fill .ensures)))
 
 pub run-spec : {M : Type 1} → statement M

@@ -17,13 +17,13 @@ use Rattle.obeying.proofs.term.Tie as tie
 returns : tie.Need-returns
 returns c t old s h =
     let a = c .before .before .args in
-    refuse _ _ _ Misplaced (term-misplaced (a .p) s (h .counts) (a .whole) (not-true (a .p .tying) (c .if1 .taken)) (a .i))
+    refuse _ _ _ _ Misplaced (term-misplaced (a .p) s (h .counts) (a .whole) (not-true (a .p .tying) (c .if1 .taken)) (a .i))
 
 returns-2 : tie.Need-returns-2
 returns-2 c t old s h =
     let a = c .before .before .before .args in
     let stands = term-stands (a .p) s (h .counts) (a .whole) (not-false (a .p .tying) (c .before .if1 .left)) (a .i) in
-    refuse _ _ _ Truncated (stands ∙ operands-cut (a .whole) _ (not-true (a .whole) (c .if2 .taken)))
+    refuse _ _ _ _ Truncated (stands ∙ operands-cut (a .whole) _ (not-true (a .whole) (c .if2 .taken)))
 
 returns-3 : tie.Need-returns-3
 returns-3 c t old s h =
@@ -31,7 +31,7 @@ returns-3 c t old s h =
     let a = d .before .before .before .args in
     let stands = term-stands (a .p) s (h .counts) (a .whole) (not-false (a .p .tying) (d .before .if1 .left)) (a .i) in
     let whole = operands-whole (a .whole) (fault s (Term (a .i))) (not-false (a .whole) (d .if2 .left)) in
-    refuse _ _ _ OutOfRange (stands ∙ whole ∙ term-later (a .p) s (h .counts) (a .i) (omega (arith, c .if3 .taken)))
+    refuse _ _ _ _ OutOfRange (stands ∙ whole ∙ term-later (a .p) s (h .counts) (a .i) (omega (arith, c .if3 .taken)))
 
 sub-if4 : tie.Need-sub-if4
 sub-if4 c = search needs
@@ -42,7 +42,7 @@ returns-4 c t old s h =
     let a = d .before .before .before .args in
     let stands = term-stands (a .p) s (h .counts) (a .whole) (not-false (a .p .tying) (d .before .if1 .left)) (a .i) in
     let whole = operands-whole (a .whole) (fault s (Term (a .i))) (not-false (a .whole) (d .if2 .left)) in
-    refuse _ _ _ OutOfRange (stands ∙ whole ∙ term-later (a .p) s (h .counts) (a .i) (omega (arith, c .if4 .taken)))
+    refuse _ _ _ _ OutOfRange (stands ∙ whole ∙ term-later (a .p) s (h .counts) (a .i) (omega (arith, c .if4 .taken)))
 
 sub-power : tie.Need-sub-power
 sub-power c =
@@ -70,7 +70,7 @@ returns-5 c t old s h =
     let stands = term-stands (a .p) s (h .counts) (a .whole) tying (a .i) in
     let whole = operands-whole (a .whole) (fault s (Term (a .i))) (not-false (a .whole) (d .if2 .left)) in
     let member = named (a .p) (withIndices t (t .kinds) (a .terms .now)) old s h y (a .i) (omega (arith, e .before .before .if3 .left, h .counts .safe .within)) (rw (c .before .before .power .ensures) at (c .if5 .taken)) in
-    refuse _ _ _ OutOfRange (stands ∙ whole ∙ term-again (a .p) s (h .counts) (a .i) (omega (arith, e .if4 .left)) member)
+    refuse _ _ _ _ OutOfRange (stands ∙ whole ∙ term-again (a .p) s (h .counts) (a .i) (omega (arith, e .if4 .left)) member)
 
 mul-terms : tie.Need-mul-terms
 mul-terms c = search needs
@@ -97,7 +97,7 @@ returns-6 c t old s h =
     let whole = operands-whole (a .whole) (fault s (Term (a .i))) (not-false (a .whole) (d .if2 .left)) in
     let within : a .i < a .p .n = omega (arith, e .before .before .if3 .left, h .counts .safe .within) in
     let fresh = unnamed (a .p) (withIndices t (t .kinds) (a .terms .now)) old s h y (a .i) within (rw (f .before .before .power .ensures) at (f .if5 .left)) in
-    proceed _ _ _ (stands ∙ whole ∙ term-fits (a .p) s (h .counts) (a .i) (omega (arith, e .if4 .left)) fresh)
+    proceed _ _ _ _ (stands ∙ whole ∙ term-fits (a .p) s (h .counts) (a .i) (omega (arith, e .if4 .left)) fresh)
     (rw (f .before .before .power .ensures) (term-holds (a .p) (withIndices t (t .kinds) (a .terms .now)) old s h y (a .i) within fresh))
 
 pub term-spec : {M : Type 1} → statement M

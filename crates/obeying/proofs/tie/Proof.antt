@@ -16,7 +16,7 @@ returns c t old s h =
     let start = c .before in
     let a = start .args in
     let stands = tie-stands (a .p) s (h .counts) (a .whole) (start .pre .1) (a .i) in
-    refuse _ _ _ Truncated (stands ∙ operands-cut (a .whole) _ (not-true (a .whole) (c .if1 .taken)))
+    refuse _ _ _ _ Truncated (stands ∙ operands-cut (a .whole) _ (not-true (a .whole) (c .if1 .taken)))
 
 returns-2 : tie.Need-returns-2
 returns-2 c t old s h =
@@ -24,7 +24,7 @@ returns-2 c t old s h =
     let a = start .args in
     let stands = tie-stands (a .p) s (h .counts) (a .whole) (start .pre .1) (a .i) in
     let whole = operands-whole (a .whole) (fault s (Tie (a .i))) (not-false (a .whole) (c .before .before .if1 .left)) in
-    refuse _ _ _ OutOfRange (stands ∙ whole ∙ tie-later (a .p) s (h .counts) (a .i) (c .if2 .taken))
+    refuse _ _ _ _ OutOfRange (stands ∙ whole ∙ tie-later (a .p) s (h .counts) (a .i) (c .if2 .taken))
 
 returns-3 : tie.Need-returns-3
 returns-3 c t old s h =
@@ -33,7 +33,7 @@ returns-3 c t old s h =
     let a = start .args in
     let stands = tie-stands (a .p) s (h .counts) (a .whole) (start .pre .1) (a .i) in
     let whole = operands-whole (a .whole) (fault s (Tie (a .i))) (not-false (a .whole) (d .before .before .if1 .left)) in
-    refuse _ _ _ TooManyTied (stands ∙ whole ∙ tie-many (a .p) s (h .counts) (a .i) (d .if2 .left) (c .if3 .taken))
+    refuse _ _ _ _ TooManyTied (stands ∙ whole ∙ tie-many (a .p) s (h .counts) (a .i) (d .if2 .left) (c .if3 .taken))
 
 cast-at : tie.Need-cast-at
 cast-at c = search needs
@@ -77,7 +77,7 @@ returns-4 c t old s h =
     let a = start .args in
     let stands = tie-stands (a .p) s (h .counts) (a .whole) (start .pre .1) (a .i) in
     let whole = operands-whole (a .whole) (fault s (Tie (a .i))) (not-false (a .whole) (d .before .before .if1 .left)) in
-    proceed _ _ _ (stands ∙ whole ∙ tie-fits (a .p) s (h .counts) (a .i) (d .if2 .left) (e .if3 .left))
+    proceed _ _ _ _ (stands ∙ whole ∙ tie-fits (a .p) s (h .counts) (a .i) (d .if2 .left) (e .if3 .left))
     (rw (c .before .before .power .ensures) (tie-holds (a .p) (withIndices t (a .kinds .now) (a .terms .now)) old s h (a .i) (start .pre .1) (d .if2 .left) (e .if3 .left)))
 
 pub tie-spec : {M : Type 1} → statement M

@@ -102,7 +102,7 @@ returns-3 c =
     let e = sym (d .before .before .read-command .ensures) ∙ d .c .given .1 in
     let h = d .before .before .before .loop-test .taken in
     let l = d .before .before .before .before .loop in
-    refused-answer _ _ _ _ _ (reached-refused _ _ _ _ _ (l .inv) h (x .0) (x .1 .0) (x .1 .1 .0) e _ _ (rw (c .before .before .r .given .1) at (o .obey .ensures _ (l .inv .s) (l .inv .holds)))) (c .refuse2 .ensures)
+    refused-answer _ _ _ _ _ (reached-refused _ _ _ _ _ (l .inv) h (x .0) (x .1 .0) (x .1 .1 .0) e _ _ _ (rw (c .before .before .r .given .1) at (o .obey .ensures _ (l .inv .s) (l .inv .holds)))) (c .refuse2 .ensures)
 
 refuse-requires-3 : tie.Need-refuse-requires-3 Inv-loop μ-loop
 refuse-requires-3 c κs = search needs
