@@ -1,6 +1,6 @@
 // The decoding calls. Each makes one attempt, and hands out word and data on success alone. Relies on giving.rt and the crate attempts;
-// machine/specs/Calls says what each call answers and leaves, attempts/specs/WholeRun what demand 3 asks of it, runs/specs/Handed
-// what demand 2 does.
+// machine/specs/Calls says what each call answers and leaves, machine/specs/Numbers the answer's number by document 01's table, runs/specs/Handed what demand 2
+// asks of a call, attempts/specs/WholeRun what demand 3 does.
 use crate::giving::give;
 use crate::giving::read_found;
 use attempts::attempt::attempt;
