@@ -1,6 +1,6 @@
 -- Loading as a fold over the commands: what it comes to and what is loaded where it stops are two such folds. The fuel does not matter where it is at
 -- least the number of bytes, since each command takes a byte or more. By induction on the fuel. Assumes nothing.
-use mathlib.Core.Path.{_≡_, refl}
+use mathlib.Core.Path.{_≡_, refl, sym, _∙_}
 use mathlib.Core.Bool.{Bool, cond}
 use mathlib.Core.List.{List, [], _∷_}
 use mathlib.Core.Option.{Option, none, some}
@@ -64,6 +64,9 @@ load-fold zero s bytes = refl
 load-fold (suc fuel) s [] = refl
 load-fold (suc fuel) s (byte ∷ after) =
     rw (load-fold fuel (next s (command byte (take (width byte) after))) (drop (width byte) after)) (decided-as (refusal s byte after) s _)
+
+pub load-enough : (f g : ℕ) (s : Loading) (bytes : List ℕ) → length bytes ≤ f → length bytes ≤ g → loadFrom f s bytes ≡ loadFrom g s bytes
+load-enough f g s bytes h k = load-fold f s bytes ∙ fuel-enough refusedAs endedAs f g s bytes h k ∙ sym (load-fold g s bytes)
 
 -- ---- what is loaded where it stops
 

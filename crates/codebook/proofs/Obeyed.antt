@@ -19,7 +19,7 @@ use Rattle.codebook.specs.Refusals.{unless}
 use Rattle.codebook.specs.Loading.{Loading, Load, listed, width, bigEndian, signed, command, placed, fault, next, refusal, decided, loadFrom}
 use Rattle.codebook.specs.Progress.{byteOf, isEnd}
 use Rattle.codebook.specs.Written.{bytes, complement, written}
-use Rattle.codebook.proofs.Fuel.{fuel-enough}
+use Rattle.codebook.proofs.Fuel.{load-enough}
 use Rattle.codebook.proofs.Operands.{one-back, two-back, four-back, complement-lt, signed-back}
 
 -- what loading these bytes comes to from here on
@@ -32,7 +32,7 @@ unfolding from loadFrom refusal unless decided
 read-on byte operands c s rest known size e more here passed =
     let l = length-append operands rest in
     rw (size, take-append-seam operands rest, drop-append-seam operands rest, e, known, here, le-leb (length operands) (length (operands ++ rest)) (omega arith), passed, more)
-    (fuel-enough (length (operands ++ rest)) (length rest) (next s c) rest (omega arith) (le-refl (length rest)))
+    (load-enough (length (operands ++ rest)) (length rest) (next s c) rest (omega arith) (le-refl (length rest)))
 
 -- the operands of a command fit the bytes that they are written in
 unfoldable pub Fitting : Command → Type 0
