@@ -1,9 +1,8 @@
 -- What the entries of a queue lose is what the reader's queue loses: memory that stands for paths has their numbers in its entries. Assumes nothing.
 use mathlib.Core.Path.{_≡_, sym, ap, _∙_, subst₂}
 use mathlib.Core.Bool.{cond}
-use mathlib.Core.List.{List, _∷_}
+use mathlib.Core.List.{List}
 use Prim.Native.Nat.{ℕ}
-use lib.ListN.{getD}
 use lib.Dec.{eqb}
 use Rattle.laws.specs.Removes.{Removes}
 use Rattle.codebook.specs.Book.{Book}
@@ -11,7 +10,7 @@ use Rattle.queue.specs.Queue.{ahead, staying, numbers, visit}
 use Rattle.reader.specs.Arrays.{Arrays}
 use Rattle.reader.specs.Paths.{Path, keyOf}
 use Rattle.reader.specs.Reader as R
-use Rattle.reader.specs.Moments.{Moment, stepAt, copyAt, movedAt, queuedAt, extractAt}
+use Rattle.reader.specs.Moments.{stepAt, copyAt, movedAt, queuedAt, extractAt}
 use Rattle.reader.proofs.Queue.{numbers-paired}
 use Rattle.reader.proofs.During.{during-removed}
 use Rattle.order.specs.Entries.{keyAt}

@@ -2,9 +2,7 @@
 -- that an attempt leaves are those of that run. Assumes nothing.
 use mathlib.Core.Path.{_≡_, refl, _∙_}
 use mathlib.Core.Bool.{Bool, false}
-use mathlib.Core.List.{List}
-use mathlib.Core.Option.{none}
-use Prim.Native.Nat.{ℕ, _+_, _*_, _^_}
+use Prim.Native.Nat.{_+_, _*_, _^_}
 use native.Mathlib.Omega.{arith}
 use lib.ListN.{take}
 use lib.Seq.{length-take-le}
@@ -12,7 +10,7 @@ use Rattle.codebook.specs.Book.{Book}
 use Rattle.codebook.specs.Loading.{loaded, load}
 use Rattle.codebook.proofs.Loaded.{loaded-valid}
 use Rattle.machine.specs.declared.Counts.{Counts}
-use Rattle.machine.specs.Calls.{Input, Lent, numbersNeeded, barred, finalIn, countsOf, afterRun}
+use Rattle.machine.specs.Calls.{Input, Lent, numbersNeeded, finalIn, countsOf, afterRun}
 use Rattle.runs.specs.Runs.{Exact}
 use Rattle.heights.specs.Workspace.{Room}
 use Rattle.reader.specs.Agree.{Agree}

@@ -2,7 +2,7 @@
 -- call's counts and walk are those of the reader's. The reader (reader/specs/Reader) and the machine (machine/specs/Machine) are not defined by each other. Assumes nothing.
 use mathlib.Core.Path.{_≡_}
 use mathlib.Core.Bool.{Bool}
-use mathlib.Core.List.{List, map}
+use mathlib.Core.List.{map}
 use mathlib.Core.Option.{none}
 use Prim.Native.Nat.{ℕ, _+_, _*_, _≤_, _<_}
 use lib.ListN.{length}

@@ -6,8 +6,8 @@ use mathlib.Core.List.{List, [], _∷_, _++_, map, map-append}
 use Prim.Native.Nat.{ℕ, zero, suc, _+_, _^_, _≤_, _<_, zero-le}
 use native.Mathlib.Numerals.{add-one}
 use native.Mathlib.Omega.{arith}
-use lib.ListN.{length, take, drop, set, length-append, length-drop, length-map, List·getD-append}
-use lib.Seq.{getD-at, take-add, take-append-le, drop-append-le}
+use lib.ListN.{length, take, drop, set, length-append, length-drop, length-map}
+use lib.Seq.{take-add, take-append-le, drop-append-le}
 use lib.IntN.{ℤ}
 use lib.Pow.{pow-pos}
 use Rattle.laws.specs.Lists.{tab, over}
@@ -15,11 +15,11 @@ use Rattle.laws.proofs.Lists.{length-tab, tab-last, over-last, over-length}
 use Rattle.codebook.specs.declared.Progress.{Progress}
 use Rattle.codebook.specs.declared.Command.the-variants.{Block as NextBlock}
 use Rattle.codebook.specs.Book.{Kind, free, frozen, tied, Block, freeCount, startOf}
-use Rattle.codebook.specs.Loading.{Loading, total, next, bookOf}
+use Rattle.codebook.specs.Loading.{Loading, total, next}
 use Rattle.codebook.specs.Tables.{Tables, kindCodes}
 use Rattle.codebook.specs.Progress.{HoldsLoaded, tables, freeCodes}
 use Rattle.codebook.proofs.Codes.{codes-length, codes-part}
-use Rattle.codebook.proofs.Blocks.{start-append, start-last, noBlock}
+use Rattle.codebook.proofs.Blocks.{start-append, start-last}
 
 -- ---- free kinds
 

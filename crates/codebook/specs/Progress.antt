@@ -22,7 +22,7 @@ use Rattle.codebook.specs.declared.Step.{Step}
 use Rattle.codebook.specs.declared.Step.the-variants.{Next, End as Ended, Refused}
 use Rattle.codebook.specs.Refusals.{unless}
 use Rattle.codebook.specs.Book.{Kind, free, frozen, tied, Block, freeCount, tiedCount, startOf}
-use Rattle.codebook.specs.Loading.{Loading, total, lastTerms, listed, width, command, placed, fault, next, bookOf}
+use Rattle.codebook.specs.Loading.{Loading, total, lastTerms, listed, width, command, placed, fault, next}
 use Rattle.codebook.specs.Tables.{Tables, kindCodes, tieSet}
 
 -- ---- a command is read

@@ -23,7 +23,7 @@ use Rattle.codec.specs.Calls.{encodeCall, testCall, readDataCall, makeRe
 use Rattle.codec.specs.Numbers.{testedNumber, encodeNumber, testNumber, readDataNumber, makeRecordNumber, readable, readRecordNumber}
 
 -- the book's fault comes first
-by-book : (number : Load → ℕ) {own : Book → ℕ} → ((r : Refusal) → number (refused r) ≡ refusalNumber r) → ((B : Book) → number (loaded B) ≡ own B)
+pub by-book : (number : Load → ℕ) {own : Book → ℕ} → ((r : Refusal) → number (refused r) ≡ refusalNumber r) → ((B : Book) → number (loaded B) ≡ own B)
     → (l : Load) → number l ≡ numberBy l own
 unfolding numberBy
 by-book number f g (refused r) = f r
@@ -88,7 +88,7 @@ spared h true = refl
 spared h false = refl
 
 -- or where the status is above 4
-read-number : (ds : List ℕ) → readNumber (recordRead (readRecord ds)) ≡ unlessNumber (readable ds) 11 0
+pub read-number : (ds : List ℕ) → readNumber (recordRead (readRecord ds)) ≡ unlessNumber (readable ds) 11 0
 unfolding readRecord readable statusOf recordWith recordRead notRead unlessNumber
 read-number ds = go (fieldAt ds 27 3)
   where

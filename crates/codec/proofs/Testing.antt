@@ -1,18 +1,15 @@
 -- A test answers yes exactly where some data encode to the word, and no exactly where the word could be tested and none do: by the laws that take
 -- encoding to testing and back (proofs/Calls, Reverse). Assumes nothing.
-use mathlib.Core.Path.{_≡_, refl, sym, ap, _∙_, subst}
-use mathlib.Core.Bool.{Bool, true, false}
+use mathlib.Core.Path.{_≡_, refl, ap, _∙_, subst}
 use mathlib.Core.List.{List}
-use mathlib.Core.Logic.{_↔_}
 use Prim.Native.Nat.{ℕ}
 use native.Mathlib.Omega.{arith}
-use Rattle.codebook.specs.declared.Outcome.the-variants.{Done}
 use Rattle.codebook.specs.Book.{Book}
 use Rattle.codebook.specs.Limits.{Valid}
 use Rattle.codebook.specs.Loading.{Load, refused, loaded, load}
 use Rattle.codec.specs.declared.Tested.{Tested}
 use Rattle.codec.specs.declared.Tested.the-variants.{InCode, NotInCode}
-use Rattle.codec.specs.Code.{inCode, readData}
+use Rattle.codec.specs.Code.{readData}
 use Rattle.codec.specs.Calls.{Wrote, wrote, encodeWith, encodeCall, testWith, testCall}
 use Rattle.codec.specs.Testing.{EncodesTo, Testable, TestedExactly}
 use Rattle.codec.proofs.Answers.{not-in-code, not-said-no, encode-wrote, test-yes, test-no, test-in, test-out}

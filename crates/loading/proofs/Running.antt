@@ -5,7 +5,7 @@ use mathlib.Core.Bool.{Bool, true, false, cond, not, _&&_, _||_, or-true}
 use mathlib.Core.List.{List, []}
 use mathlib.Core.Logic.{_≢_, _⊎_, inl, inr}
 use mathlib.Core.Option.{Option, none, some}
-use Prim.Native.Nat.{ℕ, zero, suc, _+_, _-_, _^_, _≤_, _<_, zero-le}
+use Prim.Native.Nat.{ℕ, suc, _+_, _-_, _^_, _≤_, _<_, zero-le}
 use native.Mathlib.Numerals.{add-one}
 use native.Mathlib.Omega.{arith}
 use lib.ListN.{length, getD, take, drop, length-drop, drop-of-length-le}
@@ -27,7 +27,7 @@ use Rattle.codebook.specs.declared.Progress.{Progress}
 use Rattle.codebook.specs.declared.Step.the-variants.{Next, End as Ended, Refused}
 use Rattle.codebook.specs.Refusals.{unless}
 use Rattle.codebook.specs.Book.{freeCount, tiedCount, startOf}
-use Rattle.codebook.specs.Loading.{Loading, Load, refused, loaded, start, total, placed, listed, width, command, next, refusal, bookOf, load}
+use Rattle.codebook.specs.Loading.{Loading, refused, loaded, start, total, placed, listed, width, command, next, refusal, bookOf, load}
 use Rattle.codebook.specs.Tables.{Tables, kindCodes, tieSet, tablesOf, overlaid, tablesSoFar, loadedUpTo, Filled, sizesOf}
 use Rattle.codebook.specs.Progress.{readAt, byteOf, isEnd, verdict, Sized, HoldsLoaded, Goes, Judged, sizesAt}
 use Rattle.codebook.proofs.Fuel.{judgedAs, foldFrom, none-left, fuel-enough, refusedAs, endedAs, load-fold, stopped, stoppedAt, stop-fold}

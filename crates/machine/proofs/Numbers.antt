@@ -7,15 +7,15 @@ use Rattle.codebook.specs.declared.Refusal.{Refusal}
 use Rattle.codebook.specs.declared.Refusal.the-variants.{Mismatch, BadSetting, BadValue, AboveLimit}
 use Rattle.codebook.specs.declared.Outcome.the-variants.{Done, Refused}
 use Rattle.codebook.specs.Refusals.{refusalNumber, outcomeNumber, unless, unlessNumber}
-use Rattle.codebook.specs.Loading.{Load, refused, loaded, load, numberBy}
-use Rattle.codec.specs.declared.HookRecord.{HookRecord}
-use Rattle.codec.specs.Record.{readRecord}
-use Rattle.codec.specs.Calls.{holds32, notRead, recordRead}
+use Rattle.codebook.specs.Loading.{load}
+use Rattle.codec.specs.Calls.{holds32, notRead}
+use Rattle.codec.specs.Numbers.{readable}
+use Rattle.codec.proofs.Numbers.{by-book, read-number}
 use Rattle.queue.specs.Queue.{Final}
 use Rattle.machine.specs.Calls.{Input, Lent, settingsOk, lentOk, valuesOk, barred, within}
 use Rattle.machine.specs.Calls.{plainRan, plainRefused, plainChecked, plainWith, plainCall}
 use Rattle.machine.specs.Calls.{hookOf, hookRan, hookRefused, hookChecked, hookWith, hookCall}
-use Rattle.machine.specs.Numbers.{finalEnd, finalWord, plainTests, recordNumber, hookTests, plainNumber, hookNumber}
+use Rattle.machine.specs.Numbers.{finalEnd, finalWord, plainTests, hookTests, plainNumber, hookNumber}
 
 -- where f is a call's number by what bars it, it is 8, 7 or 9 by the first test that fails, else that of the run
 barred-number : (f : Option Refusal → ℕ) → ((r : Refusal) → f (some r) ≡ refusalNumber r) → (s b v : Bool) {n : ℕ} → f none ≡ n
@@ -35,35 +35,25 @@ limited true = refl
 limited false = refl
 
 pub plain-number : (c : Input) (l : Lent) → outcomeNumber (plainCall c l .answer .outcome) ≡ plainNumber c l
-unfolding plainCall plainWith plainChecked plainRefused plainRan barred plainNumber numberBy plainTests finalEnd
-plain-number c l = go (load (c .book))
-  where
-    go : (x : Load) → outcomeNumber (plainWith x c l .answer .outcome) ≡ numberBy x (plainTests c l)
-    go (refused r) = refl
-    go (loaded B) =
-        barred-number (λ o. outcomeNumber (plainChecked B c l o .answer .outcome)) (λ r. refl) (settingsOk c) (lentOk B c l) (valuesOk (c .values))
-        (limited (within (c .T) (finalEnd B c)))
+unfolding plainCall plainWith plainChecked plainRefused plainRan barred plainNumber plainTests finalEnd
+plain-number c l =
+    by-book (λ x. outcomeNumber (plainWith x c l .answer .outcome)) (λ r. refl)
+    (λ B. barred-number (λ o. outcomeNumber (plainChecked B c l o .answer .outcome)) (λ r. refl) (settingsOk c) (lentOk B c l) (valuesOk (c .values))
+    (limited (within (c .T) (finalEnd B c))))
+    (load (c .book))
 
 -- ---- the hook call
 
--- 11 where there is no record
-unread : (o : Option HookRecord) → outcomeNumber (recordRead o .outcome) ≡ recordNumber o
-unfolding recordRead notRead recordNumber
-unread none = refl
-unread (some h) = refl
-
 -- 10 above the limit, else by the record
-read-limited : (b : Bool) (f : Final) → outcomeNumber (hookOf b f .outcome) ≡ unlessNumber b 10 (recordNumber (readRecord (f .bits)))
+read-limited : (b : Bool) (f : Final) → outcomeNumber (hookOf b f .outcome) ≡ unlessNumber b 10 (unlessNumber (readable (f .bits)) 11 0)
 unfolding hookOf notRead unlessNumber
-read-limited true f = unread (readRecord (f .bits))
+read-limited true f = read-number (f .bits)
 read-limited false f = refl
 
 pub hook-number : (c : Input) (l : Lent) → outcomeNumber (hookCall c l .answer .outcome) ≡ hookNumber c l
-unfolding hookCall hookWith hookChecked hookRefused hookRan barred hookNumber numberBy hookTests finalWord finalEnd
-hook-number c l = go (load (c .book))
-  where
-    go : (x : Load) → outcomeNumber (hookWith x c l .answer .outcome) ≡ numberBy x (hookTests c l)
-    go (refused r) = refl
-    go (loaded B) =
-        barred-number (λ o. outcomeNumber (hookChecked B c l o .answer .outcome)) (λ r. refl) (settingsOk c) (holds32 B && lentOk B c l) (valuesOk (c .values))
-        (read-limited (within (c .T) (finalEnd B c)) (finalWord B c))
+unfolding hookCall hookWith hookChecked hookRefused hookRan barred hookNumber hookTests finalWord finalEnd
+hook-number c l =
+    by-book (λ x. outcomeNumber (hookWith x c l .answer .outcome)) (λ r. refl)
+    (λ B. barred-number (λ o. outcomeNumber (hookChecked B c l o .answer .outcome)) (λ r. refl) (settingsOk c) (holds32 B && lentOk B c l) (valuesOk (c .values))
+    (read-limited (within (c .T) (finalEnd B c)) (finalWord B c)))
+    (load (c .book))

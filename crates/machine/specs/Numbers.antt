@@ -1,14 +1,12 @@
 -- Document 01's number of a decoding call's answer, by the tests of its refusal table in the table's order: the book's fault, then 8, 7, 9, 10 and, of the
 -- hook call, 11; 0 where all pass. proofs/Numbers shows that the answers of specs/Calls have these numbers. Assumes nothing.
 use mathlib.Core.Bool.{_&&_}
-use mathlib.Core.Option.{Option, none, some}
 use Prim.Native.Nat.{ℕ}
 use Rattle.codebook.specs.Refusals.{unlessNumber}
 use Rattle.codebook.specs.Book.{Book}
 use Rattle.codebook.specs.Loading.{load, numberBy}
-use Rattle.codec.specs.declared.HookRecord.{HookRecord}
-use Rattle.codec.specs.Record.{readRecord}
 use Rattle.codec.specs.Calls.{holds32}
+use Rattle.codec.specs.Numbers.{readable}
 use Rattle.queue.specs.Queue.{Final, End}
 use Rattle.machine.specs.Machine.{runOf}
 use Rattle.machine.specs.Calls.{Input, Lent, settingsOk, lentOk, valuesOk, endOf, finalIn, within}
@@ -29,11 +27,6 @@ plainTests c l B =
     (unlessNumber (valuesOk (c .values)) 9
     (unlessNumber (within (c .T) (finalEnd B c)) 10 0)))
 
--- 11 where data hold no record
-unfoldable pub recordNumber : Option HookRecord → ℕ
-recordNumber none = 11
-recordNumber (some h) = 0
-
 -- the hook call with book B: 7 also unless k is 32, and last 11 where the final word's data hold no record
 unfoldable pub hookTests : Input → Lent → Book → ℕ
 hookTests c l B =
@@ -41,7 +34,7 @@ hookTests c l B =
     (unlessNumber (holds32 B && lentOk B c l) 7
     (unlessNumber (valuesOk (c .values)) 9
     (unlessNumber (within (c .T) (finalEnd B c)) 10
-    (recordNumber (readRecord (finalWord B c .bits))))))
+    (unlessNumber (readable (finalWord B c .bits)) 11 0))))
 
 -- the number of each call: the book's where it does not load, else that of the first test that fails
 unfoldable pub plainNumber : Input → Lent → ℕ

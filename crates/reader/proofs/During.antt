@@ -11,7 +11,7 @@ use Rattle.codebook.specs.Limits.{Valid}
 use Rattle.outer.specs.Words.{Word, nextAfter}
 use Rattle.reader.specs.Arrays.{Arrays, valsOf}
 use Rattle.reader.specs.Paths.{Path, ownWord, idsOf, viewOf}
-use Rattle.reader.specs.Reader.{Cut, copy}
+use Rattle.reader.specs.Reader.{copy}
 use Rattle.reader.specs.Moments.{Moment, momentsOf, RunMoment, Removed}
 use Rattle.reader.specs.Fit.{FitFor}
 use Rattle.reader.specs.Reached.{Reached}

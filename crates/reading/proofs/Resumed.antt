@@ -1,23 +1,22 @@
 -- A run taken up again: memory that stands for one of the run's moments (specs/Before) is a run under way (Going), since what is left of the moments, and of the run, is
 -- that of what the reader then holds. By induction on the moments. Assumes nothing.
-use mathlib.Core.Path.{_≡_, refl, sym, ap, _∙_, subst}
+use mathlib.Core.Path.{_≡_, sym, ap, _∙_, subst}
 use mathlib.Core.Bool.{Bool, true, false, cond}
 use mathlib.Core.List.{List, [], _∷_, _++_}
-use Prim.Native.Nat.{ℕ, zero, suc, _+_, _-_, _*_, _^_, _≤_, _<_}
+use Prim.Native.Nat.{ℕ, zero, suc, _+_, _-_, _*_, _≤_, _<_}
 use native.Mathlib.Omega.{arith}
 use lib.IntN.{ℤ}
 use lib.ListN.{length, replicate, length-replicate}
 use lib.Dec.{eqb}
 use Rattle.codebook.specs.Book.{Book}
 use Rattle.codebook.specs.Limits.{Valid}
-use Rattle.queue.specs.Queue.{visit}
 use Rattle.reader.specs.Arrays.{Arrays}
 use Rattle.reader.specs.Paths.{Path, firstPath}
 use Rattle.reader.specs.Reader as R
 use Rattle.reader.specs.Moments.{Moment, moments, momentsOf}
 use Rattle.reader.specs.Reached.{Reached}
 use Rattle.reader.proofs.During.{during-reached}
-use Rattle.order.specs.Entries.{keyAt, queueOf}
+use Rattle.order.specs.Entries.{keyAt}
 use Rattle.standing.specs.Seen.{Memory}
 use Rattle.standing.proofs.Taken.{taken-blocks}
 use Rattle.steps.specs.declared.Setting.{Setting}
@@ -25,7 +24,6 @@ use Rattle.steps.specs.declared.Tally.{Tally}
 use Rattle.extraction.proofs.Counts.{blocks-few}
 use Rattle.extraction.proofs.Extracts.{visit-length}
 use Rattle.reading.specs.Before.{Before}
-use Rattle.reading.specs.Running.{Running}
 use Rattle.reading.specs.Turning.{Turning}
 use Rattle.reading.proofs.Visits.{Alike}
 use Rattle.reading.proofs.Going.{Going}

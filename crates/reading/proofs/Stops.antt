@@ -1,6 +1,6 @@
 -- The end of a run, from what the contract of its extractions says (specs/Before): the moment at which a path with all blocks is taken is the run's last,
 -- so the steps of the moments before it and its own are all the run's, and its word is the final one. By induction on the moments. Assumes nothing.
-use mathlib.Core.Path.{_≡_, refl, sym, ap, _∙_, subst}
+use mathlib.Core.Path.{_≡_, sym, ap, _∙_, subst}
 use mathlib.Core.Bool.{Bool, true, false, cond}
 use mathlib.Core.List.{List, [], _∷_, _++_, map, map-append}
 use Prim.Native.Nat.{ℕ, zero, suc, _+_, _-_, _*_, _^_, _≤_, _<_}
@@ -19,7 +19,7 @@ use Rattle.codebook.specs.Limits.{Valid}
 use Rattle.codec.specs.Code.{readData}
 use Rattle.queue.specs.Queue.{Step}
 use Rattle.reader.specs.Arrays.{Arrays, sumsOf}
-use Rattle.reader.specs.Paths.{Path, scoreOf, keyOf, firstPath, idsOf, viewOf}
+use Rattle.reader.specs.Paths.{Path, scoreOf, keyOf, idsOf, viewOf}
 use Rattle.reader.specs.Fit.{Fit, FitFor}
 use Rattle.reader.specs.Reader as R
 use Rattle.reader.specs.Moments.{Moment, moments, momentsOf, stepAt}
@@ -29,7 +29,7 @@ use Rattle.order.specs.Entries.{keyAt, queueOf}
 use Rattle.heights.specs.Workspace.{spot, Id}
 use Rattle.standing.specs.Seen.{Memory}
 use Rattle.standing.specs.Standing.{InHand}
-use Rattle.standing.proofs.Taken.{taken-key, taken-blocks}
+use Rattle.standing.proofs.Taken.{taken-key}
 use Rattle.words.specs.declared.Block.{Block}
 use Rattle.steps.specs.declared.Setting.{Setting}
 use Rattle.steps.specs.declared.Tally.{Tally}

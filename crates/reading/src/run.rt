@@ -1,6 +1,6 @@
 // The run: extractions until one takes a path that has all blocks; the walk is written as it goes, and the final word is left in the sums of the root.
 ghost use mathlib.Core.Path.{_≡_};
-ghost use mathlib.Core.List.{List, _∷_};
+ghost use mathlib.Core.List.{List};
 ghost use Prim.Native.Nat.{ℕ, _+_, _-_, _*_, _^_, _≤_, _<_};
 ghost use lib.IntN.{pos};
 ghost use lib.ListN.{length, getD, replicate};
@@ -10,7 +10,6 @@ ghost use Rattle.machine.specs.Calls.{walked};
 ghost use Rattle.reader.specs.Arrays.{sumsOf};
 ghost use Rattle.reader.specs.Reader as R;
 ghost use Rattle.sharing.specs.Sharing.{Rows};
-ghost use Rattle.order.specs.Entries.{queueOf};
 ghost use Rattle.heights.specs.Workspace.{spot, Room, Id};
 ghost use Rattle.outer.specs.Search.{Scratch};
 ghost use Rattle.standing.specs.Seen.{memory, Lent};

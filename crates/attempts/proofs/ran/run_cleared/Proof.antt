@@ -1,6 +1,6 @@
 -- `attempts::ran::run_cleared` meets its contract: the run's counts, walk and final word are the reader's, and the workspace is cleared at its whole length.
 -- Assumes nothing.
-use mathlib.Core.Path.{refl, ap, ap₂, _∙_}
+use mathlib.Core.Path.{refl, ap₂, _∙_}
 use native.Mathlib.Omega.{arith}
 use lib.IntN.{pos}
 use lib.ListN.{length}

@@ -8,7 +8,7 @@ use Prim.Native.Nat.{ℕ, _+_, _-_, _*_, _≤_, _<_}
 use native.Mathlib.Omega.{arith}
 use lib.IntN.{ℤ}
 use borrow.Author.Tests.{eqb-true, eqb-false, not-true, not-false}
-use lib.ListN.{length, getD, replicate, length-set, length-replicate}
+use lib.ListN.{length, length-set, length-replicate}
 use Rattle.outer.specs.Search.{Scratch}
 use Rattle.reader.specs.Arrays.{Arrays}
 use Rattle.order.specs.Entries.{keyAt}

@@ -1,17 +1,16 @@
 -- `reading::run::turn` meets its contract: memory that stands for a moment of the run is a run under way (Resumed), which one extraction keeps (Going); what that says of
 -- memory is the contract again, one extraction on. Assumes nothing.
 use borrow.Author.Needs.{needs}
-use mathlib.Core.Path.{_≡_, refl, sym, ap, _∙_, subst}
-use mathlib.Core.List.{List}
-use Prim.Native.Nat.{ℕ, _+_, _-_, _*_, _≤_, _<_}
+use mathlib.Core.Path.{_≡_}
+use Prim.Native.Nat.{ℕ, _+_, _-_, _≤_, _<_}
 use native.Mathlib.Omega.{arith}
-use lib.ListN.{length, getD}
+use lib.ListN.{getD}
 use Rattle.queue.specs.Queue as Q
 use Rattle.queue.specs.Queue.{Final}
 use Rattle.reader.specs.Reader as R
-use Rattle.order.specs.Entries.{keyAt, queueOf, Rising}
+use Rattle.order.specs.Entries.{queueOf}
 use Rattle.order.proofs.Queues.{rising-less}
-use Rattle.standing.specs.Seen.{Memory, memory}
+use Rattle.standing.specs.Seen.{memory}
 use Rattle.steps.specs.declared.Tally.{Tally}
 use Rattle.extraction.specs.Extraction.{Extracting}
 use Rattle.reading.specs.Turning.{Turning}
