@@ -12,16 +12,11 @@ use Rattle.codebook.specs.Book.{Book}
 use Rattle.codebook.specs.Loading.{load, loaded}
 use Rattle.machine.specs.declared.Counts.{Counts}
 use Rattle.queue.specs.Queue.{Step}
-use Rattle.machine.specs.Machine as M
 use Rattle.machine.specs.Calls.{Input, Lent, barred, finalIn, countsOf, walked}
 use Rattle.runs.specs.Runs.{entries}
 use Rattle.reader.specs.Moments.{Moment, momentsOf, stepAt, Removed}
 use Rattle.reader.specs.Agree.{Agree}
 use Rattle.attempts.specs.Reading.{arraysLent, readerRun}
-
--- the machine's run of a call
-unfoldable pub machineRun : Book → Input → M.Run
-machineRun B c = M.runOf B (c .L) (c .D) (c .values)
 
 -- The reader's run is the machine's: every extraction, with its path number, blocks and score and the numbers crowded out and outrun; and the end, with the final word, its
 -- data and its discrepancy, which is found. The extractions are those of the run's moments; at each but the last, which removes nothing, the numbers crowded out are exactly those

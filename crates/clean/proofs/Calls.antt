@@ -18,6 +18,7 @@ use Rattle.codec.specs.Code.{readData}
 use Rattle.codec.specs.Record.{readRecord}
 use Rattle.codec.specs.Calls.{holds32, recordRead}
 use Rattle.queue.specs.Queue.{Step, Final, End}
+use Rattle.machine.specs.Machine.{runOf}
 use Rattle.machine.specs.Calls.{Input, Lent, endOf, finalIn, within, countsOf, walked, afterRun, isDone}
 use Rattle.machine.specs.Calls.{plainRan, plainChecked, plainWith, plainCall, hookOf, hookRan, hookChecked, hookWith, hookCall}
 use Rattle.runs.specs.Handed.{Made}
@@ -25,7 +26,6 @@ use Rattle.attempts.specs.Attempt.{fitsFor}
 use Rattle.attempts.proofs.Unbarred.{Free, nothing-bars}
 use Rattle.attempts.proofs.Attempts.{alike}
 use Rattle.attempts.specs.Reading.{readerRun}
-use Rattle.attempts.specs.WholeRun.{machineRun}
 use Rattle.attempts.proofs.Whole.{runs-agree}
 use Rattle.room.specs.Room.{few}
 use Rattle.steprecords.specs.declared.StepRecord.{StepRecord}
@@ -88,33 +88,32 @@ module _ (B : Book) (c : Input) (l : Lent) (w : List ℕ) where
 -- a call with a good book that nothing bars, on values that show the word w
 module _ (B : Book) (c : Input) (l : Lent) (w : List ℕ) (clean : Clean B (c .values) w) where
   -- the machine's run
-  pub call-clean : (fits : Bool) → Made fits c l B → RunsClean B (c .L) (c .D) w (machineRun B c .steps) (endOf B (c .values) (machineRun B c .end))
-  unfolding machineRun
+  pub call-clean : (fits : Bool) → Made fits c l B → RunsClean B (c .L) (c .D) w (runOf B (c .L) (c .D) (c .values) .steps) (endOf B (c .values) (runOf B (c .L) (c .D) (c .values) .end))
   call-clean fits m =
       let f : Free B c l = nothing-bars B c l fits (m .unbarred) in
       machine-clean B (loaded-valid (c .book) B (m .loads)) (c .values) w clean (c .L) (c .D) (f .ranged .alive) (f .ranged .visited)
 
   -- the reader's run, by demand 3
   pub reader-clean : (fits : Bool) → Made fits c l B → RunsClean B (c .L) (c .D) w (readerRun B c l .steps) (readerRun B c l .end)
-  unfolding readerRun machineRun
+  unfolding readerRun
   reader-clean fits m =
       let same = runs-agree B c l (m .loads) (nothing-bars B c l fits (m .unbarred)) in
       subst₂ (RunsClean B (c .L) (c .D) w) (sym (same .steps)) (sym (same .end)) (call-clean fits m)
 
   -- the plain call, and the hook call
   pub plain-clean : Made true c l B → plainCall c l ≡ cleanPlain B c l w
-  unfolding plainCall plainWith plainChecked machineRun
+  unfolding plainCall plainWith plainChecked
   plain-clean m = rw (m .loads, m .unbarred) (plain-ran B c l w _ _ (call-clean true m))
 
   pub hook-clean : Made (holds32 B) c l B → hookCall c l ≡ cleanHook B c l w
-  unfolding hookCall hookWith hookChecked machineRun
+  unfolding hookCall hookWith hookChecked
   hook-clean m = rw (m .loads, m .unbarred) (hook-ran B c l w _ _ (call-clean (holds32 B) m))
 
   -- the screen's calls, with enough step records
   records-clean : (hook : Bool) → Made (fitsFor hook B) c l B → (old : List StepRecord) → few c (length old) ≡ false → recordsAfter hook c l old ≡ cleanRecords B old
   unfolding recordsAfter
   records-clean hook m old f =
-      rw f (ap (λ (s : List Step). recorded s old) (ran-steps hook c l B (m .loads) (m .unbarred)) ∙ records-over B (machineRun B c .steps) old (call-clean (fitsFor hook B) m .walk))
+      rw f (ap (λ (s : List Step). recorded s old) (ran-steps hook c l B (m .loads) (m .unbarred)) ∙ records-over B (runOf B (c .L) (c .D) (c .values) .steps) old (call-clean (fitsFor hook B) m .walk))
 
   pub steps-clean : Made true c l B → (old : List StepRecord) → few c (length old) ≡ false →
       (plainWithin c l (length old) ≡ cleanPlain B c l w) × (recordsAfter false c l old ≡ cleanRecords B old)

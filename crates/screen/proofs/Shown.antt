@@ -17,9 +17,11 @@ use Rattle.machine.specs.declared.Counts.{Counts}
 use Rattle.machine.specs.declared.Decoded.{Decoded}
 use Rattle.machine.specs.declared.HookDecoded.{HookDecoded}
 use Rattle.queue.specs.Queue.{Step}
+use Rattle.machine.specs.Machine.{runOf}
 use Rattle.machine.specs.Calls.{Input, Lent, Called, barred, noCounts, plainCall, plainRefused, hookCall, hookRefused}
 use Rattle.attempts.specs.Attempt.{fitsFor}
-use Rattle.attempts.specs.WholeRun.{machineRun, WholeRun}
+use Rattle.attempts.specs.Reading.{readerRun}
+use Rattle.attempts.specs.WholeRun.{WholeRun}
 use Rattle.room.specs.Room.{few}
 use Rattle.steprecords.specs.declared.StepRecord.{StepRecord}
 use Rattle.steprecords.specs.Records.{recorded, copied}
@@ -81,8 +83,8 @@ module _ (c : Input) (l : Lent) (room : ℕ) where
 -- ---- the screen's calls
 module _ (hook : Bool) (c : Input) (l : Lent) where
   -- the machine's extractions are those of the machine's run
-  pub ran-steps : (B : Book) → load (c .book) ≡ loaded B → barred B c l (fitsFor hook B) ≡ none → stepsOf hook c l ≡ machineRun B c .steps
-  unfolding stepsOf stepsWith stepsUnbarred machineRun
+  pub ran-steps : (B : Book) → load (c .book) ≡ loaded B → barred B c l (fitsFor hook B) ≡ none → stepsOf hook c l ≡ runOf B (c .L) (c .D) (c .values) .steps
+  unfolding stepsOf stepsWith stepsUnbarred
   ran-steps B e b = rw (e, b) refl
 
   module _ (old : List StepRecord) (counts : Counts) (after : Lent) (x : LeftWithin hook c l (length old) counts after) (fit : Fitting counts (length old) after) where
@@ -107,7 +109,7 @@ module _ (hook : Bool) (c : Input) (l : Lent) where
 
     -- demand 3
     shown-whole : WholeWithin hook c l (length old) counts after → WholeScreen hook c l old counts after shown
-    unfolding WholeScreen WholeWithin WholeRun
+    unfolding WholeScreen WholeWithin WholeRun readerRun
     shown-whole whole B e b f =
         let w = whole f B e b in
         (w, shown-recorded f ∙ ap (λ (s : List Step). recorded s old) (ran-steps B e b ∙ sym (w .runs .steps)))

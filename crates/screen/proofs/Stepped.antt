@@ -12,6 +12,7 @@ use Rattle.machine.specs.declared.Decoded.{Decoded}
 use Rattle.queue.specs.Queue.{Step}
 use Rattle.machine.specs.Calls.{Input, Lent, plainCall}
 use Rattle.attempts.specs.Attempt.{fitsFor}
+use Rattle.attempts.specs.Reading.{readerRun}
 use Rattle.attempts.specs.WholeRun.{WholeRun}
 use Rattle.steprecords.specs.declared.StepRecord.{StepRecord}
 use Rattle.steprecords.specs.Records.{blank, nthRecord, recordAt}
@@ -51,7 +52,7 @@ module _ (c : Input) (l : Lent) (r : Decoded) (after : Lent) (p : r ≡ plainCal
 
     -- demand 3
     whole : WholeRun (fitsFor false) c l (r .counts) after → WholeStep c l i (r .counts) after s
-    unfolding WholeStep WholeRun
+    unfolding WholeStep WholeRun readerRun
     whole w B f b = let a = w B f b in (a, stepped ∙ ap (λ (steps : List Step). nthRecord steps i) (ran-steps false c l B f b ∙ sym (a .runs .steps)))
 
     pub step-says : WholeRun (fitsFor false) c l (r .counts) after
