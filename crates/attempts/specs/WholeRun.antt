@@ -21,7 +21,7 @@ use Rattle.attempts.specs.Reading.{arraysLent, readerRun}
 -- The reader's run is the machine's: every extraction, with its path number, blocks and score and the numbers crowded out and outrun; and the end, with the final word, its
 -- data and its discrepancy, which is found. The extractions are those of the run's moments; at each but the last, which removes nothing, the numbers crowded out are exactly those
 -- that the reader's queue holds before step 2 and not after, the numbers outrun those that it holds before step 4 and not after. There are at most L x V + 1,
--- at most L from each block. The counts that are answered and the walk that is left are those of the reader's run.
+-- and no block is entered more than L times: of both runs, since their extractions are the same. The counts that are answered and the walk that is left are those of the reader's run.
 pub record Agreed (B : Book) (c : Input) (l : Lent) (counts : Counts) (after : Lent) : Type 0 where
   pub runs : Agree B (c .L) (c .D) (c .values) (arraysLent B c l)
   pub moments : readerRun B c l .steps ≡ map (stepAt B (c .L) (c .D)) (momentsOf B (c .L) (c .D) (arraysLent B c l))

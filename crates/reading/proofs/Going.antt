@@ -22,12 +22,11 @@ use Rattle.reader.specs.Reader as R
 use Rattle.reader.specs.Moments.{Moment, moments, momentsOf, MomentOf, extractAt, stepAt}
 use Rattle.reader.specs.Reached.{Reached}
 use Rattle.reader.proofs.Moments.{step-more}
-use Rattle.reader.proofs.Queue.{numbers-paired}
 use Rattle.reader.proofs.Reached.{first-reached, extract-reached, reached-within}
 use Rattle.order.specs.Entries.{keyAt, queueOf, Rising}
 use Rattle.order.proofs.Queues.{queue-first, queue-length}
 use Rattle.standing.specs.Seen.{Memory}
-use Rattle.standing.specs.Standing.{EntryOf, Stands}
+use Rattle.standing.specs.Standing.{Stands}
 use Rattle.standing.proofs.Sizes.{stands-room}
 use Rattle.standing.proofs.Taken.{taken-key, taken-blocks}
 use Rattle.words.specs.Kept.{Kepts}
@@ -325,7 +324,7 @@ module _ {B : Book} {values : List ℤ} {L N : ℕ} {A : Arrays} {x : Memory} {o
 
   pub going-before : Rising order (t .queued) → (most : ℕ) → t .extractions ≤ most → (t .extractions < most → g .taken .blocks ≡ length (B .blocks)) →
       Before B L N A most x order vacant visits kept t e path₀ blocks₀ score₀ path blocks score
-  unfolding going-moment Paired
+  unfolding going-moment
   going-before up most l d =
       record {
         here = momentOf (g .arrays) (g .taken) (g .rest) (t .next) (g .own);
@@ -334,7 +333,6 @@ module _ {B : Book} {values : List ℤ} {L N : ℕ} {A : Arrays} {x : Memory} {o
         stops = d;
         few = going-fuel;
         stands = g .stands;
-        queued = numbers-paired keyAt (keyOf B) (EntryOf B (x .rows)) (λ d p h. h .key) _ _ (g .stands .queue .1);
         next = refl;
         visited = λ b h. sym (g .alike .same b h);
         crowded = g .crowded;

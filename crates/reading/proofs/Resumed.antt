@@ -160,7 +160,6 @@ module _ {B : Book} {L N : ℕ} {A : Arrays} {most : ℕ} {x : Memory} {order va
         stops = λ k. sym (taken-blocks (g .stands)) ∙ d k;
         few = g .few;
         stands = g .stands;
-        queued = g .queued;
         next = g .next;
         visited = g .visited;
         crowded = g .crowded;

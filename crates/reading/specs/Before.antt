@@ -7,20 +7,19 @@ use lib.ListN.{length, getD}
 use lib.IntN.{ℤ, pos}
 use Rattle.laws.specs.Lists.{sum}
 use Rattle.codebook.specs.Book.{Book}
-use Rattle.queue.specs.Queue.{numbers, Step}
+use Rattle.queue.specs.Queue.{Step}
 use Rattle.machine.specs.Calls.{walked}
 use Rattle.reader.specs.Arrays.{Arrays}
-use Rattle.reader.specs.Paths.{keyOf}
 use Rattle.reader.specs.Moments.{Moment, MomentOf, stepAt}
-use Rattle.order.specs.Entries.{keyAt, queueOf, Rising}
+use Rattle.order.specs.Entries.{queueOf, Rising}
 use Rattle.standing.specs.Seen.{Memory}
 use Rattle.standing.specs.Standing.{Stands}
 use Rattle.words.specs.Kept.{Kepts}
 use Rattle.steps.specs.declared.Tally.{Tally}
 
 -- Of the run from arrays A, so many extractions as the counts t say are done, at most `most`, and the one at the moment `here` is next: memory, with entry e in hand, the
--- entries of the order queued and the slots of `vacant` left, stands for what the reader holds at that moment, its path taken; so the numbers that the
--- order's entries hold are those of the reader's queue. Fewer than `most` are done only where that path has all blocks, so that the run stops there. The
+-- entries of the order queued and the slots of `vacant` left, stands for what the reader holds at that moment, its path taken: entry by entry, the order has the number, the blocks and the score
+-- of each path of the reader's queue (`EntryOf`, standing/specs/Standing). Fewer than `most` are done only where that path has all blocks, so that the run stops there. The
 -- counts and the three walk buffers are those of the extractions done, and no count is beyond what so many extractions can make it. The words kept are those that a
 -- search would find, and the order's entries never fall, both of which the next extraction asks for; all else that it asks for (extraction/specs) holds at
 -- every moment of a run (reader/proofs/During).
@@ -32,7 +31,6 @@ pub record Before (B : Book) (L D : ℕ) (A : Arrays) (most : ℕ) (x : Memory) 
   pub stops : t .extractions < most → here .path .blocks ≡ length (B .blocks)
   pub few : t .extractions < L * length (B .blocks) + 1
   pub stands : Stands B D x (e ∷ queueOf order (t .queued)) (queueOf vacant (D - (t .queued + 1))) (here .state .arrays) (here .path ∷ here .state .queue)
-  pub queued : numbers keyAt (queueOf order (t .queued)) ≡ numbers (keyOf B) (here .state .queue)
   pub next : t .next ≡ here .state .next
   pub visited : (b : ℕ) → b < length (B .blocks) → getD visits b 0 ≡ getD (here .state .visits) b 0
   pub crowded : t .crowded ≡ sum (map (λ (s : Step). length (s .crowded)) (map (stepAt B L D) (moment .made)))
