@@ -4,7 +4,6 @@ use mathlib.Core.Path.{_≡_, sym, ap, _∙_, subst}
 use mathlib.Core.Bool.{Bool, true, false, cond}
 use mathlib.Core.List.{List, [], _∷_, _++_, map, map-append}
 use Prim.Native.Nat.{ℕ, zero, suc, _+_, _-_, _*_, _^_, _≤_, _<_}
-use native.Mathlib.Nat.{mul-le-mul}
 use native.Mathlib.Omega.{arith}
 use lib.IntN.{ℤ}
 use lib.ListN.{length, length-map}
@@ -34,7 +33,6 @@ use Rattle.words.specs.declared.Block.{Block}
 use Rattle.steps.specs.declared.Setting.{Setting}
 use Rattle.steps.specs.declared.Tally.{Tally}
 use Rattle.steps.specs.Steps.{BlockIs, committed}
-use Rattle.extraction.proofs.Counts.{blocks-few}
 use Rattle.reading.specs.declared.Ran.{Ran}
 use Rattle.reading.specs.Before.{Before}
 use Rattle.reading.specs.Ending.{Ending}
@@ -115,10 +113,6 @@ module _ {s : Setting} {values : List ℤ} {kinds terms heights starts : List �
   -- extractions still to come
   pub stop-left : t .extractions < s .visits * s .blocks + 1
   stop-left = omega (arith, g .few, ap (λ n. s .visits * n) (c .blocks))
-
-  -- the most that there are
-  pub stop-few : s .visits ≤ 32 → t .extractions < 16385
-  stop-few l = let m : s .visits * length (c .book .blocks) ≤ 32 * 512 = mul-le-mul l (blocks-few (c .book) ok) in omega (arith, g .few)
 
   module _ (more : t .extractions < most) where
     all : g .here .path .blocks ≡ length (c .book .blocks)

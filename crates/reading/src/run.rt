@@ -294,8 +294,9 @@ fn run_with(
     let mut order = [0u64; 256];
     let mut vacant = [0u8; 256];
     let mut visits = [0u32; 512];
+    let most = s.visits * (blocks as u32) + 1;
     let x = extractions(
-        16385,
+        most,
         rows,
         &mut holders,
         &mut order,

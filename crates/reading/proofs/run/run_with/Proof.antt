@@ -2,7 +2,8 @@
 -- final one. Assumes nothing.
 use borrow.Author.Needs.{needs}
 use mathlib.Core.Path.{_≡_, refl}
-use Prim.Native.Nat.{ℕ, _+_, _-_, _<_}
+use Prim.Native.Nat.{ℕ, _+_, _-_, _*_, _≤_, _<_}
+use native.Mathlib.Nat.{mul-le-mul}
 use native.Mathlib.Omega.{arith}
 use lib.ListN.{replicate, length-replicate}
 use Rattle.order.specs.Entries.{queueOf}
@@ -12,7 +13,7 @@ use Rattle.reading.specs.Ending.{Ending}
 use Rattle.reading.specs.Running.{arraysOf, received, Running}
 use Rattle.reading.proofs.Received.{received-root}
 use Rattle.reading.proofs.Turns.{run-blocks, table-fits}
-use Rattle.reading.proofs.Stops.{stop-small, stop-left, stop-few, stop-ending, stop-walks, stop-ran}
+use Rattle.reading.proofs.Stops.{stop-small, stop-left, stop-ending, stop-walks, stop-ran}
 use Rattle.reading.proofs.run.run_with.Statement.{statement}
 use Rattle.reading.proofs.run.run_with.Tie as tie
 
@@ -25,16 +26,29 @@ Input s =
 abbrev input : (s : tie.Start) → Input s
 input s = s .pre .1 .1 .1 .1 .1
 
+-- no run has more extractions than fit
+most-fits : (s : tie.Start) → s .args .s .visits * s .args .s .blocks ≤ 32 * 512
+most-fits s = mul-le-mul (s .pre .1 .0 .1) (run-blocks (input s) .1)
+
+cast-most : tie.Need-cast-most
+cast-most c = omega (arith, run-blocks (input (c .before .before .before)) .1)
+
+mul-most : tie.Need-mul-most
+mul-most c = omega (arith, most-fits (c .before .before .before .before))
+
+add-most : tie.Need-add-most
+add-most c = omega (arith, most-fits (c .before .before .before .before))
+
 extractions-requires : tie.Need-extractions-requires
 extractions-requires c κs =
-    let s = c .before .before .before .before .before .before .before .before .before .before .before .before .before .before in
+    let s = c .before .before .before .before .before .before .before .before .before .before .before .before .before .before .before in
     (s .pre .0, ((refl {a = replicate 2580 0}, length-replicate {A = ℕ} 256 0, length-replicate {A = ℕ} 256 0, refl {a = replicate 512 0}), s .pre .1))
 
 -- ---- once the extractions are made
 
 -- where they began
 abbrev began : tie.After-extractions → tie.Start
-began c = c .before .before .before .before .before .before .before .before .before .before .before .before .before .before .before
+began c = c .before .before .before .before .before .before .before .before .before .before .before .before .before .before .before .before
 
 -- the memory then
 abbrev left : tie.After-extractions → Memory
@@ -42,14 +56,14 @@ left c = memory (c .extractions .last .1 .0) (c .extractions .last .1 .1 .0) (c 
 
 -- what their contract says
 abbrev stopped : (c : tie.After-extractions) (r : Input (began c)) → let a = began c .args in
-    Before (r .book) (a .s .visits) (a .s .paths) (arraysOf (a .s .m) (received (a .s .m) (a .values .now) (a .numbers .now)) (a .bytes .now)) 16385
+    Before (r .book) (a .s .visits) (a .s .paths) (arraysOf (a .s .m) (received (a .s .m) (a .values .now) (a .numbers .now)) (a .bytes .now)) (a .s .visits * a .s .blocks + 1)
     (left c) (c .extractions .last .1 .1 .1 .0) (c .extractions .last .1 .1 .1 .1 .0) (c .extractions .last .1 .1 .1 .1 .1 .0) (c .extractions .last .1 .1 .1 .1 .1 .1 .0) (c .extractions .result .tally) (c .extractions .result .entry)
     (a .walk-path .now) (a .walk-blocks .now) (a .walk-score .now) (c .extractions .last .1 .1 .1 .1 .1 .1 .1 .1 .1 .1 .1 .1 .1 .1 .1 .1 .0) (c .extractions .last .1 .1 .1 .1 .1 .1 .1 .1 .1 .1 .1 .1 .1 .1 .1 .1 .1 .0) (c .extractions .last .1 .1 .1 .1 .1 .1 .1 .1 .1 .1 .1 .1 .1 .1 .1 .1 .1 .1 .0)
 stopped c r = c .extractions .ensures .1 r
 
--- no run has as many as the bound
-fewer : (c : tie.After-extractions) → c .extractions .result .tally .extractions < 16385
-fewer c = stop-few (input (began c)) (stopped c (input (began c))) (began c .pre .1 .0 .1)
+-- no run has as many before its end
+fewer : (c : tie.After-extractions) → c .extractions .result .tally .extractions < began c .args .s .visits * began c .args .s .blocks + 1
+fewer c = stop-left (input (began c)) (stopped c (input (began c)))
 
 -- the received values are at the root of the arrays that they start from
 root : (c : tie.After-extractions) → let a = began c .args in
@@ -103,7 +117,7 @@ finish-requires c κs =
     let x = made (u .before) in
     let a = began x .args in
     let t = x .extractions .result .tally in (
-      (x .extractions .ensures .0, omega (arith, fewer x)),
+      (x .extractions .ensures .0, omega (arith, fewer x, most-fits (began x))),
       (queueOf (x .extractions .last .1 .1 .1 .0) (t .queued), queueOf (x .extractions .last .1 .1 .1 .1 .0) (a .s .paths - (t .queued + 1)), last-hand u (input (began x))),
     )
 
@@ -156,4 +170,4 @@ returns c r =
 pub run-with-spec : {M : Type 1} → statement M
 run-with-spec =
     tie.close
-    (tie.spec extractions-requires cast-note note-requires before-requires block-at-requires finish-requires same-length same-length-2 same-length-3 same-length-4 same-length-5 same-length-6 same-length-7 returns)
+    (tie.spec cast-most mul-most add-most extractions-requires cast-note note-requires before-requires block-at-requires finish-requires same-length same-length-2 same-length-3 same-length-4 same-length-5 same-length-6 same-length-7 returns)
