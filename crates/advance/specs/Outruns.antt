@@ -9,8 +9,8 @@ use Rattle.reader.specs.Moments.{Moment, RunMoment, queuedAt}
 use Rattle.standing.specs.Seen.{Memory}
 use Rattle.steps.specs.Steps.{Queued}
 
--- Memory x, with the entries es queued and the slots vs vacant, is what step 3 leaves at the moment `here` of a run, k extractions being done: the paths that
--- it stands for are those that the reader's step 4 finds then. The path taken, which has a next block, visits block b, and the table counts this visit as the reader does.
+-- Memory x, with the entries es queued and the slots vs vacant, stands for the paths that the reader's step 4 finds at the moment `here` of a run, k extractions being done; nothing is
+-- asked of its arrays, which step 4 does not change. The path taken, which has a next block, visits block b, and the table counts this visit as the reader does.
 pub record Outrunning (m L N k b : ℕ) (x : Memory) (es vs visits : List ℕ) : Type 0 where
   pub queued : Queued m N x es vs
   pub valid : Valid (queued .book)

@@ -36,17 +36,20 @@ pub record Tables : Type 0 where
   pub starts : List ℕ
   pub biases : List ℤ
 
+-- the tables of these kinds and blocks, with a set of ties for each of n indices
+abbrev pub tablesWith : ℕ → List Kind → List Block → Tables
+tablesWith n kinds blocks =
+    record {
+      kinds = kindCodes 0 kinds;
+      terms = tab n (tieSet 0 kinds);
+      heights = map (λ (x : Block). x .j) blocks;
+      starts = tab (length blocks) (startOf blocks);
+      biases = map (λ (x : Block). x .bias) blocks;
+    }
+
 -- the tables of a book
 unfoldable pub tablesOf : Book → Tables
-tablesOf B =
-    let blocks = length (B .blocks) in
-    record {
-      kinds = kindCodes 0 (B .kinds);
-      terms = tab (2 ^ (B .m)) (tieSet 0 (B .kinds));
-      heights = map (λ (x : Block). x .j) (B .blocks);
-      starts = tab blocks (startOf (B .blocks));
-      biases = map (λ (x : Block). x .bias) (B .blocks);
-    }
+tablesOf B = tablesWith (2 ^ (B .m)) (B .kinds) (B .blocks)
 
 -- tables written over the start of others
 unfoldable pub overlaid : Tables → Tables → Tables
@@ -61,14 +64,7 @@ overlaid new old =
 
 -- the tables of what is loaded so far
 unfoldable pub tablesSoFar : Loading → Tables
-tablesSoFar s =
-    record {
-      kinds = kindCodes 0 (s .kinds);
-      terms = tab (total s) (tieSet 0 (s .kinds));
-      heights = map (λ (x : Block). x .j) (s .blocks);
-      starts = tab (length (s .blocks)) (startOf (s .blocks));
-      biases = map (λ (x : Block). x .bias) (s .blocks);
-    }
+tablesSoFar s = tablesWith (total s) (s .kinds) (s .blocks)
 
 -- what is loaded, or what comes after it where nothing is refused
 unfoldable pub stays : Option Refusal → Loading → Loading → Loading

@@ -1,4 +1,4 @@
--- The bytes that write a code book: document 01, "The code book", read the other way. A run of free or of zero indices may be written by as many commands as one likes.
+-- The bytes that write a code book: document 01, "The code book", read the other way. Consecutive free indices, or zero ones, may be split among several commands, none of them empty.
 -- proofs/Written.antt shows that every valid book loads from them. Assumes nothing.
 use mathlib.Core.Path.{_≡_}
 use mathlib.Core.List.{List, [], _∷_, _++_, map, flatMap}

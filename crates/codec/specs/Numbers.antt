@@ -1,4 +1,5 @@
--- Document 01's number of each call's answer, by the tests of its refusal table in the table's order: the book's fault, then 7, 9, 11; 0 where all pass.
+-- The number of each call's answer: document 01's refusals by the tests of its table in the table's order, the book's fault, then 7, 9, 11; 0 where all pass; and 255 for a test's no,
+-- for which document 01 has no number.
 -- proofs/Numbers shows that the answers of specs/Calls have these numbers. Assumes nothing.
 use mathlib.Core.Bool.{Bool, _&&_}
 use mathlib.Core.List.{List}

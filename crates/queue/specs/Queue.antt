@@ -75,7 +75,7 @@ pub record Final : Type 0 where
   pub bits : List ℕ
   pub discrepancy : ℕ
 
--- how a run ends: something is found when a path with all blocks is taken; it is dry (document 02's word) where no path is left, or no extraction more is allowed
+-- how a run ends: something is found when a path with all blocks is taken; it is dry (document 02's word) where no path is left, or no further extraction is allowed
 pub data End (A : Type 0) : Type 0 where
   found : A → End A
   dry : End A

@@ -1,5 +1,5 @@
 -- The memory of a run before an extraction: which of the run's moments (reader/specs/Moments) it stands for. It is a fact of the code's own tables: each entry
--- of the order is a path of the reader's queue at that moment, in the same order, and the entry in hand is the path that step 1 takes. Assumes nothing.
+-- of the order is a path of the reader's queue at that moment, the first of the queue last in the array, and the entry in hand is the path that step 1 takes. Assumes nothing.
 use mathlib.Core.Path.{_≡_}
 use mathlib.Core.List.{List, _∷_, map}
 use Prim.Native.Nat.{ℕ, _+_, _-_, _*_, _≤_, _<_}
@@ -17,7 +17,7 @@ use Rattle.standing.specs.Standing.{Stands}
 use Rattle.words.specs.Kept.{Kepts}
 use Rattle.steps.specs.declared.Tally.{Tally}
 
--- Of the run from arrays A, so many extractions as the counts t say are done, at most `most`, and the one at the moment `here` is next: memory, with entry e in hand, the
+-- Of the run from arrays A, as many extractions as the counts t say are done, at most `most`, and the one at the moment `here` is next: memory, with entry e in hand, the
 -- entries of the order queued and the slots of `vacant` left, stands for what the reader holds at that moment, its path taken: entry by entry, the order has the number, the blocks and the score
 -- of each path of the reader's queue (`EntryOf`, standing/specs/Standing). Fewer than `most` are done only where that path has all blocks, so that the run stops there. The
 -- counts and the three walk buffers are those of the extractions done, and no count is beyond what so many extractions can make it. The words kept are those that a

@@ -87,7 +87,7 @@ fn finish(
 }
 
 // One extraction of the run, of a path that has a next block: its entry of the walk, steps 2 to 4, and step 1 of the next. The memory before it stands for one of
-// the reader's moments, and after it for the next one (specs/Before). The functions that make steps 2 and 4 (extraction::second, advance::outrun) are called with that moment in their
+// the reader's moments, and after it for the next one (specs/Before). The functions that make steps 2 and 4 (extraction::extract::second, advance::outruns::outrun) are called with that moment in their
 // `requires`, and say what the queue loses.
 fn turn(
     rows: &mut [u32],
@@ -172,8 +172,8 @@ fn turn(
     }
 }
 
-// The run's first extractions, at most `most` of them, and none of a path that has all blocks: the tables, which hold zeros but for the words kept, and the
-// workspace are left as they are before the next. For every bound that is the reader's state at that moment (specs/Before): so the queue that the run
+// The run's first extractions, at most `most` of them, and none of a path that has all blocks. Rows, holders and visits hold zeros at first, order, vacant and the words kept anything; all are
+// left as they are before the next extraction, and so is the workspace. For every bound that is the reader's state at that moment (specs/Before): so the queue that the run
 // keeps here is the reader's at each extraction.
 pub fn extractions(
     most: u32,
