@@ -1,6 +1,7 @@
 pub mod Indices
 pub mod Blocks
 pub mod Commands
+pub mod Faults
 pub mod Loaded
 pub mod Fuel
 pub mod Codes

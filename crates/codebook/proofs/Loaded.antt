@@ -9,14 +9,15 @@ use Prim.Native.Nat.{ℕ, zero, suc, _^_, zero-le}
 use native.Mathlib.Omega.{arith}
 use lib.ListN.{length, take, drop}
 use lib.Pow.{pow-pos}
-use lib.Dec.{T, leb, eqb, eqb→eq}
+use lib.Dec.{T, eqb, eqb→eq}
 use Rattle.laws.proofs.Tests.{cond-case, and-left, and-right, neqb→ne}
 use Rattle.codebook.specs.declared.Refusal.{Refusal}
 use Rattle.codebook.specs.Book.{Book}
-use Rattle.codebook.specs.Loading.{Loading, Load, refused, loaded, start, total, placed, listed, width, command, next, refusal, decided, bookOf, loadFrom, load}
+use Rattle.codebook.specs.Loading.{Loading, Load, refused, loaded, start, total, placed, width, command, next, refusal, decided, bookOf, loadFrom, load}
 use Rattle.codebook.specs.Limits.{Valid}
 use Rattle.codebook.proofs.Blocks.{all-fit-ok, start-some}
-use Rattle.codebook.proofs.Commands.{Passed, passed-test, passed-rest, Placed, Ok, empty-ok, next-ok}
+use Rattle.codebook.proofs.Commands.{Passed, Placed, Ok, empty-ok, next-ok}
+use Rattle.codebook.proofs.Faults.{none-refused}
 
 -- ---- where a command stands
 
@@ -75,16 +76,14 @@ decided-ok none other f = f tt
 decided-ok (some r) other f = tt
 
 run-ok : (fuel : ℕ) (s : Loading) (bytes : List ℕ) → Ok s → LoadOk (loadFrom fuel s bytes)
-unfolding loadFrom LoadOk refusal
+unfolding loadFrom LoadOk
 run-ok zero s bytes ok = tt
 run-ok (suc fuel) s [] ok = tt
 run-ok (suc fuel) s (byte ∷ after) ok =
     decided-ok (refusal s byte after) _
     (λ p.
     let c = command byte (take (width byte) after) in
-    let q = passed-rest (listed byte) _ _ p in
-    let here = passed-test (placed s byte) _ _ q in
-    let passed = passed-rest (leb (width byte) (length after)) _ _ (passed-rest (placed s byte) _ _ q) in
+    let (here, passed) = none-refused s byte after p in
     cond-case LoadOk (eqb byte 0x7f)
     (λ t. cond-case LoadOk (eqb (length after) 0) (λ _. end-valid s ok (subst (λ (b : ℕ). T (placed s b)) (eqb→eq byte 0x7f t) here)) (λ _. tt))
     (λ _. run-ok fuel (next s c) (drop (width byte) after) (next-ok s c ok (placed-command s byte _ here) passed)))
