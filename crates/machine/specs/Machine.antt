@@ -2,13 +2,14 @@
 use mathlib.Core.Bool.{cond}
 use mathlib.Core.List.{List, [], _∷_}
 use mathlib.Core.Option.{Option, none, some}
-use Prim.Native.Nat.{ℕ, zero, suc, _+_, _*_}
+use Prim.Native.Nat.{ℕ, zero, suc}
 use lib.ListN.{length, replicate}
 use lib.IntN.{ℤ, pos, _-ℤ_}
 use lib.Dec.{eqb}
 use Rattle.polar.specs.Value.{R}
 use Rattle.codebook.specs.Book.{Book, blockAt}
-use Rattle.queue.specs.Queue.{Key, insert, staying, outrunBy, numbers, roomFor, crowdedOut, visit, Step, End, found, dry}
+use Rattle.queue.specs.Run.{Next, on, over, Trace, trace, mostExtractions}
+use Rattle.queue.specs.Queue.{Key, insert, staying, outrunBy, numbers, roomFor, crowdedOut, visit, Step, End, found, dry, Run, runIn}
 use Rattle.machine.specs.Words.{Ranked, nearest, nextAfter}
 
 -- ---- paths
@@ -99,34 +100,49 @@ extract B L D ys p qs n visits =
 
 -- ---- the run
 
--- the extractions, and how it ends: with the path at which step 1 stops (crate runs, proofs/Ends.antt, shows that there always is one)
-pub record Run : Type 0 where
-  pub steps : List Step
-  pub end : End Path
+-- a moment, when step 1 is done: the path taken, and what the machine holds without it
+pub record Moment : Type 0 where
+  pub path : Path
+  pub state : State
 
--- a run with one extraction before it
-unfoldable pub after : Step → Run → Run
-after s r = record { steps = s ∷ r .steps; end = r .end }
+-- step 1 takes the first path queued; with none left the run is dry
+unfoldable pub takingFrom : List Path → ℕ → List ℕ → Next Moment (End Path)
+takingFrom [] n visits = over dry
+takingFrom (p ∷ qs) n visits = on (record { path = p; state = record { queue = qs; next = n; visits = visits } })
 
--- the extraction that stops counts as one, and removes nothing
-unfoldable pub stopped : Path → Run
-stopped p =
-    record {
-      steps = record { path = p .number; blocks = p .blocks; score = p .score; crowded = []; outrun = [] } ∷ [];
-      end = found p;
-    }
+unfoldable pub taking : State → Next Moment (End Path)
+taking s = takingFrom (s .queue) (s .next) (s .visits)
 
--- step 1 takes the first path, and stops if it has all V blocks; fuel bounds the extractions
-unfoldable pub run : ℕ → Book → ℕ → ℕ → List ℤ → List Path → ℕ → List ℕ → Run
-run zero B L D ys qs n visits = record { steps = []; end = dry }
-run (suc fuel) B L D ys [] n visits = record { steps = []; end = dry }
-run (suc fuel) B L D ys (p ∷ qs) n visits =
-    let x = extract B L D ys p qs n visits in
-    let more = after (x .step) (run fuel B L D ys (x .state .queue) (x .state .next) (x .state .visits)) in
-    cond (eqb (p .blocks) (length (B .blocks))) (stopped p) more
+-- the extraction at a moment
+unfoldable pub extractAt : Book → ℕ → ℕ → List ℤ → Moment → Extracted
+extractAt B L D ys t = extract B L D ys (t .path) (t .state .queue) (t .state .next) (t .state .visits)
 
--- the whole run: from path 0 alone, no visits, next number 1; it stops within L x V + 1 extractions
-unfoldable pub runOf : Book → ℕ → ℕ → List ℤ → Run
-runOf B L D ys =
-    let V′ = length (B .blocks) in
-    run (L * V′ + 1) B L D ys (emptyPath ∷ []) 1 (replicate V′ 0)
+-- its step; a path that has all V blocks is taken last, and nothing is removed
+unfoldable pub stepAt : Book → ℕ → ℕ → List ℤ → Moment → Step
+stepAt B L D ys t =
+    let last : Step = record { path = t .path .number; blocks = t .path .blocks; score = t .path .score; crowded = []; outrun = [] } in
+    let more = extractAt B L D ys t .step in
+    cond (eqb (t .path .blocks) (length (B .blocks))) last more
+
+-- what it leads to: the run finds a path that has all V blocks, and else goes on
+unfoldable pub nextAt : Book → ℕ → ℕ → List ℤ → Moment → Next Moment (End Path)
+nextAt B L D ys t =
+    let last : Next Moment (End Path) = over (found (t .path)) in
+    let more = taking (extractAt B L D ys t .state) in
+    cond (eqb (t .path .blocks) (length (B .blocks))) last more
+
+-- the run begins with path 0 alone, no visits, next number 1
+unfoldable pub firstState : Book → State
+firstState B = record { queue = emptyPath ∷ []; next = 1; visits = replicate (length (B .blocks)) 0 }
+
+-- the whole run, moment by moment
+unfoldable pub traceOf : Book → ℕ → ℕ → List ℤ → Trace Moment (End Path)
+traceOf B L D ys = trace (nextAt B L D ys) (mostExtractions L (length (B .blocks))) (taking (firstState B))
+
+-- its moments
+unfoldable pub momentsOf : Book → ℕ → ℕ → List ℤ → List Moment
+momentsOf B L D ys = traceOf B L D ys .states
+
+-- its extractions, and how it ends: with the path at which step 1 stops (crate runs, proofs/Ends.antt, shows that there always is one)
+unfoldable pub runOf : Book → ℕ → ℕ → List ℤ → Run Path
+runOf B L D ys = runIn (stepAt B L D ys) (traceOf B L D ys)

@@ -2,12 +2,14 @@
 -- kind of path that has a key, so that the plain machine and the reader each use it for their own. Assumes nothing.
 use mathlib.Core.Bool.{Bool, cond, not, _&&_, _||_}
 use mathlib.Core.List.{List, [], _∷_, map}
+use mathlib.Core.Option.{Option, none, some}
 use Prim.Native.Nat.{ℕ, suc, _-_}
 use lib.ListN.{getD, take, drop, set}
 use lib.IntN.{ℤ}
 use lib.Signed.{ltZ}
 use lib.Dec.{leb, ltb, eqb}
 use Rattle.laws.specs.Lists.{keep}
+use Rattle.queue.specs.Run.{Trace}
 
 -- what the order goes by
 pub record Key : Type 0 where
@@ -84,3 +86,17 @@ pub data End (A : Type 0) : Type 0 where
 unfoldable pub endAs : {A B : Type 0} → (A → B) → End A → End B
 endAs f (found x) = found (f x)
 endAs f dry = dry
+
+-- a run: its extractions, and how it ends
+pub record Run (A : Type 0) : Type 0 where
+  pub steps : List Step
+  pub end : End A
+
+-- the end that a trace comes to; with its fuel spent it is dry
+unfoldable pub endIn : {A : Type 0} → Option (End A) → End A
+endIn none = dry
+endIn (some e) = e
+
+-- the run that a trace is, each state with its step
+unfoldable pub runIn : {S A : Type 0} → (S → Step) → Trace S (End A) → Run A
+runIn step t = record { steps = map step (t .states); end = endIn (t .end) }
