@@ -105,11 +105,12 @@ pub record Moment : Type 0 where
   pub path : Path
   pub state : State
 
--- step 1 takes the first path queued; with none left the run is dry
+-- step 1 takes the first of the queued paths; with none queued the run is dry
 unfoldable pub takingFrom : List Path → ℕ → List ℕ → Next Moment (End Path)
 takingFrom [] n visits = over dry
 takingFrom (p ∷ qs) n visits = on (record { path = p; state = record { queue = qs; next = n; visits = visits } })
 
+-- step 1, from what the machine holds
 unfoldable pub taking : State → Next Moment (End Path)
 taking s = takingFrom (s .queue) (s .next) (s .visits)
 

@@ -45,28 +45,24 @@ module _ {S E : Type 0} where
 
     -- ---- a measure that falls
 
-    module _ (P : S → Type 0) (Q : E → Type 0) (μ : S → ℕ) where
-      -- a state with P whose measure is at most n, or an end with Q
-      abbrev pub Low : ℕ → Next S E → Type 0
-      Low n = Leads (λ s. P s × (μ s ≤ n)) Q
-
-      -- fuel for the measure brings the trace to an end
-      pub trace-ends : ((s : S) → P s → 0 < μ s) → ((s : S) (n : ℕ) → P s → μ s ≤ suc n → Low n (next s)) →
-          (fuel : ℕ) (x : Next S E) → Low fuel x → (e : E) × (trace next fuel x .end ≡ some e) × Q e
-      unfolding trace ended after Leads
-      trace-ends l f zero (on s) h = absurd (omega (arith, l s (h .0)))
-      trace-ends l f zero (over e) h = (e, refl, h)
-      trace-ends l f (suc fuel) (on s) h = let r = trace-ends l f fuel (next s) (f s fuel (h .0) (h .1)) in (r .0, r .1, r .2)
-      trace-ends l f (suc fuel) (over e) h = (e, refl, h)
+    -- fuel for the measure brings the trace to its end
+    pub trace-ends : (P : S → Type 0) (Q : E → Type 0) (μ : S → ℕ) → ((s : S) → P s → 0 < μ s) →
+        ((s : S) (n : ℕ) → P s → μ s ≤ suc n → Leads (λ z. P z × (μ z ≤ n)) Q (next s)) →
+        (fuel : ℕ) (x : Next S E) → Leads (λ z. P z × (μ z ≤ fuel)) Q x → (e : E) × (trace next fuel x .end ≡ some e) × Q e
+    unfolding trace ended after Leads
+    trace-ends P Q μ l f zero (on s) h = absurd (omega (arith, l s (h .0)))
+    trace-ends P Q μ l f zero (over e) h = (e, refl, h)
+    trace-ends P Q μ l f (suc fuel) (on s) h = let r = trace-ends P Q μ l f fuel (next s) (f s fuel (h .0) (h .1)) in (r .0, r .1, r .2)
+    trace-ends P Q μ l f (suc fuel) (over e) h = (e, refl, h)
 
     -- ---- a tally
 
-    -- where no state's tally is above L, and each extraction that passes the test raises it, at most L pass
     module _ (P : S → Type 0) (tally : S → ℕ) (test : S → Bool) (L : ℕ) where
-      -- a state with P whose tally is at least n; an end always
-      abbrev pub Tallied : ℕ → Next S E → Type 0
+      -- the tally is n or more, at a state with P
+      abbrev Tallied : ℕ → Next S E → Type 0
       Tallied n = Leads (λ s. P s × (n ≤ tally s)) (λ _. Unit {0})
 
+      -- where each extraction that passes the test raises the tally, and not above L, at most L pass
       pub trace-count : ((s : S) (n : ℕ) → P s → n ≤ tally s → (cond (test s) 1 0 + n ≤ L) × Tallied (cond (test s) 1 0 + n) (next s)) →
           (fuel n : ℕ) (x : Next S E) → n ≤ L → Tallied n x → length (keep test (trace next fuel x .states)) + n ≤ L
       unfolding trace ended after keep Leads

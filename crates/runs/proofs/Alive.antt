@@ -9,10 +9,10 @@ use lib.IntN.{ℤ}
 use Rattle.laws.specs.Lists.{All}
 use Rattle.codebook.specs.Book.{Book}
 use Rattle.queue.specs.Queue.{insert, roomFor, visit}
-use Rattle.machine.specs.Machine.{Path, keyOf, copyOf, cut, advance, extract}
-use Rattle.runs.specs.Runs.{stateOf, firstState, statesOf, Ordered, Alive}
+use Rattle.machine.specs.Machine.{Path, Moment, keyOf, copyOf, cut, advance, extract, firstState, momentsOf}
+use Rattle.runs.specs.Runs.{stateOf, stateAt, Ordered, Alive}
 use Rattle.runs.proofs.Order.{insert-length, insert-ordered, take-ordered, staying-ordered, staying-length}
-use Rattle.runs.proofs.States.{run-states}
+use Rattle.runs.proofs.Moments.{run-moments}
 
 -- ---- one extraction, step by step
 
@@ -46,5 +46,5 @@ first-alive : (B : Book) (D : ℕ) → 2 ≤ D → Alive D (firstState B)
 unfolding firstState Ordered All
 first-alive B D d = record { ordered = (tt, tt); room = omega arith }
 
-pub run-alive : (B : Book) (L D : ℕ) (ys : List ℤ) → 2 ≤ D → All (Alive D) (statesOf B L D ys)
-run-alive B L D ys d = run-states B L D ys (Alive D) (λ p qs n visits _ a. extract-alive B L D ys p qs n visits d a) (first-alive B D d)
+pub run-alive : (B : Book) (L D : ℕ) (ys : List ℤ) → 2 ≤ D → All (λ (t : Moment). Alive D (stateAt t)) (momentsOf B L D ys)
+run-alive B L D ys d = run-moments B L D ys (Alive D) (λ p qs n visits _ a. extract-alive B L D ys p qs n visits d a) (first-alive B D d)

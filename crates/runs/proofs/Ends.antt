@@ -1,27 +1,31 @@
--- The run stops with a full path within L x V + 1 extractions, and no block is entered more than L times. The invariant: no block that a
+-- The run stops with a full path within `mostExtractions`, L x V + 1,, and no block is entered more than L times. The invariant: no block that a
 -- queued path has still to enter was visited L times; so each extraction adds a visit, and there are at most L x V. Assumes nothing.
 use mathlib.Core.Path.{_≡_, refl, sym, ap, _∙_, subst}
 use mathlib.Core.Logic.{_≢_}
-use mathlib.Core.Bool.{Bool, not}
+use mathlib.Core.Bool.{Bool, cond, not}
 use mathlib.Core.List.{List, [], _∷_}
 use mathlib.Core.Option.{Option, none, some}
-use Prim.Native.Nat.{ℕ, zero, suc, _+_, _*_, _≤_, _<_, zero-le, suc-le-suc}
+use Prim.Native.Nat.{ℕ, suc, _+_, _-_, _*_, _≤_, _<_, zero-le}
 use native.Mathlib.Nat.{lt-irrefl}
 use native.Mathlib.Decide.{ℕ-discrete}
 use native.Mathlib.Omega.{arith}
-use lib.ListN.{length, getD, replicate, length-set, length-replicate}
+use lib.ListN.{length, getD, replicate, length-set, length-map, length-replicate}
 use lib.Seq.{getD-set-same, getD-set-other}
 use lib.IntN.{ℤ}
 use lib.Dec.{T, ltb, eqb, eqb→eq, ltb→lt, lt→ltb, T-not}
 use Rattle.laws.specs.Lists.{All, May, NonEmpty, keep, sum}
 use Rattle.laws.proofs.Tests.{cond-case, neqb→ne}
 use Rattle.laws.proofs.Lists.{all-map, all-set, all-at, all-keep, all-replicate, getD-zeros, sum-bump, sum-le}
+use Rattle.laws.proofs.Pairs.{paired-length, paired-keep}
 use Rattle.codebook.specs.Book.{Book}
-use Rattle.queue.specs.Queue.{before, insert, ahead, staying, visit, Step}
-use Rattle.machine.specs.Machine.{Path, keyOf, Run, emptyPath, copyOf, advance, extract, run, runOf, after, stopped}
-use Rattle.runs.specs.Runs.{Ended, entries}
+use Rattle.queue.specs.Run.{Next, mostExtractions}
+use Rattle.queue.specs.Queue.{before, insert, ahead, staying, visit, Step, End, found, dry, Run, endIn, runIn}
+use Rattle.queue.proofs.Run.{Leads, trace-length, trace-ends, trace-count}
+use Rattle.machine.specs.Machine.{Path, Moment, keyOf, emptyPath, copyOf, advance, extract, takingFrom, taking, extractAt, stepAt, nextAt, firstState, traceOf, momentsOf, runOf}
+use Rattle.runs.specs.Runs.{Takes, Ended, entries}
 use Rattle.runs.proofs.Order.{all-insert}
 use Rattle.runs.proofs.Steps.{copy-blocks, advance-blocks, all-cut}
+use Rattle.runs.proofs.Moments.{run-takes}
 
 -- ---- visits
 
@@ -149,19 +153,6 @@ going-on B L D ys p qs n visits t g =
       extract-filled B L D ys p qs n visits,
     )
 
-ends : (fuel : ℕ) (B : Book) (L D : ℕ) (ys : List ℤ) (qs : List Path) (n : ℕ) (visits : List ℕ) → Going B L qs visits → L * length (B .blocks) < fuel + sum visits → Ended (length (B .blocks)) (run fuel B L D ys qs n visits)
-unfolding run Ended after stopped extract NonEmpty All
-ends zero B L D ys qs n visits g m = absurd (lt-irrefl 0 (omega (arith, sum-le L visits (g .1), ap (λ (x : ℕ). L * x) (g .0))))
-ends (suc fuel) B L D ys [] n visits g m = absurd (g .3)
-ends (suc fuel) B L D ys (p ∷ qs) n visits g m =
-    cond-case (Ended (length (B .blocks))) (eqb (p .blocks) (length (B .blocks)))
-    (λ t. (p, refl, eqb→eq (p .blocks) (length (B .blocks)) t))
-    (λ t.
-    let k : p .blocks < length visits = omega (arith, lt-ne (p .blocks) (length (B .blocks)) (g .2 .0 .0) t, g .0) in
-    let s : sum (visit visits (p .blocks)) ≡ suc (sum visits) = visit-sum visits (p .blocks) k in
-    let r = ends fuel B L D ys _ _ (visit visits (p .blocks)) (going-on B L D ys p qs n visits t g) (omega arith) in
-    (r .0, r .1, r .2))
-
 pub first-going : (B : Book) (L : ℕ) → 0 < L → Going B L (emptyPath ∷ []) (replicate (length (B .blocks)) 0)
 unfolding All NonEmpty emptyPath
 first-going B L h =
@@ -172,52 +163,101 @@ first-going B L h =
       tt,
     )
 
--- the whole run ends with a full path, for every L above 0
-pub run-ends : (B : Book) (L D : ℕ) (ys : List ℤ) → 0 < L → Ended (length (B .blocks)) (runOf B L D ys)
-unfolding runOf
-run-ends B L D ys h = ends _ B L D ys _ 1 _ (first-going B L h) (omega arith)
+-- the run is found, by a path of all blocks
+unfoldable Full : ℕ → End Path → Type 0
+Full N (found p) = p .blocks ≡ N
+Full N dry = ⊥
 
--- never more extractions than the fuel, which is L x V + 1
-steps-le : (fuel : ℕ) (B : Book) (L D : ℕ) (ys : List ℤ) (qs : List Path) (n : ℕ) (visits : List ℕ) → length (run fuel B L D ys qs n visits .steps) ≤ fuel
-unfolding run after stopped
-steps-le zero B L D ys qs n visits = zero-le
-steps-le (suc fuel) B L D ys [] n visits = zero-le
-steps-le (suc fuel) B L D ys (p ∷ qs) n visits =
-    cond-case (λ (r : Run). length (r .steps) ≤ suc fuel) (eqb (p .blocks) (length (B .blocks))) (λ _. omega arith) (λ _. suc-le-suc (steps-le fuel B L D ys _ _ _))
+full-ended : (N : ℕ) (r : Run Path) (e : End Path) → r .end ≡ e → Full N e → Ended N r
+unfolding Full Ended
+full-ended N r (found p) q h = (p, q, h)
+full-ended N r dry q h = absurd h
 
-pub run-steps : (B : Book) (L D : ℕ) (ys : List ℤ) → length (runOf B L D ys .steps) ≤ L * length (B .blocks) + 1
-unfolding runOf
-run-steps B L D ys = steps-le _ B L D ys _ _ _
+module _ (B : Book) (L D : ℕ) (ys : List ℤ) where
+  abbrev V′ : ℕ
+  V′ = length (B .blocks)
 
--- the entries to come and the visits so far are at most L
-entries-le : (b fuel : ℕ) (B : Book) (L D : ℕ) (ys : List ℤ) (qs : List Path) (n : ℕ) (visits : List ℕ) → b < length (B .blocks) → Going B L qs visits →
-    entries b (run fuel B L D ys qs n visits .steps) + getD visits b 0 ≤ L
-unfolding run after stopped entries keep extract
-entries-le b zero B L D ys qs n visits l g = omega (arith, all-at (λ (v : ℕ). v ≤ L) visits b 0 (omega (arith, g .0)) (g .1))
-entries-le b (suc fuel) B L D ys [] n visits l g = omega (arith, all-at (λ (v : ℕ). v ≤ L) visits b 0 (omega (arith, g .0)) (g .1))
-entries-le b (suc fuel) B L D ys (p ∷ qs) n visits l g =
-    cond-case (λ (r : Run). entries b (r .steps) + getD visits b 0 ≤ L) (eqb (p .blocks) (length (B .blocks)))
-    (λ t. cond-case (λ (ss : List Step). length ss + getD visits b 0 ≤ L) (eqb (p .blocks) b)
-    (λ u. absurd (lt-irrefl b (omega (arith, eqb→eq (p .blocks) (length (B .blocks)) t, eqb→eq (p .blocks) b u))))
-    (λ _. omega (arith, all-at (λ (v : ℕ). v ≤ L) visits b 0 (omega (arith, g .0)) (g .1))))
-    (λ t.
-    let x = extract B L D ys p qs n visits .state in
-    let r = entries-le b fuel B L D ys (x .queue) (x .next) (visit visits (p .blocks)) l (going-on B L D ys p qs n visits t g) in
-    cond-case (λ (ss : List Step). length ss + getD visits b 0 ≤ L) (eqb (p .blocks) b)
-    (λ u. omega (arith, here u, r))
-    (λ u. omega (arith, there u, r)))
-  where
-    here : T (eqb (p .blocks) b) → getD (visit visits (p .blocks)) b 0 ≡ suc (getD visits b 0)
-    here u =
-        let e : p .blocks ≡ b = eqb→eq (p .blocks) b u in
-        ap (λ (x : ℕ). getD (visit visits x) b 0) e ∙ visit-same visits b (omega (arith, g .0))
+  -- so it is at a moment
+  abbrev GoingAt : Moment → Type 0
+  GoingAt t = Going B L (t .path ∷ t .state .queue) (t .state .visits)
 
-    there : T (not (eqb (p .blocks) b)) → getD (visit visits (p .blocks)) b 0 ≡ getD visits b 0
-    there u = visit-other visits (p .blocks) b (λ e. neqb→ne (p .blocks) b u (sym e))
+  -- what holds of the moment that step 1 comes to, and of the run's end
+  abbrev Goes : (List ℕ → Type 0) → (End Path → Type 0) → Next Moment (End Path) → Type 0
+  Goes P Q = Leads (λ t. GoingAt t × P (t .state .visits)) Q
+
+  taking-goes : (P : List ℕ → Type 0) (Q : End Path → Type 0) (qs : List Path) (n : ℕ) (visits : List ℕ) → Going B L qs visits → P visits → Goes P Q (takingFrom qs n visits)
+  unfolding takingFrom Leads NonEmpty
+  taking-goes P Q [] n visits g h = absurd (g .3)
+  taking-goes P Q (p ∷ qs) n visits g h = (g, h)
+
+  next-goes : (P : List ℕ → Type 0) (Q : End Path → Type 0) (t : Moment) → GoingAt t → (t .path .blocks ≡ V′ → Q (found (t .path))) →
+      (t .path .blocks < V′ → P (visit (t .state .visits) (t .path .blocks))) → Goes P Q (nextAt B L D ys t)
+  unfolding nextAt taking extractAt extract Leads All
+  next-goes P Q t g f h =
+      cond-case (Goes P Q) (eqb (t .path .blocks) V′) (λ e. f (eqb→eq (t .path .blocks) V′ e))
+      (λ e. taking-goes P Q _ _ _ (going-on B L D ys (t .path) (t .state .queue) (t .state .next) (t .state .visits) e g) (h (lt-ne (t .path .blocks) V′ (g .2 .0 .0) e)))
+
+  -- the extractions left: as many as the visits, and one
+  abbrev left : List ℕ → ℕ
+  left visits = mostExtractions L V′ - sum visits
+
+  left-some : (visits : List ℕ) → length visits ≡ V′ → All (λ (v : ℕ). v ≤ L) visits → 0 < left visits
+  unfolding mostExtractions
+  left-some visits e h = omega (arith, sum-le L visits h, ap (λ (x : ℕ). L * x) e)
+
+  -- the whole run ends with a full path, for every L above 0
+  pub run-ends : 0 < L → Ended V′ (runOf B L D ys)
+  unfolding runOf runIn endIn traceOf taking firstState All
+  run-ends h =
+      let (e, q, f) =
+      trace-ends (nextAt B L D ys) GoingAt (Full V′) (λ t. left (t .state .visits)) (λ t g. left-some (t .state .visits) (g .0) (g .1))
+      (λ t n g l. next-goes (λ visits. left visits ≤ n) (Full V′) t g (λ e. unfold Full in e) (λ k. omega (arith, visit-sum (t .state .visits) (t .path .blocks) (omega (arith, g .0)))))
+      (mostExtractions L V′) (taking (firstState B)) (taking-goes (λ visits. left visits ≤ mostExtractions L V′) (Full V′) (emptyPath ∷ []) 1 (replicate V′ 0) (first-going B L h) (omega arith)) in
+      full-ended V′ (runOf B L D ys) e (ap endIn q) f
+
+  -- never more extractions than these
+  pub run-steps : length (runOf B L D ys .steps) ≤ mostExtractions L V′
+  unfolding runOf runIn traceOf
+  run-steps = omega (arith, length-map (traceOf B L D ys .states) (stepAt B L D ys), trace-length (nextAt B L D ys) (mostExtractions L V′) (taking (firstState B)))
+
+  -- ---- the entries
+
+  module _ (b : ℕ) (l : b < V′) where
+    entry : Path → ℕ
+    entry p = cond (eqb (p .blocks) b) 1 0
+
+    -- an entry into block b is a visit to it
+    entry-visits : (p : Path) (visits : List ℕ) → length visits ≡ V′ → entry p + getD visits b 0 ≤ getD (visit visits (p .blocks)) b 0
+    unfolding entry
+    entry-visits p visits e =
+        cond-case (λ (c : ℕ). c + getD visits b 0 ≤ getD (visit visits (p .blocks)) b 0) (eqb (p .blocks) b)
+        (λ u.
+        let q : p .blocks ≡ b = eqb→eq (p .blocks) b u in
+        omega (arith, ap (λ (x : ℕ). getD (visit visits x) b 0) q, visit-same visits b (omega arith)))
+        (λ u. omega (arith, visit-other visits (p .blocks) b (λ q. neqb→ne (p .blocks) b u (sym q))))
+
+    -- and no visit is one too many
+    entry-most : (t : Moment) → GoingAt t → entry (t .path) + getD (t .state .visits) b 0 ≤ L
+    unfolding entry All
+    entry-most t g =
+        cond-case (λ (c : ℕ). c + getD (t .state .visits) b 0 ≤ L) (eqb (t .path .blocks) b)
+        (λ u. omega (arith, g .2 .0 .1 b (omega (arith, eqb→eq (t .path .blocks) b u)) l))
+        (λ u. omega (arith, all-at (λ (v : ℕ). v ≤ L) (t .state .visits) b 0 (omega (arith, g .0)) (g .1)))
+
+    entries-le : 0 < L → length (keep (λ (t : Moment). eqb (t .path .blocks) b) (momentsOf B L D ys)) ≤ L
+    unfolding entry momentsOf traceOf taking firstState
+    entries-le h =
+        let c =
+        trace-count (nextAt B L D ys) GoingAt (λ t. getD (t .state .visits) b 0) (λ t. eqb (t .path .blocks) b) L
+        (λ t n g k. (
+          omega (arith, entry-most t g),
+          next-goes (λ visits. entry (t .path) + n ≤ getD visits b 0) _ t g (λ _. tt) (λ _. omega (arith, entry-visits (t .path) (t .state .visits) (g .0))),
+        ))
+        (mostExtractions L V′) 0 (taking (firstState B)) zero-le (taking-goes (λ visits. 0 ≤ getD visits b 0) _ (emptyPath ∷ []) 1 (replicate V′ 0) (first-going B L h) zero-le) in
+        omega arith
 
 -- no block is entered more than L times
 pub run-entries : (b : ℕ) (B : Book) (L D : ℕ) (ys : List ℤ) → 0 < L → b < length (B .blocks) → entries b (runOf B L D ys .steps) ≤ L
-unfolding runOf
+unfolding entries
 run-entries b B L D ys h l =
-    let V′ = length (B .blocks) in
-    omega (arith, entries-le b (L * V′ + 1) B L D ys (emptyPath ∷ []) 1 (replicate V′ 0) l (first-going B L h))
+    omega (arith, entries-le B L D ys b l h, paired-length Takes _ _ (paired-keep Takes (λ (t : Moment). eqb (t .path .blocks) b) (λ (s : Step). eqb (s .blocks) b) (λ t s k. ap (λ i. eqb i b) (sym (k .blocks))) _ _ (run-takes B L D ys)))

@@ -27,13 +27,13 @@ use Rattle.codebook.proofs.Blocks.{start-next}
 use Rattle.codec.specs.Code.{fill, freeBits, obeysAll, inCode, readData}
 use Rattle.codec.proofs.Fill.{After, fill-after, fill-obeys, obeys-append, obeys-front}
 use Rattle.machine.specs.Words.{Ranked, nearer, rank, setting, nearestWith, nearest, nextAfter}
-use Rattle.machine.specs.Machine.{Path, State, path, emptyPath, copyWith, copyOf, advanceWith, advance, extract, runOf}
+use Rattle.machine.specs.Machine.{Path, State, path, emptyPath, copyWith, copyOf, advanceWith, advance, extract, firstState, runOf}
 use Rattle.queue.specs.Queue.{End, endAs}
 use Rattle.machine.specs.Calls.{finalOf, endOf, finalIn}
-use Rattle.runs.specs.Runs.{stateOf, firstState, Finds, Ended, Exact}
+use Rattle.runs.specs.Runs.{stateOf, Finds, Ended, Exact}
 use Rattle.runs.proofs.Choice.{first-may}
 use Rattle.runs.proofs.Steps.{all-extract}
-use Rattle.runs.proofs.States.{run-final}
+use Rattle.runs.proofs.Moments.{run-final}
 use Rattle.runs.proofs.Ends.{run-ends}
 
 -- ---- bits that fill the first s indices and obey their kinds

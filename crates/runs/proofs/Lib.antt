@@ -1,6 +1,6 @@
 pub mod Choice
 pub mod Order
-pub mod States
+pub mod Moments
 pub mod Steps
 pub mod Ends
 pub mod Alive

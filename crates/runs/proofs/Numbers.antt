@@ -16,10 +16,10 @@ use Rattle.laws.proofs.Tests.{cond-case}
 use Rattle.laws.proofs.Lists.{all-map, all-mapped, all-take, all-keep}
 use Rattle.codebook.specs.Book.{Book}
 use Rattle.queue.specs.Queue.{before, insert, ahead, staying, numbers, roomFor}
-use Rattle.machine.specs.Machine.{Path, State, keyOf, emptyPath, copyOf, cut, advance, extract}
-use Rattle.runs.specs.Runs.{stateOf, firstState, statesOf, Numbered}
+use Rattle.machine.specs.Machine.{Path, State, Moment, keyOf, emptyPath, copyOf, cut, advance, extract, firstState, momentsOf}
+use Rattle.runs.specs.Runs.{stateOf, stateAt, Numbered}
 use Rattle.runs.proofs.Order.{all-insert, all-staying}
-use Rattle.runs.proofs.States.{run-states}
+use Rattle.runs.proofs.Moments.{run-moments}
 use Rattle.runs.proofs.Steps.{copy-number, advance-number, all-cut}
 
 -- ---- distinct numbers, path by path
@@ -115,7 +115,7 @@ first-apart : (B : Book) → Separate (firstState B)
 unfolding firstState Apart All emptyPath
 first-apart B = record { below = (omega arith, tt); apart = (tt, tt) }
 
-pub run-numbers : (B : Book) (L D : ℕ) (ys : List ℤ) → All Numbered (statesOf B L D ys)
+pub run-numbers : (B : Book) (L D : ℕ) (ys : List ℤ) → All (λ (t : Moment). Numbered (stateAt t)) (momentsOf B L D ys)
 run-numbers B L D ys =
-    all-map (λ s h. record { below = h .below; distinct = apart-distinct (s .queue) (h .apart) }) (statesOf B L D ys)
-    (run-states B L D ys Separate (λ p qs n visits _ h. extract-apart B L D ys p qs n visits h) (first-apart B))
+    all-map (λ t h. record { below = h .below; distinct = apart-distinct (stateAt t .queue) (h .apart) }) (momentsOf B L D ys)
+    (run-moments B L D ys Separate (λ p qs n visits _ h. extract-apart B L D ys p qs n visits h) (first-apart B))

@@ -8,10 +8,10 @@ use lib.IntN.{ℤ}
 use Rattle.laws.specs.Lists.{All, May}
 use Rattle.codebook.specs.Book.{Book}
 use Rattle.machine.specs.Words.{Ranked, nearest}
-use Rattle.machine.specs.Machine.{Path, scoreOf, path, emptyPath, copyWith, copyOf, advanceWith, advance, extract, runOf}
-use Rattle.runs.specs.Runs.{stateOf, firstState, statesOf, Finds, OwnScore, Scored}
+use Rattle.machine.specs.Machine.{Path, Moment, scoreOf, path, emptyPath, copyWith, copyOf, advanceWith, advance, extract, firstState, momentsOf, runOf}
+use Rattle.runs.specs.Runs.{stateOf, stateAt, Finds, OwnScore, Scored}
 use Rattle.runs.proofs.Steps.{all-extract}
-use Rattle.runs.proofs.States.{run-states, run-final}
+use Rattle.runs.proofs.Moments.{run-moments, run-final}
 
 -- ---- one extraction
 
@@ -45,8 +45,8 @@ module _ (B : Book) (ys : List ℤ) where
 
   -- ---- the run
 
-  pub run-scored : (L D : ℕ) → All (Scored B ys) (statesOf B L D ys)
-  run-scored L D = run-states B L D ys (Scored B ys) (λ p qs n visits _ h. extract-scored L D p qs n visits h) first-scored
+  pub run-scored : (L D : ℕ) → All (λ (t : Moment). Scored B ys (stateAt t)) (momentsOf B L D ys)
+  run-scored L D = run-moments B L D ys (Scored B ys) (λ p qs n visits _ h. extract-scored L D p qs n visits h) first-scored
 
   pub final-scored : (L D : ℕ) → Finds (OwnScore B ys) (runOf B L D ys .end)
   unfolding All

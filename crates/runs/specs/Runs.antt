@@ -1,9 +1,9 @@
--- What is shown of the plain machine's run: its states, how it ends, and what it finds. Assumes nothing.
+-- What is shown of the plain machine's run: its moments, how it ends, and what it finds. Assumes nothing.
 use mathlib.Core.Path.{_≡_}
-use mathlib.Core.Bool.{cond, not}
+use mathlib.Core.Bool.{not}
 use mathlib.Core.List.{List, [], _∷_}
-use Prim.Native.Nat.{ℕ, zero, suc, _+_, _*_, _^_, _≤_, _<_}
-use lib.ListN.{length, replicate}
+use Prim.Native.Nat.{ℕ, _^_, _≤_, _<_}
+use lib.ListN.{length}
 use lib.IntN.{ℤ}
 use lib.Dec.{T, eqb}
 use Rattle.laws.specs.Lists.{All, Distinct, keep}
@@ -11,44 +11,26 @@ use Rattle.polar.specs.Bits.{Bit}
 use Rattle.polar.specs.Soft.{discrepancy}
 use Rattle.codebook.specs.Book.{Book}
 use Rattle.codec.specs.Code.{inCode, readData}
-use Rattle.queue.specs.Queue.{Key, before, numbers, Step, Final, End, found, dry}
-use Rattle.machine.specs.Machine.{Path, State, Run, keyOf, scoreOf, emptyPath, extract}
+use Rattle.queue.specs.Queue.{Key, before, numbers, Step, Final, End, found, dry, Run}
+use Rattle.machine.specs.Machine.{Path, State, Moment, keyOf, scoreOf}
 
--- ---- the states before the extractions
+-- ---- the moments
 
 -- the machine with this queue, next number and visits
 abbrev pub stateOf : List Path → ℕ → List ℕ → State
 stateOf qs n visits = record { queue = qs; next = n; visits = visits }
 
--- the state before the first extraction
-unfoldable pub firstState : Book → State
-firstState B = stateOf (emptyPath ∷ []) 1 (replicate (length (B .blocks)) 0)
+-- what the machine holds before the path of a moment is taken
+abbrev pub stateAt : Moment → State
+stateAt t = stateOf (t .path ∷ t .state .queue) (t .state .next) (t .state .visits)
 
--- the states before each of the extractions that the fuel allows
-unfoldable pub states : ℕ → Book → ℕ → ℕ → List ℤ → List Path → ℕ → List ℕ → List State
-states zero B L D ys qs n visits = []
-states (suc fuel) B L D ys [] n visits = []
-states (suc fuel) B L D ys (p ∷ qs) n visits =
-    let x = extract B L D ys p qs n visits .state in
-    let more = states fuel B L D ys (x .queue) (x .next) (x .visits) in
-    stateOf (p ∷ qs) n visits ∷ cond (eqb (p .blocks) (length (B .blocks))) [] more
+-- the extraction s takes the path of the moment t
+pub record Takes (t : Moment) (s : Step) : Type 0 where
+  pub path : s .path ≡ t .path .number
+  pub blocks : s .blocks ≡ t .path .blocks
+  pub score : s .score ≡ t .path .score
 
--- those of the whole run
-unfoldable pub statesOf : Book → ℕ → ℕ → List ℤ → List State
-statesOf B L D ys =
-    let V′ = length (B .blocks) in
-    states (L * V′ + 1) B L D ys (emptyPath ∷ []) 1 (replicate V′ 0)
-
--- the extraction t takes the first path of the queue in the state s
-pub record Takes (s : State) (t : Step) : Type 0 where
-  pub taken : Path
-  pub others : List Path
-  pub queue : s .queue ≡ taken ∷ others
-  pub path : t .path ≡ taken .number
-  pub blocks : t .blocks ≡ taken .blocks
-  pub score : t .score ≡ taken .score
-
--- ---- what holds of each
+-- ---- what holds before each extraction
 
 module _ {A : Type 0} (key : A → Key) where
   -- no path comes before an earlier one
@@ -82,7 +64,7 @@ Finds P (found x) = P x
 Finds P dry = Unit {0}
 
 -- the run stopped with a path of all N blocks
-unfoldable pub Ended : ℕ → Run → Type 0
+unfoldable pub Ended : ℕ → Run Path → Type 0
 Ended N r = (p : Path) × (r .end ≡ found p) × (p .blocks ≡ N)
 
 -- the extractions that entered block b
