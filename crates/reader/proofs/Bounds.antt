@@ -1,23 +1,25 @@
--- The reader's run: at most L entries a block, at most L x V + 1 extractions, at most D paths alive, the one taken among them. The first two
+-- The reader's run: at most L entries a block, at most `mostExtractions`, at most D paths alive, the one taken among them. The first two
 -- from agreement with the machine; the last is kept by each extraction, since a cut leaves room for the copy. Assumes nothing.
 use mathlib.Core.Path.{_≡_, sym, subst}
 use mathlib.Core.List.{List, [], _∷_}
 use mathlib.Core.Option.{Option, none, some}
-use Prim.Native.Nat.{ℕ, zero, suc, _+_, _-_, _*_, _^_, _≤_, _<_}
+use Prim.Native.Nat.{ℕ, zero, suc, _-_, _^_, _≤_, _<_}
 use native.Mathlib.Omega.{arith}
 use lib.ListN.{length, take, length-take}
 use lib.IntN.{ℤ}
 use Rattle.laws.specs.Lists.{All}
 use Rattle.codebook.specs.Book.{Book}
 use Rattle.codebook.specs.Limits.{Valid}
+use Rattle.queue.specs.Run.{mostExtractions}
 use Rattle.queue.specs.Queue.{insert, roomFor, visit, Step}
+use Rattle.queue.proofs.Run.{Leads}
 use Rattle.runs.specs.Runs.{entries}
 use Rattle.runs.proofs.Order.{insert-length, staying-length}
 use Rattle.runs.proofs.Ends.{run-steps, run-entries}
 use Rattle.reader.specs.Arrays.{Arrays}
 use Rattle.outer.specs.Words.{Word}
 use Rattle.reader.specs.Paths.{Path, keyOf}
-use Rattle.reader.specs.Reader.{copyWith, copy, move, extract, runOf}
+use Rattle.reader.specs.Reader.{copyWith, copy, move, extract, takingFrom, runOf}
 use Rattle.reader.proofs.Agree.{valid-agree}
 use Rattle.reader.specs.Moments.{Moment, momentsOf, extractAt, copyAt}
 use Rattle.reader.proofs.Moments.{Taken, run-all}
@@ -25,9 +27,9 @@ use Rattle.reader.proofs.Moments.{Taken, run-all}
 -- ---- from the machine
 
 module _ (B : Book) (ys : List ℤ) (ok : Valid B) (ly : length ys ≡ 2 ^ (B .m)) (L D : ℕ) (A : Arrays) (e : A .vals (B .m) 1 ≡ ys) (l : 0 < L) where
-  pub steps-most : length (runOf B L D A .steps) ≤ L * length (B .blocks) + 1
+  pub steps-most : length (runOf B L D A .steps) ≤ mostExtractions L (length (B .blocks))
   steps-most =
-      subst (λ (steps : List Step). length steps ≤ L * length (B .blocks) + 1) (sym (valid-agree B ok L D ys A l ly e .steps)) (run-steps B L D ys)
+      subst (λ (steps : List Step). length steps ≤ mostExtractions L (length (B .blocks))) (sym (valid-agree B ok L D ys A l ly e .steps)) (run-steps B L D ys)
 
   pub entries-most : (b : ℕ) → b < length (B .blocks) → entries b (runOf B L D A .steps) ≤ L
   entries-most b h = subst (λ (steps : List Step). entries b steps ≤ L) (sym (valid-agree B ok L D ys A l ly e .steps)) (run-entries b B L D ys l h)
@@ -64,9 +66,9 @@ module _ (B : Book) (L D : ℕ) (two : 2 ≤ D) where
       omega (arith, a .copied, insert-length (keyOf B) p c, staying-length (keyOf B) L (t .path .blocks) (visit (t .state .visits) (t .path .blocks)) (insert (keyOf B) p c))
 
   taken-alive : (A : Arrays) (ps : List Path) (n : ℕ) (visits : List ℕ) → length ps ≤ D → Taken (Alive B D) A ps n visits
-  unfolding Taken
+  unfolding takingFrom Leads
   taken-alive A [] n visits h = tt
   taken-alive A (p ∷ ps) n visits h = alive _ h
 
   pub run-alive : (A : Arrays) → All (Alive B D) (momentsOf B L D A)
-  run-alive A = run-all B L D (Alive B D) (λ t a. taken-alive _ _ _ _ (extract-length t a)) A (taken-alive _ _ _ _ (omega arith))
+  run-alive A = run-all B L D (Alive B D) (λ t _ a. taken-alive _ _ _ _ (extract-length t a)) A (taken-alive _ _ _ _ (omega arith))

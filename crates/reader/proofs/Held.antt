@@ -15,11 +15,12 @@ use Rattle.laws.proofs.Tests.{cond-case}
 use Rattle.laws.proofs.Lists.{all-take}
 use Rattle.codebook.specs.Book.{Book, blockAt}
 use Rattle.queue.specs.Queue.{roomFor}
+use Rattle.queue.proofs.Run.{Leads}
 use Rattle.runs.proofs.Order.{all-insert, all-staying}
 use Rattle.reader.specs.Arrays.{Arrays, View, upd, among, writes, putVals, putSums, claim, descend}
 use Rattle.outer.specs.Words.{Word}
 use Rattle.reader.specs.Paths.{Path, keyOf, firstPath, place, idsOf, viewOf}
-use Rattle.reader.specs.Reader.{commit, copyWith, copy, moveWith, move, extract}
+use Rattle.reader.specs.Reader.{commit, copyWith, copy, moveWith, move, extract, takingFrom}
 use Rattle.reader.proofs.Own.{own-most}
 use Rattle.reader.proofs.Arrays.{writes-new, writes-some, claim-ids, descend-keeps}
 use Rattle.reader.specs.Moments.{Moment, momentsOf, extractAt, copyAt, movedAt}
@@ -168,7 +169,7 @@ module _ (B : Book) (L D : ℕ) (two : 2 ≤ D) where
       (all-insert (keyOf B) (Housed D) (movedAt B D t) (copyAt B D t .queue) (h .moved) (h .copied))
 
   taken-housed : (A : Arrays) (ps : List Path) (n : ℕ) (visits : List ℕ) → length ps ≤ D → All (Housed D) ps → Taken AllHoused A ps n visits
-  unfolding Taken All
+  unfolding takingFrom Leads All
   taken-housed A [] n visits l h = tt
   taken-housed A (p ∷ ps) n visits l h = housed _ l (h .0) (h .1)
 
@@ -178,5 +179,5 @@ module _ (B : Book) (L D : ℕ) (two : 2 ≤ D) where
   pub run-housed : (A : Arrays) → All AllHoused (momentsOf B L D A)
   unfolding All
   run-housed A =
-      run-all B L D AllHoused (λ t h. taken-housed _ _ _ _ (extract-length B L D two t (h .alive)) (extract-housed t h)) A
+      run-all B L D AllHoused (λ t _ h. taken-housed _ _ _ _ (extract-length B L D two t (h .alive)) (extract-housed t h)) A
       (taken-housed _ _ _ _ (omega arith) (first-housed, tt))

@@ -2,28 +2,27 @@
 -- moment of the run. Assumes nothing.
 use mathlib.Core.Path.{_≡_}
 use mathlib.Core.List.{List, [], _∷_}
-use Prim.Native.Nat.{ℕ, zero, suc, _^_, _≤_, _<_}
+use Prim.Native.Nat.{ℕ, _^_, _≤_, _<_}
 use native.Mathlib.Omega.{arith}
 use lib.ListN.{length}
 use lib.IntN.{ℤ}
-use lib.Dec.{eqb}
-use borrow.Author.Tests.{eqb-false, not-true}
 use Rattle.laws.specs.Lists.{All}
 use Rattle.laws.specs.Pairs.{Paired}
-use Rattle.laws.proofs.Tests.{cond-case, T-true}
 use Rattle.polar.specs.Layers.{Within}
 use Rattle.codebook.specs.Book.{Book}
 use Rattle.codebook.specs.Limits.{Valid}
+use Rattle.queue.proofs.Run.{Leads}
 use Rattle.machine.specs.Machine as M
 use Rattle.reader.specs.Arrays.{Arrays}
 use Rattle.reader.specs.Paths.{Path, firstPath, viewOf}
 use Rattle.reader.specs.Fit.{FitFor}
-use Rattle.reader.specs.Reader.{extract}
+use Rattle.reader.specs.Reader.{extract, takingFrom}
 use Rattle.reader.specs.Reached.{StandsFor, Reached}
 use Rattle.reader.proofs.Good.{sized}
 use Rattle.reader.proofs.Step.{StepIs, stands-blocks, extract-is}
 use Rattle.reader.proofs.Run.{first-stands}
-use Rattle.reader.specs.Moments.{Moment, moments, momentsOf, extractAt}
+use Rattle.reader.specs.Moments.{Moment, momentsOf, extractAt}
+use Rattle.reader.proofs.Moments.{Taken, Stays, run-all}
 use Rattle.reader.proofs.Bounds.{alive, extract-length}
 use Rattle.reader.proofs.Held.{housed, extract-housed, first-within}
 use Rattle.reader.proofs.Rooted.{first-rooted, extract-rooted}
@@ -93,20 +92,22 @@ module _ (B : Book) (ys : List ℤ) (ok : Valid B) where
 
     -- ---- at every moment of the run
 
-    moments-reached : (L D : ℕ) → 2 ≤ D → (fuel : ℕ) (A : Arrays) (ps : List Path) (n : ℕ) (visits : List ℕ) → Reached B ys D A ps →
-        All (λ (t : Moment). Reached B ys D (t .state .arrays) (t .path ∷ t .state .queue)) (moments fuel B L D A ps n visits)
-    unfolding moments All
-    moments-reached L D two zero A ps n visits r = tt
-    moments-reached L D two (suc fuel) A [] n visits r = tt
-    moments-reached L D two (suc fuel) A (p ∷ ps) n visits r = (
-      r,
-      cond-case (All (λ (t : Moment). Reached B ys D (t .state .arrays) (t .path ∷ t .state .queue))) (eqb (p .blocks) (length (B .blocks))) (λ _. tt)
-          (λ q.
-          let d : p .blocks ≡ length (B .blocks) → ⊥ = eqb-false (p .blocks) (length (B .blocks)) (not-true _ (T-true _ q)) in
-          moments-reached L D two fuel _ _ _ _ (extract-reached L D two A p ps n visits r (omega (arith, reached-within D A p ps r)))),
-    )
+    module _ (L D : ℕ) (two : 2 ≤ D) where
+      abbrev ReachedAt : Moment → Type 0
+      ReachedAt t = Reached B ys D (t .state .arrays) (t .path ∷ t .state .queue)
 
-    pub run-reached : (L D : ℕ) → 2 ≤ D → (A : Arrays) → A .vals (B .m) 1 ≡ ys →
-        All (λ (t : Moment). Reached B ys D (t .state .arrays) (t .path ∷ t .state .queue)) (momentsOf B L D A)
-    unfolding momentsOf
-    run-reached L D two A e = moments-reached L D two _ A _ _ _ (first-reached B ys D A e (omega arith))
+      taken-reached : (A : Arrays) (ps : List Path) (n : ℕ) (visits : List ℕ) → Reached B ys D A ps → Taken ReachedAt A ps n visits
+      unfolding takingFrom Leads
+      taken-reached A [] n visits r = tt
+      taken-reached A (p ∷ ps) n visits r = r
+
+      stays-reached : Stays B L D ReachedAt
+      unfolding extractAt
+      stays-reached t d r =
+          taken-reached _ _ _ _
+          (extract-reached L D two (t .state .arrays) (t .path) (t .state .queue) (t .state .next) (t .state .visits) r
+          (omega (arith, reached-within D (t .state .arrays) (t .path) (t .state .queue) r)))
+
+      pub run-reached : (A : Arrays) → A .vals (B .m) 1 ≡ ys →
+          All (λ (t : Moment). Reached B ys D (t .state .arrays) (t .path ∷ t .state .queue)) (momentsOf B L D A)
+      run-reached A e = run-all B L D ReachedAt stays-reached A (taken-reached _ _ _ _ (first-reached B ys D A e (omega arith)))

@@ -12,6 +12,7 @@ use lib.ListN.{length, getD, take, drop, take-append-drop}
 use lib.IntN.{ℤ}
 use lib.Dec.{leb, ltb, eqb}
 use Rattle.laws.specs.Lists.{All, Distinct}
+use Rattle.laws.specs.Pairs.{Paired}
 use Rattle.laws.specs.Removes.{In, Removes}
 use Rattle.laws.proofs.Tests.{leb-ltb}
 use Rattle.laws.proofs.Lists.{all-map, all-in, all-front, all-mapped, all-unmapped, distinct-front}
@@ -21,7 +22,7 @@ use Rattle.codebook.specs.Book.{Book}
 use Rattle.codebook.specs.Limits.{Valid}
 use Rattle.queue.specs.Queue.{Key, before, insert, ahead, behind, staying, outrunBy, numbers, roomFor, crowdedOut, visit}
 use Rattle.machine.specs.Machine as M
-use Rattle.runs.specs.Runs.{Numbered}
+use Rattle.runs.specs.Runs.{stateAt, Numbered}
 use Rattle.runs.proofs.Order.{all-insert}
 use Rattle.runs.proofs.Numbers.{run-numbers}
 use Rattle.reader.specs.Arrays.{Arrays, View}
@@ -32,7 +33,8 @@ use Rattle.reader.specs.Reached.{StandsFor}
 use Rattle.reader.proofs.Queue.{numbers-paired}
 use Rattle.reader.proofs.Step.{stands-key}
 use Rattle.reader.specs.Moments.{Moment, momentsOf, extractAt, copyAt, movedAt, queuedAt, Removed}
-use Rattle.reader.proofs.Moments.{step-more, MomentIs, run-moments}
+use Rattle.reader.proofs.Run.{MomentIs, traces-are}
+use Rattle.reader.proofs.Moments.{step-more}
 
 -- ---- a path queued
 
@@ -200,22 +202,26 @@ fresh-removed B L D t f n =
     one : (q : Path) (qs : List Path) → Distinct (numbers (keyOf B) (q ∷ qs)) → Distinct (keyOf B q .number ∷ numbers (keyOf B) qs)
     one q qs d = unfold numbers in d
 
+-- the numbers at a moment are those of the machine's
+moment-fresh : (B : Book) (ys : List ℤ) (s : M.Moment) (t : Moment) → Numbered (stateAt s) → MomentIs B ys s t → Fresh B (t .path ∷ t .state .queue) (t .state .next)
+unfolding numbers M.keyOf Paired
+moment-fresh B ys s t h k =
+    let A : Arrays = t .state .arrays in
+    let qs : List M.Path = s .path ∷ s .state .queue in
+    let ps : List Path = t .path ∷ t .state .queue in
+    let same : numbers M.keyOf qs ≡ numbers (keyOf B) ps =
+    numbers-paired M.keyOf (keyOf B) (StandsFor B ys A) (stands-key B ys A) qs ps (k .path, k .queue) in
+    let low : All (λ (x : ℕ). x < s .state .next) (numbers M.keyOf qs) =
+    all-mapped (λ (q : M.Path). q .number) (λ (x : ℕ). x < s .state .next) qs (h .below) in
+    record {
+      below =
+          subst (λ (n : ℕ). All (λ (x : ℕ). x < n) (numbers (keyOf B) ps)) (k .next) (subst (All (λ (x : ℕ). x < s .state .next)) same low);
+      distinct = subst Distinct same (h .distinct);
+    }
+
 -- every step of the run (Moments: run-steps-are) but the last, which removes nothing, says what its extraction removes
 pub run-removed : (B : Book) (ys : List ℤ) → Valid B → length ys ≡ 2 ^ (B .m) → (L D : ℕ) (A : Arrays) → A .vals (B .m) 1 ≡ ys →
     All (λ (t : Moment). (t .path .blocks ≡ length (B .blocks) → ⊥) → Removed B L D t) (momentsOf B L D A)
+unfolding M.momentsOf momentsOf
 run-removed B ys ok ly L D A e =
-    paired-all (λ s t h k. fresh-removed B L D t (fresh s t h k)) _ _ (run-numbers B L D ys) (run-moments B ys ok ly L D A e)
-  where
-    fresh : (s : M.State) (t : Moment) → Numbered s → MomentIs B ys s t → Fresh B (t .path ∷ t .state .queue) (t .state .next)
-    fresh s t h k =
-        let same : numbers M.keyOf (s .queue) ≡ numbers (keyOf B) (t .path ∷ t .state .queue) =
-        numbers-paired M.keyOf (keyOf B) (StandsFor B ys (t .state .arrays)) (stands-key B ys (t .state .arrays)) (s .queue)
-        (t .path ∷ t .state .queue) (k .queue) in
-        let low : All (λ (x : ℕ). x < s .next) (numbers M.keyOf (s .queue)) =
-        unfold numbers M.keyOf in all-mapped (λ (q : M.Path). q .number) (λ (x : ℕ). x < s .next) (s .queue) (h .below) in
-        record {
-          below =
-              subst (λ (n : ℕ). All (λ (x : ℕ). x < n) (numbers (keyOf B) (t .path ∷ t .state .queue))) (k .next)
-              (subst (All (λ (x : ℕ). x < s .next)) same low);
-          distinct = subst Distinct same (h .distinct);
-        }
+    paired-all (λ s t h k. fresh-removed B L D t (moment-fresh B ys s t h k)) _ _ (run-numbers B L D ys) (traces-are B ys ok ly L D A e .states)

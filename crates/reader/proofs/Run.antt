@@ -1,9 +1,9 @@
--- The reader's run is the machine's: extraction by extraction, and where step 1 stops the final word, its data and its discrepancy. By induction
--- on the extractions. Assumes nothing.
+-- The reader's run is the machine's, moment by moment: one extraction keeps the two in step, and where step 1 stops the final word, its data and its discrepancy
+-- are the machine's. By the law of two machines in step (queue/proofs/Run). Assumes nothing.
 use mathlib.Core.Path.{_≡_, refl, sym, ap, ap₂, _∙_, subst, subst₂}
 use mathlib.Core.Bool.{Bool, true, false, cond}
 use mathlib.Core.List.{List, [], _∷_}
-use Prim.Native.Nat.{ℕ, zero, suc, _+_, _^_}
+use Prim.Native.Nat.{ℕ, suc, _+_, _^_}
 use lib.ListN.{length}
 use lib.IntN.{ℤ, pos, natAbs}
 use lib.Dec.{eqb}
@@ -18,13 +18,15 @@ use Rattle.polar.proofs.Value.{R-costs}
 use Rattle.codebook.specs.Book.{Book, startOf}
 use Rattle.codebook.specs.Limits.{Valid}
 use Rattle.codec.specs.Code.{freeBits, readData}
-use Rattle.queue.specs.Queue.{Step, Final, found, endAs}
+use Rattle.queue.specs.Run.{over}
+use Rattle.queue.specs.Queue.{Step, Final, End, found, endAs}
+use Rattle.queue.proofs.Run.{InStep, TracesInStep, traces-in-step}
 use Rattle.machine.specs.Machine as M
 use Rattle.machine.specs.Calls.{finalOf, endOf}
 use Rattle.reader.specs.Arrays.{Arrays, View, sumsOf}
 use Rattle.reader.specs.Paths.{Path, firstPath, scoreOf, idsOf, viewOf}
 use Rattle.reader.specs.Reader as R
-use Rattle.reader.specs.Reader.{commit}
+use Rattle.reader.specs.Reader.{Moment, commit, finalAt}
 use Rattle.reader.specs.Reached.{Sums, Inv, HoldsBits, plain, StandsFor}
 use Rattle.reader.proofs.Upd.{upd-same}
 use Rattle.reader.proofs.Tree.{root-word}
@@ -32,10 +34,16 @@ use Rattle.codec.proofs.Ties.{parities-none}
 use Rattle.reader.proofs.Good.{PathSized, sized, Ready, ready}
 use Rattle.reader.proofs.Step.{StepIs, stands-blocks, extract-is}
 
--- the reader's run r′ is the machine's r
-pub record RunIs (B : Book) (ys : List ℤ) (r : M.Run) (r′ : R.Run) : Type 0 where
-  pub steps : r′ .steps ≡ r .steps
-  pub end : r′ .end ≡ endOf B ys (r .end)
+-- the moment t stands for the machine's moment s
+pub record MomentIs (B : Book) (ys : List ℤ) (s : M.Moment) (t : Moment) : Type 0 where
+  pub path : StandsFor B ys (t .state .arrays) (s .path) (t .path)
+  pub queue : Paired (StandsFor B ys (t .state .arrays)) (s .state .queue) (t .state .queue)
+  pub next : s .state .next ≡ t .state .next
+  pub visits : s .state .visits ≡ t .state .visits
+
+-- an end is the machine's
+abbrev pub EndIs : Book → List ℤ → End M.Path → End Final → Type 0
+EndIs B ys e e′ = e′ ≡ endOf B ys e
 
 -- path 0, whatever the arrays hold but the received values at the root
 pub first-stands : (B : Book) (ys : List ℤ) (A : Arrays) → A .vals (B .m) 1 ≡ ys → StandsFor B ys A M.emptyPath (firstPath B)
@@ -51,15 +59,19 @@ first-stands B ys A e =
     }
 
 module _ (B : Book) (ys : List ℤ) (ok : Valid B) (ly : length ys ≡ 2 ^ (B .m)) where
-  -- ---- where step 1 stops
+  -- ---- one extraction
 
-  stopped-plain : (A : Arrays) (u : List ℕ) (p : Path) (ps : List Path) → HoldsBits B ys A u p → p .blocks ≡ length (B .blocks) →
-      RunIs B ys (M.stopped (plain B p u)) (R.stopped B A p ps)
-  unfolding M.stopped R.stopped plain endOf endAs finalOf readData
-  stopped-plain A u p ps h e =
-      let v : View = commit B (idsOf ps) p (p .blocks) (viewOf A p) in
+  -- where step 1 stops
+  final-plain : (u : List ℕ) (t : Moment) → HoldsBits B ys (t .state .arrays) u (t .path) → t .path .blocks ≡ length (B .blocks) →
+      finalAt B t ≡ finalOf B ys (plain B (t .path) u)
+  unfolding finalAt plain finalOf readData
+  final-plain u t h e =
+      let p : Path = t .path in
+      let A : Arrays = t .state .arrays in
+      let others : List (ℕ → ℕ) = idsOf (t .state .queue) in
+      let v : View = commit B others p (p .blocks) (viewOf A p) in
       let z : PathSized B ys u p (p .blocks) = sized B ys (viewOf A p) u p ok (p .blocks) (h .inv) in
-      let r : Ready B ys (idsOf ps) u (p .blocks) v = ready B ys ok (idsOf ps) u p (p .blocks) (viewOf A p) (h .inv) in
+      let r : Ready B ys others u (p .blocks) v = ready B ys ok others u p (p .blocks) (viewOf A p) (h .inv) in
       let f : startOf (B .blocks) (p .blocks) ≡ 2 ^ (B .m) = ap (startOf (B .blocks)) e ∙ ok .covered in
       let word : sumsOf v (B .m) ≡ transform (B .m) u =
       root-word (B .m) u (sumsOf v) (z .size ∙ f) (subst (λ (t : ℕ). Sums (suc (B .m)) u t (sumsOf v)) f (r .sums)) in
@@ -67,56 +79,59 @@ module _ (B : Book) (ys : List ℤ) (ok : Valid B) (ly : length ys ≡ 2 ^ (B .m
       let total : p .spent + p .cost ≡ natAbs (Value.R (B .m) ys u) =
       z .total ∙ sym (ap natAbs (R-costs (B .m) ys u) ∙ neg-abs (pos (costs (B .m) ys u 0 (length u)))) in
       let make : List ℕ → List ℕ → ℕ → Final = λ w x n. record { word = w; bits = freeBits (B .kinds) x; discrepancy = n } in
-      record {
-        steps = refl;
-        end = ap found (ap₂ (λ (w x : List ℕ). make w x (p .spent + p .cost)) word back ∙ ap (make (transform (B .m) u) u) total);
-      }
+      ap₂ (λ (w x : List ℕ). make w x (p .spent + p .cost)) word back ∙ ap (make (transform (B .m) u) u) total
 
-  stopped-is : (A : Arrays) (q : M.Path) (p : Path) (ps : List Path) → StandsFor B ys A q p → p .blocks ≡ length (B .blocks) →
-      RunIs B ys (M.stopped q) (R.stopped B A p ps)
-  stopped-is A q p ps h e =
-      subst (λ (x : M.Path). RunIs B ys (M.stopped x) (R.stopped B A p ps)) (sym (h .same)) (stopped-plain A (q .bits) p ps (h .holds) e)
+  module _ (L D : ℕ) (s : M.Moment) (t : Moment) (h : MomentIs B ys s t) where
+    blocks-are : s .path .blocks ≡ t .path .blocks
+    blocks-are = stands-blocks B ys (t .state .arrays) (s .path) (t .path) (h .path)
+
+    final-is : t .path .blocks ≡ length (B .blocks) → finalAt B t ≡ finalOf B ys (s .path)
+    final-is e = final-plain (s .path .bits) t (h .path .holds) e ∙ ap (finalOf B ys) (sym (h .path .same))
+
+    -- of a path that has not all blocks
+    extract-at : (s .path .blocks ≡ length (B .blocks) → ⊥) → StepIs B ys (M.extractAt B L D ys s) (R.extractAt B L D t)
+    unfolding M.extractAt R.extractAt
+    extract-at d =
+        subst₂ (λ (n : ℕ) (visits : List ℕ). StepIs B ys (M.extract B L D ys (s .path) (s .state .queue) n visits) (R.extractAt B L D t)) (sym (h .next)) (sym (h .visits))
+        (extract-is B ys ok ly L D (t .state .arrays) (s .path) (t .path) (s .state .queue) (t .state .queue) (t .state .next) (t .state .visits) (h .path) (h .queue) d)
+
+    pub step-is : M.stepAt B L D ys s ≡ R.stepAt B L D t
+    unfolding M.stepAt R.stepAt plain
+    step-is = subst (λ (b : ℕ). M.stepAt B L D ys s ≡ cond (eqb b (length (B .blocks))) last (R.extractAt B L D t .step)) blocks-are (go (eqb (s .path .blocks) (length (B .blocks))) refl)
+      where
+        last : Step
+        last = record { path = t .path .number; blocks = t .path .blocks; score = scoreOf B (t .path) (t .path .blocks); crowded = []; outrun = [] }
+
+        go : (b : Bool) → eqb (s .path .blocks) (length (B .blocks)) ≡ b →
+            cond b (record { path = s .path .number; blocks = s .path .blocks; score = s .path .score; crowded = []; outrun = [] }) (M.extractAt B L D ys s .step) ≡ cond b last (R.extractAt B L D t .step)
+        go true e = unfold plain in ap {B = Step} (λ (q : M.Path). record { path = q .number; blocks = q .blocks; score = q .score; crowded = []; outrun = [] }) (h .path .same)
+        go false e = extract-at (eqb-false (s .path .blocks) (length (B .blocks)) e) .step
+
+  -- both take a path, or neither does
+  taking-is : (A : Arrays) (qs : List M.Path) (ps : List Path) (n n′ : ℕ) (visits visits′ : List ℕ) → Paired (StandsFor B ys A) qs ps → n ≡ n′ → visits ≡ visits′ →
+      InStep (MomentIs B ys) (EndIs B ys) (M.takingFrom qs n visits) (R.takingFrom A ps n′ visits′)
+  unfolding M.takingFrom R.takingFrom InStep Paired endOf endAs
+  taking-is A [] [] n n′ visits visits′ h e f = refl
+  taking-is A [] (p ∷ ps) n n′ visits visits′ h e f = absurd h
+  taking-is A (q ∷ qs) [] n n′ visits visits′ h e f = absurd h
+  taking-is A (q ∷ qs) (p ∷ ps) n n′ visits visits′ h e f = record { path = h .0; queue = h .1; next = e; visits = f }
+
+  next-is : (L D : ℕ) (s : M.Moment) (t : Moment) → MomentIs B ys s t → InStep (MomentIs B ys) (EndIs B ys) (M.nextAt B L D ys s) (R.nextAt B L D t)
+  unfolding M.nextAt R.nextAt M.taking R.taking InStep endOf endAs
+  next-is L D s t h =
+      subst (λ (b : ℕ). InStep (MomentIs B ys) (EndIs B ys) (M.nextAt B L D ys s) (cond (eqb b (length (B .blocks))) (over (found (finalAt B t))) (R.taking (R.extractAt B L D t .state)))) (blocks-are L D s t h)
+      (go (eqb (s .path .blocks) (length (B .blocks))) refl)
+    where
+      go : (b : Bool) → eqb (s .path .blocks) (length (B .blocks)) ≡ b →
+          InStep (MomentIs B ys) (EndIs B ys) (cond b (over (found (s .path))) (M.taking (M.extractAt B L D ys s .state))) (cond b (over (found (finalAt B t))) (R.taking (R.extractAt B L D t .state)))
+      go true e = ap found (final-is L D s t h (sym (blocks-are L D s t h) ∙ eqb-true (s .path .blocks) (length (B .blocks)) e))
+      go false e =
+          let i = extract-at L D s t h (eqb-false (s .path .blocks) (length (B .blocks)) e) in
+          taking-is _ _ _ _ _ _ _ (i .queue) (i .next) (i .visits)
 
   -- ---- the run
 
-  after-is : (s s′ : Step) (r : M.Run) (r′ : R.Run) → s ≡ s′ → RunIs B ys r r′ → RunIs B ys (M.after s r) (R.after s′ r′)
-  unfolding M.after R.after
-  after-is s s′ r r′ e h = record { steps = ap₂ (λ x l. x ∷ l) (sym e) (h .steps); end = h .end }
-
-  -- runs of so much fuel agree, from any queue and one that stands for it
-  abbrev RunsAgree : ℕ → ℕ → ℕ → Type 0
-  RunsAgree fuel L D =
-      (A : Arrays) (qs : List M.Path) (ps : List Path) (n : ℕ) (visits : List ℕ) → Paired (StandsFor B ys A) qs ps →
-      RunIs B ys (M.run fuel B L D ys qs n visits) (R.run fuel B L D A ps n visits)
-
-  pub run-is : (fuel L D : ℕ) → RunsAgree fuel L D
-  unfolding M.run R.run endOf endAs Paired
-  run-is zero L D A qs ps n visits h = record { steps = refl; end = refl }
-  run-is (suc fuel) L D A [] [] n visits h = record { steps = refl; end = refl }
-  run-is (suc fuel) L D A [] (p ∷ ps) n visits h = absurd h
-  run-is (suc fuel) L D A (q ∷ qs) [] n visits h = absurd h
-  run-is (suc fuel) L D A (q ∷ qs) (p ∷ ps) n visits h =
-      subst (λ (b : ℕ). RunIs B ys (M.run (suc fuel) B L D ys (q ∷ qs) n visits) (cond (eqb b (length (B .blocks))) (R.stopped B A p ps) (R.after (x′ .step) more′))) (stands-blocks B ys A q p (h .0))
-      (go (eqb (q .blocks) (length (B .blocks))) refl (run-is fuel L D))
-    where
-      x : M.Extracted
-      x = M.extract B L D ys q qs n visits
-
-      x′ : R.Extracted
-      x′ = R.extract B L D A p ps n visits
-
-      more : ℕ → List ℕ → M.Run
-      more n visits = M.run fuel B L D ys (x .state .queue) n visits
-
-      more′ : R.Run
-      more′ = R.run fuel B L D (x′ .state .arrays) (x′ .state .queue) (x′ .state .next) (x′ .state .visits)
-
-      go : (t : Bool) → eqb (q .blocks) (length (B .blocks)) ≡ t → RunsAgree fuel L D →
-          RunIs B ys (cond t (M.stopped q) (M.after (x .step) (more (x .state .next) (x .state .visits))))
-          (cond t (R.stopped B A p ps) (R.after (x′ .step) more′))
-      go true e ih = stopped-is A q p ps (h .0) (sym (stands-blocks B ys A q p (h .0)) ∙ eqb-true (q .blocks) (length (B .blocks)) e)
-      go false e ih =
-          let i : StepIs B ys x x′ = extract-is B ys ok ly L D A q p qs ps n visits (h .0) (h .1) (eqb-false (q .blocks) (length (B .blocks)) e) in
-          after-is (x .step) (x′ .step) (more (x .state .next) (x .state .visits)) more′ (i .step)
-          (subst₂ (λ (k : ℕ) (w : List ℕ). RunIs B ys (more k w) more′) (sym (i .next)) (sym (i .visits))
-          (ih (x′ .state .arrays) (x .state .queue) (x′ .state .queue) (x′ .state .next) (x′ .state .visits) (i .queue)))
+  pub traces-are : (L D : ℕ) (A : Arrays) → A .vals (B .m) 1 ≡ ys → TracesInStep (MomentIs B ys) (EndIs B ys) (M.traceOf B L D ys) (R.traceOf B L D A)
+  unfolding M.traceOf R.traceOf M.taking R.taking M.firstState R.firstState Paired
+  traces-are L D A e =
+      traces-in-step (MomentIs B ys) (EndIs B ys) (M.nextAt B L D ys) (R.nextAt B L D) (next-is L D) _ _ _ (taking-is A _ _ _ _ _ _ (first-stands B ys A e, tt) refl refl)

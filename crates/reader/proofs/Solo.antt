@@ -19,11 +19,12 @@ use Rattle.polar.specs.Node.{rest, child}
 use Rattle.polar.proofs.Node.{rest-less}
 use Rattle.codebook.specs.Book.{Book, blockAt}
 use Rattle.queue.specs.Queue.{before, insert, ahead, staying, roomFor, visit}
+use Rattle.queue.proofs.Run.{Leads}
 use Rattle.runs.proofs.Order.{all-insert}
 use Rattle.reader.specs.Arrays.{Arrays, View, valsOf, sumsOf, upd, writes, putVals, putSums, claim, turn, descend}
 use Rattle.outer.specs.Words.{Word}
 use Rattle.reader.specs.Paths.{Path, keyOf, firstPath, place, idsOf, viewOf}
-use Rattle.reader.specs.Reader.{Cut, commit, copyWith, copy, moveWith, move, extract}
+use Rattle.reader.specs.Reader.{Cut, commit, copyWith, copy, moveWith, move, extract, takingFrom}
 use Rattle.reader.proofs.Upd.{upd-other, upd-self}
 use Rattle.reader.proofs.Tree.{rest-late, turn-high, turn-past}
 use Rattle.reader.proofs.Arrays.{Alone, writes-new, writes-keep, writes-alone, claim-ids, descend-keeps}
@@ -186,7 +187,7 @@ module _ (B : Book) where
         cond-case Solo (eqb (getD (visit (t .state .visits) (t .path .blocks)) (t .path .blocks) 0) L) (λ _. solo-keep _ _ q) (λ _. q)
 
     taken-lone : (A : Arrays) (ps : List Path) (n : ℕ) (visits : List ℕ) → Solo ps → Taken Lone A ps n visits
-    unfolding Taken
+    unfolding takingFrom Leads
     taken-lone A [] n visits h = tt
     taken-lone A (p ∷ ps) n visits h = lone _ h
 
@@ -195,7 +196,7 @@ module _ (B : Book) where
     first-solo = ((λ b e z. absurd (omega (arith, e)), tt), tt)
 
     pub run-lone : (A : Arrays) → All Lone (momentsOf B L D A)
-    run-lone A = run-all B L D Lone (λ t h. taken-lone _ _ _ _ (extract-solo t h)) A (taken-lone _ _ _ _ first-solo)
+    run-lone A = run-all B L D Lone (λ t _ h. taken-lone _ _ _ _ (extract-solo t h)) A (taken-lone _ _ _ _ first-solo)
 
   -- ---- what follows
 

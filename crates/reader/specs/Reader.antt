@@ -2,12 +2,13 @@
 use mathlib.Core.Bool.{cond}
 use mathlib.Core.List.{List, [], _∷_}
 use mathlib.Core.Option.{Option, none, some}
-use Prim.Native.Nat.{ℕ, zero, suc, _+_, _-_, _*_}
+use Prim.Native.Nat.{ℕ, zero, suc, _+_, _-_}
 use lib.ListN.{length, replicate}
 use lib.Dec.{eqb}
 use Rattle.codebook.specs.Book.{Book, startOf, blockAt}
 use Rattle.codec.specs.Code.{readData}
-use Rattle.queue.specs.Queue.{insert, staying, outrunBy, numbers, roomFor, crowdedOut, visit, Step, Final, End, found, dry}
+use Rattle.queue.specs.Run.{Next, on, over, Trace, trace, mostExtractions}
+use Rattle.queue.specs.Queue.{insert, staying, outrunBy, numbers, roomFor, crowdedOut, visit, Step, Final, End, found, dry, Run, runIn}
 use Rattle.reader.specs.Arrays.{Arrays, View, valsOf, sumsOf, putSums, claim, descend, joined}
 use Rattle.outer.specs.Words.{Word, nearest, nextAfter}
 use Rattle.reader.specs.Paths.{Path, scoreOf, keyOf, firstPath, lastWord, ownWord, place, idsOf, viewOf}
@@ -100,7 +101,7 @@ move B A p qs =
     let v = nextView B (idsOf qs) A p b in
     moveWith A p v (nearest B (valsOf v (blockAt B b .j)) (p .parities) b)
 
--- ---- one extraction, and the run
+-- ---- one extraction
 
 -- what the reader holds
 pub record State : Type 0 where
@@ -134,35 +135,60 @@ extract B L D A p qs n visits =
           };
     }
 
--- the extractions, and how it ends: with the final word at which step 1 stops
-pub record Run : Type 0 where
-  pub steps : List Step
-  pub end : End Final
+-- ---- the run
 
--- a run with one extraction before it
-unfoldable pub after : Step → Run → Run
-after s r = record { steps = s ∷ r .steps; end = r .end }
+-- a moment, when step 1 is done: the path taken, and what the reader holds without it
+pub record Moment : Type 0 where
+  pub path : Path
+  pub state : State
 
--- the last block's word goes into the sums, which at the root are the final word
-unfoldable pub stopped : Book → Arrays → Path → List Path → Run
-stopped B A p qs =
-    let word = sumsOf (commit B (idsOf qs) p (p .blocks) (viewOf A p)) (B .m) in
-    record {
-      steps = record { path = p .number; blocks = p .blocks; score = scoreOf B p (p .blocks); crowded = []; outrun = [] } ∷ [];
-      end = found (record { word = word; bits = readData B word; discrepancy = p .spent + p .cost });
-    }
+-- step 1 takes the first of the queued paths; with none queued the run is dry
+unfoldable pub takingFrom : Arrays → List Path → ℕ → List ℕ → Next Moment (End Final)
+takingFrom A [] n visits = over dry
+takingFrom A (p ∷ qs) n visits = on (record { path = p; state = record { arrays = A; queue = qs; next = n; visits = visits } })
 
--- step 1 takes the first path, and stops if it has all V blocks; fuel bounds the extractions
-unfoldable pub run : ℕ → Book → ℕ → ℕ → Arrays → List Path → ℕ → List ℕ → Run
-run zero B L D A qs n visits = record { steps = []; end = dry }
-run (suc fuel) B L D A [] n visits = record { steps = []; end = dry }
-run (suc fuel) B L D A (p ∷ qs) n visits =
-    let x = extract B L D A p qs n visits in
-    let more = after (x .step) (run fuel B L D (x .state .arrays) (x .state .queue) (x .state .next) (x .state .visits)) in
-    cond (eqb (p .blocks) (length (B .blocks))) (stopped B A p qs) more
+-- step 1, from what the reader holds
+unfoldable pub taking : State → Next Moment (End Final)
+taking s = takingFrom (s .arrays) (s .queue) (s .next) (s .visits)
 
--- the whole run, from arrays whose root values, array 1, are the received ones
-unfoldable pub runOf : Book → ℕ → ℕ → Arrays → Run
-runOf B L D A =
-    let V′ = length (B .blocks) in
-    run (L * V′ + 1) B L D A (firstPath B ∷ []) 1 (replicate V′ 0)
+-- the extraction at a moment
+unfoldable pub extractAt : Book → ℕ → ℕ → Moment → Extracted
+extractAt B L D t = extract B L D (t .state .arrays) (t .path) (t .state .queue) (t .state .next) (t .state .visits)
+
+-- its step; a path that has all V blocks is taken last, and nothing is removed
+unfoldable pub stepAt : Book → ℕ → ℕ → Moment → Step
+stepAt B L D t =
+    let last : Step =
+    record { path = t .path .number; blocks = t .path .blocks; score = scoreOf B (t .path) (t .path .blocks); crowded = []; outrun = [] } in
+    let more = extractAt B L D t .step in
+    cond (eqb (t .path .blocks) (length (B .blocks))) last more
+
+-- what a path that has all V blocks comes to: its last block's word goes into the sums, which at the root are the final word
+unfoldable pub finalAt : Book → Moment → Final
+finalAt B t =
+    let p = t .path in
+    let word = sumsOf (commit B (idsOf (t .state .queue)) p (p .blocks) (viewOf (t .state .arrays) p)) (B .m) in
+    record { word = word; bits = readData B word; discrepancy = p .spent + p .cost }
+
+-- what an extraction leads to: the run finds the final word, and else goes on
+unfoldable pub nextAt : Book → ℕ → ℕ → Moment → Next Moment (End Final)
+nextAt B L D t =
+    let last : Next Moment (End Final) = over (found (finalAt B t)) in
+    let more = taking (extractAt B L D t .state) in
+    cond (eqb (t .path .blocks) (length (B .blocks))) last more
+
+-- the run begins with path 0 alone, no visits, next number 1, and arrays whose root values, array 1, are the received ones
+unfoldable pub firstState : Book → Arrays → State
+firstState B A = record { arrays = A; queue = firstPath B ∷ []; next = 1; visits = replicate (length (B .blocks)) 0 }
+
+-- the whole run, moment by moment
+unfoldable pub traceOf : Book → ℕ → ℕ → Arrays → Trace Moment (End Final)
+traceOf B L D A = trace (nextAt B L D) (mostExtractions L (length (B .blocks))) (taking (firstState B A))
+
+-- its moments
+unfoldable pub momentsOf : Book → ℕ → ℕ → Arrays → List Moment
+momentsOf B L D A = traceOf B L D A .states
+
+-- its extractions, and how it ends
+unfoldable pub runOf : Book → ℕ → ℕ → Arrays → Run Final
+runOf B L D A = runIn (stepAt B L D) (traceOf B L D A)
