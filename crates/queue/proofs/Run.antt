@@ -26,6 +26,12 @@ module _ {S E : Type 0} where
     trace-length (suc fuel) (on s) = suc-le-suc (trace-length fuel (next s))
     trace-length (suc fuel) (over e) = zero-le
 
+    -- an end is the trace's at once
+    pub trace-over : (fuel : ℕ) (e : E) → trace next fuel (over e) ≡ ended (some e)
+    unfolding trace
+    trace-over zero e = refl
+    trace-over (suc fuel) e = refl
+
     -- ---- what is kept
 
     module _ (P : S → Type 0) (Q : E → Type 0) (kept : (s : S) → P s → Leads P Q (next s)) where

@@ -20,7 +20,7 @@ use Rattle.reader.proofs.Removed.{run-removed}
 use Rattle.reader.proofs.Found.{MoveFound, copy-total, move-found-copied}
 
 -- what holds of all of some moments holds of one among them
-among : (P : Moment → Type 0) (made : List Moment) (here : Moment) (later : List Moment) → All P (made ++ here ∷ later) → P here
+pub among : (P : Moment → Type 0) (made : List Moment) (here : Moment) (later : List Moment) → All P (made ++ here ∷ later) → P here
 unfolding All
 among P [] here later h = h .0
 among P (t ∷ made) here later h = among P made here later (h .1)

@@ -15,11 +15,12 @@ use Rattle.laws.proofs.Lists.{length-snoc, getD-zeros}
 use Rattle.laws.specs.Pairs.{Paired}
 use Rattle.codebook.specs.Book.{Book}
 use Rattle.codebook.specs.Limits.{Valid}
-use Rattle.queue.specs.Queue.{Step, Final, found}
+use Rattle.queue.specs.Run.{on, ended, after, trace, mostExtractions}
+use Rattle.queue.specs.Queue.{Step, Final, found, endIn, runIn}
 use Rattle.reader.specs.Arrays.{Arrays}
 use Rattle.reader.specs.Paths.{Path, keyOf, firstPath}
 use Rattle.reader.specs.Reader as R
-use Rattle.reader.specs.Moments.{Moment, moments, momentsOf, MomentOf, extractAt, stepAt}
+use Rattle.reader.specs.Moments.{Moment, momentsOf, MomentOf, extractAt, stepAt}
 use Rattle.reader.specs.Reached.{Reached}
 use Rattle.reader.proofs.Moments.{step-more}
 use Rattle.reader.proofs.Reached.{first-reached, extract-reached, reached-within}
@@ -62,8 +63,8 @@ pub record Going (B : Book) (values : List ℤ) (L N : ℕ) (A : Arrays) (x : Me
   pub known : Kepts B arrays kept (e ∷ queueOf order (t .queued)) (taken ∷ rest)
   pub alike : Alike (length (B .blocks)) own visits
   pub count : length done + suc fuel ≡ L * length (B .blocks) + 1
-  pub at : momentsOf B L N A ≡ done ++ moments (suc fuel) B L N arrays (taken ∷ rest) (t .next) own
-  pub ends : R.runOf B L N A .end ≡ R.run (suc fuel) B L N arrays (taken ∷ rest) (t .next) own .end
+  pub at : momentsOf B L N A ≡ done ++ trace (R.nextAt B L N) (suc fuel) (on (momentOf arrays taken rest (t .next) own)) .states
+  pub ends : R.runOf B L N A .end ≡ endIn (trace (R.nextAt B L N) (suc fuel) (on (momentOf arrays taken rest (t .next) own)) .end)
   pub extractions : t .extractions ≡ length done
   pub crowded : t .crowded ≡ sum (map crowdedCount (map (stepAt B L N) done))
   pub outrun : t .outrun ≡ sum (map outrunCount (map (stepAt B L N) done))
@@ -84,27 +85,19 @@ module _ (B : Book) (L N : ℕ) where
     fuel-is : fuel ≡ suc less
     queue-is : ps ≡ taken ∷ rest
 
-  onward : (fuel : ℕ) (A : Arrays) (ps : List Path) (n : ℕ) (visits : List ℕ) (f : Final) → R.run fuel B L N A ps n visits .end ≡ found f →
-      Onward fuel ps
-  unfolding R.run
-  onward zero A ps n visits f e = let z : _≡_ {A = ℕ} 0 1 = cc in absurd (omega arith)
+  onward : (fuel : ℕ) (A : Arrays) (ps : List Path) (n : ℕ) (visits : List ℕ) (f : Final) →
+      endIn (trace (R.nextAt B L N) fuel (R.takingFrom A ps n visits) .end) ≡ found f → Onward fuel ps
+  unfolding R.takingFrom trace ended endIn
+  onward zero A [] n visits f e = let z : _≡_ {A = ℕ} 0 1 = cc in absurd (omega arith)
+  onward zero A (p ∷ ps) n visits f e = let z : _≡_ {A = ℕ} 0 1 = cc in absurd (omega arith)
   onward (suc fuel) A [] n visits f e = let z : _≡_ {A = ℕ} 0 1 = cc in absurd (omega arith)
   onward (suc fuel) A (p ∷ ps) n visits f e = record { less = fuel; taken = p; rest = ps; fuel-is = refl; queue-is = refl }
 
-  module _ (fuel : ℕ) (A : Arrays) (p : Path) (ps : List Path) (n : ℕ) (visits : List ℕ) where
+  module _ (A : Arrays) (p : Path) (ps : List Path) (n : ℕ) (visits : List ℕ) where
     -- a path with a next block
-    run-more : (p .blocks ≡ length (B .blocks) → ⊥) →
-        (let x = R.extract B L N A p ps n visits in
-        R.run (suc fuel) B L N A (p ∷ ps) n visits ≡ R.after (x .step) (R.run fuel B L N (x .state .arrays) (x .state .queue) (x .state .next) (x .state .visits)))
-    unfolding R.run
-    run-more d = rw (ne-eqb (p .blocks) (length (B .blocks)) d)
-
-    -- its moment, and those after it
-    moments-more : (p .blocks ≡ length (B .blocks) → ⊥) →
-        (let x = R.extract B L N A p ps n visits .state in
-        moments (suc fuel) B L N A (p ∷ ps) n visits ≡ momentOf A p ps n visits ∷ moments fuel B L N (x .arrays) (x .queue) (x .next) (x .visits))
-    unfolding moments
-    moments-more d = rw (ne-eqb (p .blocks) (length (B .blocks)) d)
+    next-more : (p .blocks ≡ length (B .blocks) → ⊥) → R.nextAt B L N (momentOf A p ps n visits) ≡ R.taking (R.extract B L N A p ps n visits .state)
+    unfolding R.nextAt extractAt
+    next-more d = rw (ne-eqb (p .blocks) (length (B .blocks)) d)
 
     -- its step
     step-is : (p .blocks ≡ length (B .blocks) → ⊥) → stepAt B L N (momentOf A p ps n visits) ≡ R.extract B L N A p ps n visits .step
@@ -117,7 +110,7 @@ pub going-first : (B : Book) (values : List ℤ) (L N : ℕ) (A : Arrays) (x : M
     1 ≤ N → A .vals (B .m) 1 ≡ values → Stands B N x (e ∷ []) (queueOf vacant (N - 1)) A (firstPath B ∷ []) →
     Going B values L N A x order vacant (replicate 512 0) kept
     (record { queued = 0; next = 1; extractions = 0; crowded = 0; outrun = 0 }) e path₀ blocks₀ score₀ path₀ blocks₀ score₀
-unfolding queueOf sum Paired firstPath R.runOf momentsOf
+unfolding queueOf sum Paired firstPath R.runOf runIn momentsOf R.traceOf mostExtractions R.firstState R.taking R.takingFrom
 going-first B values L N A x order vacant kept e path₀ blocks₀ score₀ ok some′ root st =
     let V′ : ℕ = length (B .blocks) in
     record {
@@ -132,8 +125,8 @@ going-first B values L N A x order vacant kept e path₀ blocks₀ score₀ ok s
       known = (record { key = st .queue .0 .key; next = λ b q. absurd (omega arith) }, tt);
       alike = alike-zeros V′ 512 (blocks-few B ok);
       count = omega arith;
-      at = ap (λ n. moments n B L N A (firstPath B ∷ []) 1 (replicate V′ 0)) (add-one (L * V′));
-      ends = ap (λ n. R.run n B L N A (firstPath B ∷ []) 1 (replicate V′ 0) .end) (add-one (L * V′));
+      at = ap (λ n. trace (R.nextAt B L N) n (on (momentOf A (firstPath B) [] 1 (replicate V′ 0))) .states) (add-one (L * V′));
+      ends = ap (λ n. endIn (trace (R.nextAt B L N) n (on (momentOf A (firstPath B) [] 1 (replicate V′ 0))) .end)) (add-one (L * V′));
       extractions = refl;
       crowded = refl;
       outrun = refl;
@@ -198,33 +191,26 @@ module _ {B : Book} {values : List ℤ} {L N : ℕ} {A : Arrays} {x : Memory} {o
     here = momentOf (g .arrays) (g .taken) (g .rest) (t .next) (g .own)
 
     here-step : stepAt B L N here ≡ mine .step
-    here-step = step-is B L N (g .fuel) (g .arrays) (g .taken) (g .rest) (t .next) (g .own) (λ q. omega arith)
+    here-step = step-is B L N (g .arrays) (g .taken) (g .rest) (t .next) (g .own) (λ q. omega arith)
 
-    opened : R.run (suc (g .fuel)) B L N (g .arrays) (g .taken ∷ g .rest) (t .next) (g .own)
-        ≡ R.after (mine .step) (R.run (g .fuel) B L N (mine .state .arrays) (mine .state .queue) (mine .state .next) (mine .state .visits))
-    opened = run-more B L N (g .fuel) (g .arrays) (g .taken) (g .rest) (t .next) (g .own) (λ q. omega arith)
+    opened : R.nextAt B L N here ≡ R.taking (mine .state)
+    opened = next-more B L N (g .arrays) (g .taken) (g .rest) (t .next) (g .own) (λ q. omega arith)
 
     later : Onward B L N (g .fuel) (mine .state .queue)
-    unfolding R.after
+    unfolding R.taking trace after
     later =
         onward B L N (g .fuel) (mine .state .arrays) (mine .state .queue) (mine .state .next) (mine .state .visits) f
-        (ap (λ (r : R.Run). r .end) (sym opened) ∙ sym (g .ends) ∙ finds)
+        (ap (λ z. endIn (trace (R.nextAt B L N) (g .fuel) z .end)) (sym opened) ∙ sym (g .ends) ∙ finds)
 
-    -- the rest of the run from there, and of its moments
+    -- the rest of the run from there
     rest-is : {n : ℕ} → n ≡ mine .state .next →
-        R.run (g .fuel) B L N (mine .state .arrays) (mine .state .queue) (mine .state .next) (mine .state .visits)
-        ≡ R.run (suc (later .less)) B L N (mine .state .arrays) (later .taken ∷ later .rest) n (mine .state .visits)
+        trace (R.nextAt B L N) (suc (g .fuel)) (on here)
+        ≡ after here (trace (R.nextAt B L N) (suc (later .less)) (on (momentOf (mine .state .arrays) (later .taken) (later .rest) n (mine .state .visits))))
+    unfolding R.taking R.takingFrom trace
     rest-is a =
-        ap₂ (λ k qs. R.run k B L N (mine .state .arrays) qs (mine .state .next) (mine .state .visits)) (later .fuel-is) (later .queue-is)
-        ∙ ap (λ k. R.run (suc (later .less)) B L N (mine .state .arrays) (later .taken ∷ later .rest) k (mine .state .visits)) (sym a)
-
-    moments-are : {n : ℕ} → n ≡ mine .state .next →
-        moments (suc (g .fuel)) B L N (g .arrays) (g .taken ∷ g .rest) (t .next) (g .own)
-        ≡ here ∷ moments (suc (later .less)) B L N (mine .state .arrays) (later .taken ∷ later .rest) n (mine .state .visits)
-    moments-are a =
-        moments-more B L N (g .fuel) (g .arrays) (g .taken) (g .rest) (t .next) (g .own) (λ q. omega arith)
-        ∙ ap₂ (λ k qs. here ∷ moments k B L N (mine .state .arrays) qs (mine .state .next) (mine .state .visits)) (later .fuel-is) (later .queue-is)
-        ∙ ap (λ k. here ∷ moments (suc (later .less)) B L N (mine .state .arrays) (later .taken ∷ later .rest) k (mine .state .visits)) (sym a)
+        ap (λ z. after here (trace (R.nextAt B L N) (g .fuel) z)) opened
+        ∙ ap₂ (λ k qs. after here (trace (R.nextAt B L N) k (R.takingFrom (mine .state .arrays) qs (mine .state .next) (mine .state .visits)))) (later .fuel-is) (later .queue-is)
+        ∙ ap (λ k. after here (trace (R.nextAt B L N) (suc (later .less)) (on (momentOf (mine .state .arrays) (later .taken) (later .rest) k (mine .state .visits))))) (sym a)
 
     few : length (g .rest) < N
     few = stands-room (g .stands) .0
@@ -268,7 +254,7 @@ module _ {B : Book} {values : List ℤ} {L N : ℕ} {A : Arrays} {x : Memory} {o
             Going B values L N A y order′ vacant′ visits′ kept′
             (record { queued = r .queued - 1; next = r .next; extractions = r .extractions; crowded = r .crowded; outrun = r .outrun })
             (getD order′ (r .queued - 1) 0) path₀ blocks₀ score₀ path′ blocks′ score′
-        unfolding R.after
+        unfolding after
         going-next {path′} {blocks′} {score′} long noted =
             let s : Step = mine .step in
             let before : List Step = map (stepAt B L N) (g .done) in
@@ -289,8 +275,8 @@ module _ {B : Book} {values : List ℤ} {L N : ℕ} {A : Arrays} {x : Memory} {o
               known = rw (queue-first (r .queued) order′ going-some, later .queue-is) at mine-words;
               alike = subst (Alike (length (B .blocks)) (mine .state .visits)) (sym visits-is) (alike .visits);
               count = omega (arith, g .count, later .fuel-is);
-              at = g .at ∙ ap (λ ms. g .done ++ ms) (moments-are next) ∙ sym (append-assoc (g .done) (here ∷ []) _);
-              ends = g .ends ∙ ap (λ (z : R.Run). z .end) (opened ∙ ap (R.after s) (rest-is next));
+              at = g .at ∙ ap (λ z. g .done ++ z .states) (rest-is next) ∙ sym (append-assoc (g .done) (here ∷ []) _);
+              ends = g .ends ∙ ap (λ z. endIn (z .end)) (rest-is next);
               extractions = omega (arith, g .extractions);
               crowded =
                   crowded-is ∙ ap₂ (λ n (z : Step). n + crowdedCount z) (g .crowded) (sym (alike .step)) ∙ sym (counted crowdedCount);
@@ -319,7 +305,7 @@ module _ {B : Book} {values : List ℤ} {L N : ℕ} {A : Arrays} {x : Memory} {o
 
   -- the moment that it is at
   pub going-moment : MomentOf B L N A (t .extractions) (momentOf (g .arrays) (g .taken) (g .rest) (t .next) (g .own))
-  unfolding moments
+  unfolding trace after
   going-moment = record { made = g .done; later = _; moments = g .at; extractions = g .extractions }
 
   pub going-before : Rising order (t .queued) → (most : ℕ) → t .extractions ≤ most → (t .extractions < most → g .taken .blocks ≡ length (B .blocks)) →

@@ -1,21 +1,24 @@
 -- A run taken up again: memory that stands for one of the run's moments (specs/Before) is a run under way (Going), since what is left of the moments, and of the run, is
--- that of what the reader then holds. By induction on the moments. Assumes nothing.
+-- that of what the reader then holds. By the law of a trace from a state on. Assumes nothing.
 use mathlib.Core.Path.{_≡_, sym, ap, _∙_, subst}
-use mathlib.Core.Bool.{Bool, true, false, cond}
 use mathlib.Core.List.{List, [], _∷_, _++_}
-use Prim.Native.Nat.{ℕ, zero, suc, _+_, _-_, _*_, _≤_, _<_}
+use Prim.Native.Nat.{ℕ, suc, _+_, _-_, _*_, _≤_, _<_}
 use native.Mathlib.Omega.{arith}
 use lib.IntN.{ℤ}
-use lib.ListN.{length, replicate, length-replicate}
-use lib.Dec.{eqb}
+use lib.ListN.{length, length-replicate}
+use Rattle.laws.specs.Lists.{All}
 use Rattle.codebook.specs.Book.{Book}
 use Rattle.codebook.specs.Limits.{Valid}
+use Rattle.queue.specs.Run.{on, Trace, after, trace, mostExtractions}
+use Rattle.queue.specs.Queue.{Final, End, endIn, runIn}
+use Rattle.queue.proofs.Run.{Leads, LeftOf, trace-left}
 use Rattle.reader.specs.Arrays.{Arrays}
-use Rattle.reader.specs.Paths.{Path, firstPath}
+use Rattle.reader.specs.Paths.{Path}
 use Rattle.reader.specs.Reader as R
-use Rattle.reader.specs.Moments.{Moment, moments, momentsOf}
+use Rattle.reader.specs.Moments.{Moment, momentsOf, extractAt}
 use Rattle.reader.specs.Reached.{Reached}
-use Rattle.reader.proofs.During.{during-reached}
+use Rattle.reader.proofs.Moments.{Taken, Stays, run-all}
+use Rattle.reader.proofs.During.{among, during-reached}
 use Rattle.order.specs.Entries.{keyAt}
 use Rattle.standing.specs.Seen.{Memory}
 use Rattle.standing.proofs.Taken.{taken-blocks}
@@ -26,97 +29,61 @@ use Rattle.extraction.proofs.Extracts.{visit-length}
 use Rattle.reading.specs.Before.{Before}
 use Rattle.reading.specs.Turning.{Turning}
 use Rattle.reading.proofs.Visits.{Alike}
-use Rattle.reading.proofs.Going.{Going}
+use Rattle.reading.proofs.Going.{momentOf, Going}
 use Rattle.reading.proofs.Turns.{input-moment}
-use Rattle.reading.proofs.Stops.{none-here}
 
--- ---- what is left of the moments
+-- ---- the visits at every moment
 
 module _ (B : Book) (L D : ℕ) where
-  -- the moments from a moment on, and the run from there
-  abbrev pub From : ℕ → Moment → List Moment
-  From fuel m = moments fuel B L D (m .state .arrays) (m .path ∷ m .state .queue) (m .state .next) (m .state .visits)
+  -- as many as the book's blocks
+  abbrev Long : Moment → Type 0
+  Long t = length (t .state .visits) ≡ length (B .blocks)
 
-  abbrev pub RunFrom : ℕ → Moment → R.Run
-  RunFrom fuel m = R.run fuel B L D (m .state .arrays) (m .path ∷ m .state .queue) (m .state .next) (m .state .visits)
+  taken-long : (A : Arrays) (ps : List Path) (n : ℕ) (visits : List ℕ) → length visits ≡ length (B .blocks) → Taken Long A ps n visits
+  unfolding R.takingFrom Leads
+  taken-long A [] n visits h = tt
+  taken-long A (p ∷ ps) n visits h = h
 
-  pub record LeftOf (fuel : ℕ) (whole : R.Run) (visits : List ℕ) (made : List Moment) (here : Moment) (later : List Moment) : Type 0 where
-    pub less : ℕ
-    pub count : fuel ≡ length made + suc less
-    pub rest : here ∷ later ≡ From (suc less) here
-    pub ends : whole .end ≡ RunFrom (suc less) here .end
-    pub long : length (here .state .visits) ≡ length visits
+  stays-long : Stays B L D Long
+  unfolding extractAt R.extract
+  stays-long t _ h = taken-long _ _ _ _ (visit-length (t .state .visits) (t .path .blocks) ∙ h)
 
-  abbrev pub Left : ℕ → Arrays → List Path → ℕ → List ℕ → List Moment → Moment → List Moment → Type 0
-  Left fuel A ps n visits made here later = LeftOf fuel (R.run fuel B L D A ps n visits) visits made here later
-
-  extract-visits : (A : Arrays) (p : Path) (ps : List Path) (n : ℕ) (visits : List ℕ) → length (R.extract B L D A p ps n visits .state .visits) ≡ length visits
-  unfolding R.extract
-  extract-visits A p ps n visits = visit-length visits (p .blocks)
-
-  moments-left : (fuel : ℕ) (A : Arrays) (ps : List Path) (n : ℕ) (visits : List ℕ) (made : List Moment) (here : Moment) (later : List Moment) →
-      moments fuel B L D A ps n visits ≡ made ++ here ∷ later → Left fuel A ps n visits made here later
-  unfolding moments R.run R.after
-  moments-left zero A ps n visits made here later e = absurd (none-here made here later e)
-  moments-left (suc fuel) A [] n visits made here later e = absurd (none-here made here later e)
-  moments-left (suc fuel) A (p ∷ ps) n visits [] here later e =
-      let h : record { path = p; state = record { arrays = A; queue = ps; next = n; visits = visits } } ≡ here = cc in
-      record {
-        less = fuel;
-        count = omega arith;
-        rest = subst (λ (m : Moment). here ∷ later ≡ From (suc fuel) m) h (sym e);
-        ends = ap (λ (m : Moment). RunFrom (suc fuel) m .end) h;
-        long = ap (λ (m : Moment). length (m .state .visits)) (sym h);
-      }
-  moments-left (suc fuel) A (p ∷ ps) n visits (m ∷ made) here later e =
-      go (eqb (p .blocks) (length (B .blocks))) (cc) (λ k. moments-left fuel _ _ _ _ made here later k)
-    where
-      x : R.Extracted
-      x = R.extract B L D A p ps n visits
-
-      more : List Moment
-      more = moments fuel B L D (x .state .arrays) (x .state .queue) (x .state .next) (x .state .visits)
-
-      rest : R.Run
-      rest = R.run fuel B L D (x .state .arrays) (x .state .queue) (x .state .next) (x .state .visits)
-
-      go : (t : Bool) → cond t [] more ≡ made ++ here ∷ later →
-          (more ≡ made ++ here ∷ later → Left fuel (x .state .arrays) (x .state .queue) (x .state .next) (x .state .visits) made here later) →
-          LeftOf (suc fuel) (cond t (R.stopped B A p ps) (R.after (x .step) rest)) visits (m ∷ made) here later
-      go true k ih = absurd (none-here made here later k)
-      go false k ih =
-          let l = ih k in
-          record {
-            less = l .less;
-            count = omega (arith, l .count);
-            rest = l .rest;
-            ends = l .ends;
-            long = l .long ∙ extract-visits A p ps n visits;
-          }
+  visits-long : (A : Arrays) → All Long (momentsOf B L D A)
+  visits-long A = run-all B L D Long stays-long A (taken-long _ _ _ _ (length-replicate {A = ℕ} (length (B .blocks)) 0))
 
 -- ---- the run under way
 
 module _ {B : Book} {L N : ℕ} {A : Arrays} {most : ℕ} {x : Memory} {order vacant visits kept : List ℕ} {t : Tally} {e : ℕ} {path₀ blocks₀ score₀ path blocks score : List ℤ}
     (g : Before B L N A most x order vacant visits kept t e path₀ blocks₀ score₀ path blocks score) where
-  pub left : Left B L N (L * length (B .blocks) + 1) A (firstPath B ∷ []) 1 (replicate (length (B .blocks)) 0) (g .moment .made) (g .here) (g .moment .later)
-  unfolding momentsOf
-  left = moments-left B L N _ A _ _ _ (g .moment .made) (g .here) (g .moment .later) (g .moment .moments)
+  pub left : LeftOf (R.nextAt B L N) (mostExtractions L (length (B .blocks))) (R.traceOf B L N A) (g .moment .made) (g .here) (g .moment .later)
+  unfolding momentsOf R.traceOf
+  left = trace-left (R.nextAt B L N) _ _ (g .moment .made) (g .here) (g .moment .later) (g .moment .moments)
 
   -- its visits are those of the tables
   pub before-alike : Valid B → length visits ≡ 512 → Alike (length (B .blocks)) (g .here .state .visits) visits
   before-alike ok long =
       record {
-        long = omega (arith, left .long, length-replicate {A = ℕ} (length (B .blocks)) 0);
+        long = omega (arith, among (Long B L N) (g .moment .made) (g .here) (g .moment .later) (subst (All (Long B L N)) (g .moment .moments) (visits-long B L N A)));
         long′ = omega (arith, blocks-few B ok);
         same = λ i h. sym (g .visited i h);
       }
 
-  -- the run from there has its final word
-  pub before-ends : R.runOf B L N A .end
-      ≡ R.run (suc (left .less)) B L N (g .here .state .arrays) (g .here .path ∷ g .here .state .queue) (t .next) (g .here .state .visits) .end
-  unfolding R.runOf
-  before-ends =
-      left .ends ∙ ap (λ k. R.run (suc (left .less)) B L N (g .here .state .arrays) (g .here .path ∷ g .here .state .queue) k (g .here .state .visits) .end) (sym (g .next))
+  -- the rest of the run from there
+  abbrev rest : ℕ → Trace Moment (End Final)
+  rest k = trace (R.nextAt B L N) (suc (left .less)) (on (momentOf (g .here .state .arrays) (g .here .path) (g .here .state .queue) k (g .here .state .visits)))
+
+  pub before-at : momentsOf B L N A ≡ g .moment .made ++ rest (t .next) .states
+  unfolding trace after
+  before-at = g .moment .moments ∙ ap (λ ms. g .moment .made ++ g .here ∷ ms) (left .rest) ∙ ap (λ k. g .moment .made ++ rest k .states) (sym (g .next))
+
+  -- it has the final word
+  pub before-ends : R.runOf B L N A .end ≡ endIn (rest (t .next) .end)
+  unfolding R.runOf runIn trace after
+  before-ends = ap endIn (left .ends) ∙ ap (λ k. endIn (rest k .end)) (sym (g .next))
+
+  pub before-count : length (g .moment .made) + suc (left .less) ≡ L * length (B .blocks) + 1
+  unfolding mostExtractions
+  before-count = sym (left .count)
 
   abbrev pub before-going : (values : List ℤ) → Valid B → Reached B values N (g .here .state .arrays) (g .here .path ∷ g .here .state .queue) → length visits ≡ 512 →
       Going B values L N A x order vacant visits kept t e path₀ blocks₀ score₀ path blocks score
@@ -135,9 +102,8 @@ module _ {B : Book} {L N : ℕ} {A : Arrays} {most : ℕ} {x : Memory} {order va
         reached = reached;
         known = g .known;
         alike = before-alike ok long;
-        count = sym (left .count);
-        at =
-            g .moment .moments ∙ ap (λ ms. g .moment .made ++ ms) (left .rest ∙ ap (λ k. moments (suc n) B L N (s .arrays) (m .path ∷ s .queue) k (s .visits)) (sym (g .next)));
+        count = before-count;
+        at = before-at;
         ends = before-ends;
         extractions = g .moment .extractions;
         crowded = g .crowded;

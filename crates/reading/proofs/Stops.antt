@@ -1,13 +1,12 @@
 -- The end of a run, from what the contract of its extractions says (specs/Before): the moment at which a path with all blocks is taken is the run's last,
--- so the steps of the moments before it and its own are all the run's, and its word is the final one. By induction on the moments. Assumes nothing.
+-- so the steps of the moments before it and its own are all the run's, and its word is the final one. By the law of a trace from a state on. Assumes nothing.
 use mathlib.Core.Path.{_≡_, sym, ap, _∙_, subst}
-use mathlib.Core.Bool.{Bool, true, false, cond}
 use mathlib.Core.List.{List, [], _∷_, _++_, map, map-append}
-use Prim.Native.Nat.{ℕ, zero, suc, _+_, _-_, _*_, _^_, _≤_, _<_}
+use mathlib.Core.Option.{some}
+use Prim.Native.Nat.{ℕ, suc, _+_, _-_, _*_, _^_, _≤_, _<_}
 use native.Mathlib.Omega.{arith}
 use lib.IntN.{ℤ}
 use lib.ListN.{length, length-map}
-use lib.Dec.{eqb}
 use borrow.Author.Tests.{eq-eqb}
 use Rattle.laws.specs.Lists.{sum}
 use Rattle.laws.proofs.Lists.{length-snoc}
@@ -16,12 +15,14 @@ use Rattle.polar.specs.Layers.{part}
 use Rattle.codebook.specs.Book.{Book}
 use Rattle.codebook.specs.Limits.{Valid}
 use Rattle.codec.specs.Code.{readData}
-use Rattle.queue.specs.Queue.{Step}
+use Rattle.queue.specs.Run.{over, ended, trace}
+use Rattle.queue.specs.Queue.{Step, Final, found, Run, endIn, runIn}
+use Rattle.queue.proofs.Run.{trace-over, trace-left}
 use Rattle.reader.specs.Arrays.{Arrays, sumsOf}
 use Rattle.reader.specs.Paths.{Path, scoreOf, keyOf, idsOf, viewOf}
 use Rattle.reader.specs.Fit.{Fit, FitFor}
 use Rattle.reader.specs.Reader as R
-use Rattle.reader.specs.Moments.{Moment, moments, momentsOf, stepAt}
+use Rattle.reader.specs.Moments.{Moment, momentsOf, stepAt}
 use Rattle.reader.proofs.Moments.{run-steps-are}
 use Rattle.reader.proofs.During.{during-fit}
 use Rattle.order.specs.Entries.{keyAt, queueOf}
@@ -43,49 +44,20 @@ use Rattle.reading.proofs.Turns.{ReadAt, run-blocks, input-moment}
 
 -- ---- the moment at which the run stops
 
-pub none-here : (made : List Moment) (here : Moment) (later : List Moment) → [] ≡ made ++ here ∷ later → ⊥
-none-here [] here later e = let z : _≡_ {A = ℕ} 0 1 = cc in omega arith
-none-here (m ∷ made) here later e = let z : _≡_ {A = ℕ} 0 1 = cc in omega arith
-
 module _ (B : Book) (L D : ℕ) where
+  last-next : (t : Moment) → t .path .blocks ≡ length (B .blocks) → R.nextAt B L D t ≡ over (found (R.finalAt B t))
+  unfolding R.nextAt
+  last-next t d = rw (eq-eqb (t .path .blocks) (length (B .blocks)) d)
+
   -- nothing comes after it, and its word is the run's
-  abbrev LastOf : ℕ → Arrays → List Path → ℕ → List ℕ → Moment → List Moment → Type 0
-  LastOf fuel A ps n visits here later =
-      (later ≡ []) × (R.run fuel B L D A ps n visits .end ≡ R.stopped B (here .state .arrays) (here .path) (here .state .queue) .end)
-
-  moments-last : (fuel : ℕ) (A : Arrays) (ps : List Path) (n : ℕ) (visits : List ℕ) (made : List Moment) (here : Moment) (later : List Moment) →
-      moments fuel B L D A ps n visits ≡ made ++ here ∷ later → here .path .blocks ≡ length (B .blocks) → LastOf fuel A ps n visits here later
-  unfolding moments R.run R.after
-  moments-last zero A ps n visits made here later e d = absurd (none-here made here later e)
-  moments-last (suc fuel) A [] n visits made here later e d = absurd (none-here made here later e)
-  moments-last (suc fuel) A (p ∷ ps) n visits [] here later e d =
-      let x = R.extract B L D A p ps n visits in
-      let h : record { path = p; state = record { arrays = A; queue = ps; next = n; visits = visits } } ≡ here = cc in
-      let l : cond (eqb (p .blocks) (length (B .blocks))) [] (moments fuel B L D (x .state .arrays) (x .state .queue) (x .state .next) (x .state .visits)) ≡ later = cc in
-      let q : eqb (p .blocks) (length (B .blocks)) ≡ true = eq-eqb (p .blocks) (length (B .blocks)) (ap (λ (m : Moment). m .path .blocks) h ∙ d) in (
-        sym l ∙ ap (λ (t : Bool). cond t [] (moments fuel B L D (x .state .arrays) (x .state .queue) (x .state .next) (x .state .visits))) q,
-        ap (λ (t : Bool). cond t (R.stopped B A p ps) (R.after (x .step) (R.run fuel B L D (x .state .arrays) (x .state .queue) (x .state .next) (x .state .visits))) .end) q
-            ∙ ap (λ (m : Moment). R.stopped B (m .state .arrays) (m .path) (m .state .queue) .end) h,
-      )
-  moments-last (suc fuel) A (p ∷ ps) n visits (m ∷ made) here later e d =
-      go (eqb (p .blocks) (length (B .blocks))) (cc) (λ k. moments-last fuel _ _ _ _ made here later k d)
-    where
-      x : R.Extracted
-      x = R.extract B L D A p ps n visits
-
-      more : List Moment
-      more = moments fuel B L D (x .state .arrays) (x .state .queue) (x .state .next) (x .state .visits)
-
-      rest : R.Run
-      rest = R.run fuel B L D (x .state .arrays) (x .state .queue) (x .state .next) (x .state .visits)
-
-      end : R.Run
-      end = R.stopped B (here .state .arrays) (here .path) (here .state .queue)
-
-      go : (t : Bool) → cond t [] more ≡ made ++ here ∷ later → (more ≡ made ++ here ∷ later → (later ≡ []) × (rest .end ≡ end .end)) →
-          (later ≡ []) × (cond t (R.stopped B A p ps) (R.after (x .step) rest) .end ≡ end .end)
-      go true k ih = absurd (none-here made here later k)
-      go false k ih = ih k
+  moments-last : (A : Arrays) (made : List Moment) (here : Moment) (later : List Moment) → momentsOf B L D A ≡ made ++ here ∷ later →
+      here .path .blocks ≡ length (B .blocks) → (later ≡ []) × (R.runOf B L D A .end ≡ found (R.finalAt B here))
+  unfolding momentsOf R.runOf runIn R.traceOf ended endIn
+  moments-last A made here later e d =
+      let l = trace-left (R.nextAt B L D) _ _ made here later e in
+      let over : trace (R.nextAt B L D) (l .less) (R.nextAt B L D here) ≡ ended (some (found (R.finalAt B here))) =
+      ap (trace (R.nextAt B L D) (l .less)) (last-next here d) ∙ trace-over (R.nextAt B L D) (l .less) _ in
+      (l .rest ∙ ap (λ z. z .states) over, ap endIn (l .ends ∙ ap (λ z. z .end) over))
 
   -- its step
   last-step : (t : Moment) → t .path .blocks ≡ length (B .blocks) →
@@ -129,15 +101,14 @@ module _ {s : Setting} {values : List ℤ} {kinds terms heights starts : List �
           outrun = [];
         }
 
-    abbrev whole : R.Run
+    abbrev whole : Run Final
     whole = R.runOf (c .book) (s .visits) (s .paths) A
 
     abbrev done : List Step
     done = map (stepAt (c .book) (s .visits) (s .paths)) (g .moment .made)
 
-    last-of : (g .moment .later ≡ []) × (whole .end ≡ R.stopped (c .book) (g .here .state .arrays) (g .here .path) (g .here .state .queue) .end)
-    unfolding momentsOf R.runOf
-    last-of = moments-last (c .book) (s .visits) (s .paths) _ _ _ _ _ (g .moment .made) (g .here) (g .moment .later) (g .moment .moments) all
+    last-of : (g .moment .later ≡ []) × (whole .end ≡ found (R.finalAt (c .book) (g .here)))
+    last-of = moments-last (c .book) (s .visits) (s .paths) A (g .moment .made) (g .here) (g .moment .later) (g .moment .moments) all
 
     last-steps : whole .steps ≡ done ++ lastStep ∷ []
     last-steps =
@@ -190,7 +161,7 @@ module _ {s : Setting} {values : List ℤ} {kinds terms heights starts : List �
     pub stop-ran : (r : Ran) (bytes : List ℕ) → (r .extractions ≡ t .extractions + 1) × (r .crowded ≡ t .crowded) × (r .outrun ≡ t .outrun) →
         (r .discrepancy ≡ g .here .path .spent + g .here .path .cost) × Id (s .paths) (r .id)
         × (part (spot (s .m) (r .id) (s .m)) (2 ^ (s .m)) bytes ≡ sumsOf (committed stop-hand) (s .m)) → RanIs (s .m) (s .paths) whole r bytes
-    unfolding R.stopped
+    unfolding R.finalAt
     stop-ran r bytes n w =
         let B : Book = c .book in
         let p : Path = g .here .path in

@@ -7,9 +7,8 @@ use lib.IntN.{ℤ}
 use Rattle.laws.specs.Lists.{All, sum}
 use Rattle.polar.specs.Layers.{part, overAt, Within}
 use Rattle.codebook.specs.Book.{Book}
-use Rattle.queue.specs.Queue.{Step, Final, found}
+use Rattle.queue.specs.Queue.{Step, Final, found, Run}
 use Rattle.reader.specs.Arrays.{Arrays}
-use Rattle.reader.specs.Reader.{Run}
 use Rattle.heights.specs.Workspace.{spot, Id}
 use Rattle.steps.specs.declared.Setting.{Setting}
 pub use Rattle.start.specs.Start.{InTables}
@@ -34,7 +33,7 @@ pub record Running (s : Setting) (values : List ℤ) (kinds terms heights starts
   pub range : All (Within 2047) values
 
 -- what a run answers, and where it leaves the final word
-pub record RanIs (m N : ℕ) (r : Run) (x : Ran) (bytes : List ℕ) : Type 0 where
+pub record RanIs (m N : ℕ) (r : Run Final) (x : Ran) (bytes : List ℕ) : Type 0 where
   pub final : Final
   pub ends : r .end ≡ found final
   pub extractions : x .extractions ≡ length (r .steps)

@@ -1,6 +1,6 @@
 -- The run stops with a full path within `mostExtractions`, L x V + 1,, and no block is entered more than L times. The invariant: no block that a
 -- queued path has still to enter was visited L times; so each extraction adds a visit, and there are at most L x V. Assumes nothing.
-use mathlib.Core.Path.{_≡_, refl, sym, ap, _∙_, subst}
+use mathlib.Core.Path.{_≡_, sym, ap, _∙_, subst}
 use mathlib.Core.Logic.{_≢_}
 use mathlib.Core.Bool.{Bool, cond, not}
 use mathlib.Core.List.{List, [], _∷_}
@@ -177,7 +177,7 @@ module _ (B : Book) (L D : ℕ) (ys : List ℤ) where
   abbrev V′ : ℕ
   V′ = length (B .blocks)
 
-  -- so it is at a moment
+  -- what a moment needs for the rest of the run
   abbrev GoingAt : Moment → Type 0
   GoingAt t = Going B L (t .path ∷ t .state .queue) (t .state .visits)
 
@@ -223,6 +223,7 @@ module _ (B : Book) (L D : ℕ) (ys : List ℤ) where
   -- ---- the entries
 
   module _ (b : ℕ) (l : b < V′) where
+    -- the path enters block b, counted
     entry : Path → ℕ
     entry p = cond (eqb (p .blocks) b) 1 0
 

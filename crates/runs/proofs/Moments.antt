@@ -13,7 +13,7 @@ use Rattle.laws.specs.Pairs.{Paired}
 use Rattle.laws.proofs.Tests.{cond-case}
 use Rattle.codebook.specs.Book.{Book}
 use Rattle.queue.specs.Run.{Next}
-use Rattle.queue.specs.Queue.{Step, End, endIn, runIn}
+use Rattle.queue.specs.Queue.{End, endIn, runIn}
 use Rattle.queue.proofs.Run.{Leads, states-all, end-may}
 use Rattle.machine.specs.Machine.{Path, State, Moment, extract, takingFrom, taking, extractAt, stepAt, nextAt, firstState, traceOf, momentsOf, runOf}
 use Rattle.runs.specs.Runs.{stateOf, stateAt, Takes, Finds}
