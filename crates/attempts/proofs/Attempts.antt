@@ -15,7 +15,7 @@ use Rattle.codebook.specs.declared.Outcome.the-variants.{Done, Refused}
 use Rattle.codebook.specs.Book.{Book}
 use Rattle.codebook.specs.Loading.{load, refused, loaded}
 use Rattle.machine.specs.declared.Decoded.{Decoded}
-use Rattle.queue.specs.Queue.{Step, Final}
+use Rattle.queue.specs.Queue.{Step, Final, Run}
 use Rattle.machine.specs.Calls.{Input, Lent, barred, finalIn, within, noCounts, numbersNeeded, bytesNeeded, walked, afterRun, isDone}
 use Rattle.reader.specs.Reader as R
 use Rattle.reading.specs.Running.{arraysOf, received}
@@ -41,7 +41,7 @@ module _ (hook : Bool) (c : Input) (l : Lent) where
     unfolding attempted attemptWith unbarred
     yields-barred r x found info b = yields-none r x found info (rw (e, b) refl)
 
-    abbrev run : R.Run
+    abbrev run : Run Final
     run = readerRun B c l
 
     clear : isDone (answerOf (c .T) (run .steps) (run .end) .outcome) ≡ true → within (c .T) (run .end) ≡ true

@@ -7,9 +7,8 @@ use lib.IntN.{ℤ}
 use lib.ListN.{length, drop, replicate}
 use lib.Seq.{drop-length}
 use Rattle.polar.specs.Layers.{part}
-use Rattle.queue.specs.Queue.{Final}
+use Rattle.queue.specs.Queue.{Final, Run}
 use Rattle.machine.specs.Calls.{finalIn, countsOf}
-use Rattle.reader.specs.Reader.{Run}
 use Rattle.heights.specs.Workspace.{spot}
 use Rattle.steps.specs.declared.Setting.{Setting}
 use Rattle.reading.specs.declared.Ran.{Ran}
@@ -22,7 +21,7 @@ all-cleared v l n e k q = rw (q, e, drop-length l) (append-nil (replicate (lengt
 pub deep-enough : {s : Setting} {values : List ℤ} {kinds terms heights starts : List ℕ} {biases : List ℤ} → Running s values kinds terms heights starts biases → s .m ≤ 9
 deep-enough c = omega (arith, c .tables .booked .valid .high, c .deep)
 
-module _ {m N : ℕ} {run : Run} {x : Ran} {bytes : List ℕ} (r : RanIs m N run x bytes) where
+module _ {m N : ℕ} {run : Run Final} {x : Ran} {bytes : List ℕ} (r : RanIs m N run x bytes) where
   -- the final word is the end's
   found-is : r .final ≡ finalIn (run .end)
   unfolding finalIn

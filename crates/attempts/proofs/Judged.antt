@@ -19,7 +19,7 @@ use Rattle.codebook.specs.declared.Sizes.{Sizes}
 use Rattle.codebook.specs.Book.{Kind, freeCount}
 use Rattle.codebook.proofs.Placing.{free-le}
 use Rattle.machine.specs.declared.Counts.{Counts}
-use Rattle.queue.specs.Queue.{Final}
+use Rattle.queue.specs.Queue.{Final, Run}
 use Rattle.machine.specs.Calls.{finalIn, within, countsOf}
 use Rattle.runs.specs.Runs.{Exact}
 use Rattle.runs.proofs.Handed.{found-within}
@@ -86,7 +86,7 @@ module _ {x : Sizes} {values : List ℤ} {kinds terms heights starts : List ℕ}
 
   -- the reader's run, from arrays whose root holds the values
   module _ (L D : ℕ) (visited : 1 ≤ L) (A : Arrays) (root : A .vals (x .m) 1 ≡ values) where
-    abbrev run : R.Run
+    abbrev run : Run Final
     run = R.runOf (r .book) L D A
 
     at-root : A .vals (r .book .m) 1 ≡ values

@@ -9,6 +9,7 @@ use lib.Seq.{length-take-le}
 use Rattle.codebook.specs.Book.{Book}
 use Rattle.codebook.specs.Loading.{loaded, load}
 use Rattle.codebook.proofs.Loaded.{loaded-valid}
+use Rattle.queue.specs.Run.{mostExtractions}
 use Rattle.machine.specs.declared.Counts.{Counts}
 use Rattle.machine.specs.Calls.{Input, Lent, numbersNeeded, finalIn, countsOf, afterRun}
 use Rattle.runs.specs.Runs.{Exact}
@@ -54,7 +55,7 @@ whole-attempt hook c l B e b = rw (e, b) agreed
   where
     agreed : Agreed B c l (countsOf (readerRun B c l .steps) (finalIn (readerRun B c l .end))) (afterRun B c l (readerRun B c l .steps) (finalIn (readerRun B c l .end)) false)
     agreed =
-        unfold readerRun afterRun in
+        unfold mostExtractions readerRun afterRun in
         let ok = loaded-valid (c .book) B e in
         let f = nothing-bars B c l (fitsFor hook B) b in
         let root = lent-root B c l f in

@@ -13,8 +13,10 @@ use Rattle.laws.specs.Lists.{All, tab, sum}
 use Rattle.laws.proofs.Lists.{getD-zeros, length-tab, tab-same, tab-first}
 use Rattle.codebook.specs.Book.{Book, startOf}
 use Rattle.codebook.specs.Limits.{Valid}
-use Rattle.queue.specs.Queue.{Step, found, endAs}
-use Rattle.machine.specs.Machine.{Path, Run, path, scoreOf, emptyPath, extract, after, stopped, run, runOf}
+use Rattle.queue.specs.Run.{ended, after, trace, mostExtractions}
+use Rattle.queue.specs.Queue.{Step, found, endAs, Run, endIn, runIn}
+use Rattle.queue.proofs.Run.{trace-over}
+use Rattle.machine.specs.Machine.{Path, path, scoreOf, emptyPath, extract, takingFrom, taking, extractAt, stepAt, nextAt, firstState, traceOf, runOf}
 use Rattle.machine.specs.Calls.{endOf, finalIn, countsOf}
 use Rattle.steprecords.specs.declared.StepRecord.{StepRecord}
 use Rattle.steprecords.specs.Records.{recordOf}
@@ -42,7 +44,7 @@ module _ (B : Book) (ok : Valid B) (ys : List ℤ) (w : List ℕ) (clean : Clean
   V′ = length (B .blocks)
 
   -- what a run comes to, from path 0 with b blocks on, where k are left
-  record Reads (b k : ℕ) (x : Run) : Type 0 where
+  record Reads (b k : ℕ) (x : Run Path) : Type 0 where
     walk : map recordOf (x .steps) ≡ tab (suc k) (λ i. cleanRecord B (b + i))
     end : x .end ≡ found (rightPath B ys w V′)
     crowded : sum (map (λ (s : Step). length (s .crowded)) (x .steps)) + crowdedOf L D (earlier B b) ≡ crowdedOf L D (earlier B V′)
@@ -54,8 +56,9 @@ module _ (B : Book) (ok : Valid B) (ys : List ℤ) (w : List ℕ) (clean : Clean
   own-record b l = ap (λ z. record { path = pos 0; blocks = pos b; score = z }) (right-score B ok ys w clean b l) ∙ ap (cleanRecord B) (sym (add-zero b))
 
   -- the last extraction
-  reads-last : (b : ℕ) → b ≡ V′ → Reads b 0 (stopped (rightPath B ys w b))
-  unfolding stopped path recordOf sum tab
+  reads-last : (b : ℕ) → b ≡ V′ →
+      Reads b 0 (record { steps = record { path = 0; blocks = b; score = rightPath B ys w b .score; crowded = []; outrun = [] } ∷ []; end = found (rightPath B ys w b) })
+  unfolding path recordOf sum tab
   reads-last b e =
       record {
         walk = ap (λ x. x ∷ []) (own-record b (omega arith));
@@ -65,9 +68,9 @@ module _ (B : Book) (ok : Valid B) (ys : List ℤ) (w : List ℕ) (clean : Clean
       }
 
   -- an extraction before others
-  reads-after : (b k : ℕ) (qs : List Path) (n : ℕ) (visits : List ℕ) (x : Run) → b < V′ → Turn B ys w L D b qs n visits → Reads (suc b) k x →
-      Reads b (suc k) (after (extract B L D ys (rightPath B ys w b) qs n visits .step) x)
-  unfolding after extract path recordOf sum
+  reads-after : (b k : ℕ) (qs : List Path) (n : ℕ) (visits : List ℕ) (x : Run Path) → b < V′ → Turn B ys w L D b qs n visits → Reads (suc b) k x →
+      Reads b (suc k) (record { steps = extract B L D ys (rightPath B ys w b) qs n visits .step ∷ x .steps; end = x .end })
+  unfolding extract path recordOf sum
   reads-after b k qs n visits x l t m =
       let later : tab (suc k) (λ i. cleanRecord B (suc b + i)) ≡ tab (suc k) (λ i. cleanRecord B (b + suc i)) =
       tab-same (suc k) _ _ (λ i _. let e : suc b + i ≡ b + suc i = omega arith in ap (cleanRecord B) e) in
@@ -78,16 +81,20 @@ module _ (B : Book) (ok : Valid B) (ys : List ℤ) (w : List ℕ) (clean : Clean
         outrun = omega (arith, t .outrun, m .outrun);
       }
 
-  reads : (fuel b k : ℕ) (qs : List Path) (n : ℕ) (visits : List ℕ) → b + k ≡ V′ → k < fuel → Going B L D b qs visits → Reads b k (run fuel B L D ys (rightPath B ys w b ∷ qs) n visits)
-  unfolding run path
+  -- so many extractions, from step 1 on
+  abbrev from : ℕ → List Path → ℕ → List ℕ → Run Path
+  from fuel qs n visits = runIn (stepAt B L D ys) (trace (nextAt B L D ys) fuel (takingFrom qs n visits))
+
+  reads : (fuel b k : ℕ) (qs : List Path) (n : ℕ) (visits : List ℕ) → b + k ≡ V′ → k < fuel → Going B L D b qs visits → Reads b k (from fuel (rightPath B ys w b ∷ qs) n visits)
+  unfolding ended after trace endIn runIn takingFrom taking extractAt stepAt nextAt path
   reads zero b k qs n visits e f g = absurd (omega arith)
-  reads (suc fuel) b zero qs n visits e f g = rw (eq-eqb b V′ (omega arith)) (reads-last b (omega arith))
+  reads (suc fuel) b zero qs n visits e f g = rw (eq-eqb b V′ (omega arith), trace-over (nextAt B L D ys) fuel) (reads-last b (omega arith))
   reads (suc fuel) b (suc k) qs n visits e f g =
       let l : b < V′ = omega arith in
       let t : Turn B ys w L D b qs n visits = turn B ok ys w clean L D hd b qs n visits l g in
       let x = extract B L D ys (rightPath B ys w b) qs n visits .state in
-      let m : Reads (suc b) k (run fuel B L D ys (x .queue) (x .next) (x .visits)) =
-      subst (λ (q : List Path). Reads (suc b) k (run fuel B L D ys q (x .next) (x .visits))) (sym (t .queue)) (reads fuel (suc b) k (t .rest) (x .next) (x .visits) (omega arith) (omega arith) (t .going)) in
+      let m : Reads (suc b) k (from fuel (x .queue) (x .next) (x .visits)) =
+      subst (λ (q : List Path). Reads (suc b) k (from fuel q (x .next) (x .visits))) (sym (t .queue)) (reads fuel (suc b) k (t .rest) (x .next) (x .visits) (omega arith) (omega arith) (t .going)) in
       rw (ne-eqb b V′ (λ q. omega arith)) (reads-after b k qs n visits _ l t m)
 
   -- ---- the theorem
@@ -97,9 +104,9 @@ module _ (B : Book) (ok : Valid B) (ys : List ℤ) (w : List ℕ) (clean : Clean
     steps = runOf B L D ys .steps
 
     whole : Reads 0 V′ (runOf B L D ys)
-    unfolding runOf emptyPath path scoreOf All startOf earlier
+    unfolding mostExtractions firstState taking traceOf runOf emptyPath path scoreOf All startOf earlier
     whole =
-        reads (L * V′ + 1) 0 V′ [] 1 (replicate V′ 0) (zero-add V′) (omega (arith, mul-le-mul-right V′ h, one-mul V′))
+        reads (mostExtractions L V′) 0 V′ [] 1 (replicate V′ 0) (zero-add V′) (omega (arith, mul-le-mul-right V′ h, one-mul V′))
         (record { under = tt; sized = length-replicate V′ 0; fresh = λ i _. getD-zeros V′ i; counted = omega (arith, crowded-none L D, outrun-none L) })
 
     clean-walk : map recordOf steps ≡ cleanWalk B

@@ -8,6 +8,7 @@ use lib.ListN.{length}
 use Rattle.codebook.specs.declared.Refusal.{Refusal}
 use Rattle.codebook.specs.Book.{Book}
 use Rattle.codebook.specs.Loading.{Load, refused, loaded, load}
+use Rattle.queue.specs.Run.{mostExtractions}
 use Rattle.machine.specs.Calls.{Input, Lent, barred, countsOf, noCounts, plainRan, plainRefused, plainChecked, plainWith, plainCall}
 use Rattle.runs.proofs.Ends.{run-steps}
 use Rattle.attempts.proofs.Unbarred.{nothing-bars}
@@ -19,7 +20,7 @@ pub record WalkWithin (n : ℕ) (l : Lent) : Type 0 where
   pub scores : n ≤ length (l .walkScore)
 
 pub plain-within : (c : Input) (l : Lent) → WalkWithin (plainCall c l .answer .counts .extractions) l
-unfolding plainCall plainWith plainChecked plainRefused plainRan noCounts countsOf
+unfolding plainCall plainWith plainChecked plainRefused plainRan noCounts countsOf mostExtractions
 plain-within c l = go (load (c .book))
   where
     checked : (B : Book) (o : Option Refusal) → barred B c l true ≡ o → WalkWithin (plainChecked B c l o .answer .counts .extractions) l

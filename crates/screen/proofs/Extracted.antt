@@ -14,6 +14,7 @@ use Rattle.codebook.specs.declared.Refusal.{Refusal}
 use Rattle.codebook.specs.Book.{Book}
 use Rattle.codebook.specs.Loading.{Load, refused, loaded, load}
 use Rattle.machine.specs.declared.Counts.{Counts}
+use Rattle.queue.specs.Run.{mostExtractions}
 use Rattle.queue.specs.Queue.{Step}
 use Rattle.machine.specs.Calls.{Input, Lent, settingsOk, walkNeeded, barred, countsOf, noCounts, walked, afterRun}
 use Rattle.machine.specs.Calls.{plainRan, plainRefused, plainChecked, plainWith, plainCall, hookRan, hookRefused, hookChecked, hookWith, hookCall}
@@ -65,7 +66,7 @@ hook-extracted c l = go (load (c .book))
 
 -- where the records are not too few, there is one for each extraction
 steps-roomy : (hook : Bool) (c : Input) (l : Lent) (room : ℕ) → few c room ≡ false → length (stepsOf hook c l) ≤ room
-unfolding few fewWith stepsOf stepsWith stepsUnbarred walkNeeded
+unfolding few fewWith stepsOf stepsWith stepsUnbarred walkNeeded mostExtractions
 steps-roomy hook c l room = go (load (c .book))
   where
     enough : (s : Bool) (n : ℕ) → T s → (s && ltb room n) ≡ false → n ≤ room

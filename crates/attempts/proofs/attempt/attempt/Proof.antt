@@ -12,9 +12,8 @@ use borrow.Author.Needs.{needs}
 use Rattle.polar.specs.Layers.{part}
 use Rattle.codebook.specs.Progress.{tables}
 use Rattle.coding.proofs.Told.{Known, known-small, sizes-refused, sizes-known}
-use Rattle.queue.specs.Queue.{Step}
+use Rattle.queue.specs.Queue.{Step, Final, Run}
 use Rattle.machine.specs.Calls.{Input, Lent, given, lent, barred, finalIn, within, walked}
-use Rattle.reader.specs.Reader.{Run}
 use Rattle.attempts.specs.Reading.{readerRun}
 use Rattle.attempts.specs.Attempt.{fitsFor, answerOf, Ready}
 use Rattle.attempts.proofs.Attempts.{yields-refused, yields-barred, yields-ran, yields-lent, reader-same}
@@ -214,7 +213,7 @@ returns-3 c =
     let info = l .1 .1 .1 .1 .1 .1 .0 in
     let o =
     subst
-    (λ (y : Run). (j .judge .result ≡ answerOf (a .limit) (y .steps) (y .end))
+    (λ (y : Run Final). (j .judge .result ≡ answerOf (a .limit) (y .steps) (y .end))
     × (after .walkPath ≡ walked (λ (z : Step). pos (z .path)) (y .steps) (a .walk-path .now))
     × (after .walkBlocks ≡ walked (λ (z : Step). pos (z .blocks)) (y .steps) (a .walk-blocks .now))
     × (after .walkScore ≡ walked (λ (z : Step). z .score) (y .steps) (a .walk-score .now))

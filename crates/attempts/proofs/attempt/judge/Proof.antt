@@ -18,6 +18,7 @@ use Rattle.coding.proofs.Told.{zeros-part}
 use Rattle.machine.specs.Calls.{finalIn}
 use Rattle.runs.specs.Runs.{Exact}
 use Rattle.reader.specs.Arrays.{Arrays}
+use Rattle.queue.specs.Queue.{Final, Run}
 use Rattle.reader.specs.Reader as R
 use Rattle.reading.specs.Running.{arraysOf, received}
 use Rattle.reading.proofs.Received.{received-root}
@@ -132,7 +133,7 @@ root s r =
     received-root (a .x .m) (a .paths) (a .values .now) (take (a .paths * (2 * a .x .n + 32)) (a .numbers .now)) (numbers-room r (a .paths) (a .numbers .now) (s .pre .1 .1 .0 .0)) (omega arith)
     (r .fits ∙ ap (λ m. 2 ^ m) (sym (r .deep))) _
 
-abbrev run : (s : tie.Start) → Input s → R.Run
+abbrev run : (s : tie.Start) → Input s → Run Final
 run s r = R.runOf (r .book) (s .args .visits) (s .args .paths) (arrays s)
 
 final-exact : (s : tie.Start) (r : Input s) → Exact (r .book) (s .args .values .now) (finalIn (run s r .end))
