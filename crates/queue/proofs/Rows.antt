@@ -1,11 +1,12 @@
 -- Every row on small queues holds: by computing with the definitions. Assumes nothing.
 use mathlib.Core.Path.{refl}
 use Rattle.laws.specs.Lists.{keep}
+use Rattle.queue.specs.Run.{mostExtractions}
 use Rattle.queue.specs.Queue.{before, insert, ahead, behind, staying, outrunBy, numbers, roomFor, crowdedOut, visit}
 use Rattle.queue.specs.Rows.{path, own, queued, Rows}
 
 pub rows-hold : Rows
-unfolding keep before insert ahead behind staying outrunBy numbers roomFor crowdedOut visit path own queued
+unfolding keep before insert ahead behind staying outrunBy numbers roomFor crowdedOut visit mostExtractions path own queued
 rows-hold =
     record {
       between = refl;
@@ -22,5 +23,6 @@ rows-hold =
       noneOutrun = refl;
       laterStay = refl;
       laterOutrun = refl;
+      most = refl;
       visited = refl;
     }

@@ -3,6 +3,7 @@ use mathlib.Core.Path.{_≡_}
 use mathlib.Core.List.{List, [], _∷_}
 use Prim.Native.Nat.{ℕ}
 use lib.IntN.{ℤ, pos, negℤ}
+use Rattle.queue.specs.Run.{mostExtractions}
 use Rattle.queue.specs.Queue.{Key, insert, staying, outrunBy, numbers, roomFor, crowdedOut, visit}
 
 -- a path's key by its score, blocks and number; it is its own key
@@ -36,5 +37,7 @@ pub record Rows : Type 0 where
   pub noneOutrun : numbers own (outrunBy own 2 2 (2 ∷ 2 ∷ 1 ∷ []) queued) ≡ []
   pub laterStay : numbers own (staying own 2 2 (2 ∷ 2 ∷ 3 ∷ []) queued) ≡ 6 ∷ 8 ∷ 3 ∷ 9 ∷ 1 ∷ []
   pub laterOutrun : numbers own (outrunBy own 2 2 (2 ∷ 2 ∷ 3 ∷ []) queued) ≡ []
+  -- with four visits and three blocks a walk has at most 13 entries
+  pub most : mostExtractions 4 3 ≡ 13
   -- a visit counts for its own block alone
   pub visited : visit (3 ∷ 5 ∷ 0 ∷ []) 1 ≡ 3 ∷ 6 ∷ 0 ∷ []

@@ -1,5 +1,5 @@
--- The moments of the reader's run (specs/Reader): which of them it is; what step 2 leaves of the queue and what step 4 finds; and what a step says of the numbers
--- that the queue loses. Of the reader alone. Assumes nothing.
+-- The moments of the reader's run (specs/Reader): the one at which so many extractions are done; what step 2 leaves of the queue and what step 4 finds; and what a step says of
+-- the numbers that the queue loses. Of the reader alone. Assumes nothing.
 use mathlib.Core.Path.{_≡_}
 use mathlib.Core.List.{List, _∷_, _++_}
 use Prim.Native.Nat.{ℕ, _^_}

@@ -1,4 +1,4 @@
--- The run stops with a full path within `mostExtractions`, L x V + 1,, and no block is entered more than L times. The invariant: no block that a
+-- The run stops with a full path within L x V + 1 extractions (`mostExtractions`), and no block is entered more than L times. The invariant: no block that a
 -- queued path has still to enter was visited L times; so each extraction adds a visit, and there are at most L x V. Assumes nothing.
 use mathlib.Core.Path.{_≡_, sym, ap, _∙_, subst}
 use mathlib.Core.Logic.{_≢_}
