@@ -28,10 +28,10 @@ extern "C" {
         biases: *mut i32,
     ) -> u32;
     fn measured_run(
-        m: usize,
-        blocks: usize,
+        m: u32,
+        blocks: u32,
         visits: u32,
-        paths: usize,
+        paths: u32,
         values: *const i16,
         values_len: usize,
         kinds: *const u8,
@@ -103,10 +103,10 @@ impl Proved {
         // range, and workspace and walk have the sizes asked for.
         unsafe {
             measured_run(
-                self.m,
-                self.blocks,
+                self.m as u32,
+                self.blocks as u32,
                 l as u32,
-                d,
+                d as u32,
                 values.as_ptr(),
                 values.len(),
                 self.kinds.as_ptr(),

@@ -24,17 +24,17 @@ use Rattle.advance.proofs.Sides.{ahead-in, ahead-out, behind-in, behind
 use Rattle.steps.proofs.Tails.{Ending, ending, topOf, top-length, top-none, top-all, top-last}
 
 -- the paths of the first i entries are passed, `gone` of them gone; n are still to come
-pub record Passed (B : Book) (N : ℕ) (x : Memory) (order vs : List ℕ) (A : Arrays) (ps : List Path) (b n i gone : ℕ) : Type 0 where
+pub record Passed (B : Book) (D N : ℕ) (x : Memory) (order vs : List ℕ) (A : Arrays) (ps : List Path) (b n i gone : ℕ) : Type 0 where
   pub front : List Path
   pub rest : List Path
   pub whole : ps ≡ front ++ rest
   pub place : length front ≡ n
   pub count : gone ≡ length (behind (keyOf B) b rest)
-  pub stands : Stands B N x (topOf order i n ++ ahead keyAt b (queueOf order i)) vs A (front ++ ahead (keyOf B) b rest)
+  pub stands : Stands B D N x (topOf order i n ++ ahead keyAt b (queueOf order i)) vs A (front ++ ahead (keyOf B) b rest)
 
 -- none yet
-pub passed-none : {B : Book} {N : ℕ} {x : Memory} {vs : List ℕ} {A : Arrays} {ps : List Path} (order : List ℕ) (b n : ℕ) → Stands B N x (queueOf order n) vs A ps →
-    Passed B N x order vs A ps b n 0 0
+pub passed-none : {B : Book} {D N : ℕ} {x : Memory} {vs : List ℕ} {A : Arrays} {ps : List Path} (order : List ℕ) (b n : ℕ) → Stands B D N x (queueOf order n) vs A ps →
+    Passed B D N x order vs A ps b n 0 0
 unfolding queueOf
 passed-none {B} {ps} order b n st =
     record {
@@ -47,8 +47,8 @@ passed-none {B} {ps} order b n st =
     }
 
 -- all
-pub passed-all : {B : Book} {N : ℕ} {x : Memory} {order vs : List ℕ} {A : Arrays} {ps : List Path} {b n i gone : ℕ} (k : ℕ) → n ≡ 0 → i ≡ k →
-    Passed B N x order vs A ps b n i gone → (gone ≡ length (behind (keyOf B) b ps)) × Stands B N x (ahead keyAt b (queueOf order k)) vs A (ahead (keyOf B) b ps)
+pub passed-all : {B : Book} {D N : ℕ} {x : Memory} {order vs : List ℕ} {A : Arrays} {ps : List Path} {b n i gone : ℕ} (k : ℕ) → n ≡ 0 → i ≡ k →
+    Passed B D N x order vs A ps b n i gone → (gone ≡ length (behind (keyOf B) b ps)) × Stands B D N x (ahead keyAt b (queueOf order k)) vs A (ahead (keyOf B) b ps)
 passed-all {B} {order} {ps} {b} {n} {i} k z q s =
     let none : s .front ≡ [] = length-none (s .front) (s .place ∙ z) in
     let all : s .rest ≡ ps = sym (s .whole ∙ ap (λ l. l ++ s .rest) none) in
@@ -57,8 +57,8 @@ passed-all {B} {order} {ps} {b} {n} {i} k z q s =
 
 -- ---- one more
 
-module _ {B : Book} {N : ℕ} {x : Memory} {order vs : List ℕ} {A : Arrays} {ps : List Path} {b m i gone : ℕ} (n : ℕ) (q : m ≡ suc n)
-    (s : Passed B N x order vs A ps b m i gone) where
+module _ {B : Book} {D N : ℕ} {x : Memory} {order vs : List ℕ} {A : Arrays} {ps : List Path} {b m i gone : ℕ} (n : ℕ) (q : m ≡ suc n)
+    (s : Passed B D N x order vs A ps b m i gone) where
   last : Ending n (s .front)
   last = ending n (s .front) (s .place ∙ q)
 
@@ -78,7 +78,7 @@ module _ {B : Book} {N : ℕ} {x : Memory} {order vs : List ℕ} {A : Arrays} {p
   level : length xs ≡ length (last .before)
   level = top-length order (suc i) n ∙ sym (last .place)
 
-  apart : Stands B N x (xs ++ e ∷ es) vs A (last .before ++ last .one ∷ stayed)
+  apart : Stands B D N x (xs ++ e ∷ es) vs A (last .before ++ last .one ∷ stayed)
   apart =
       let top : topOf order i m ≡ xs ++ e ∷ [] = ap (topOf order i) q ∙ top-last order i n in
       rw (top, last .whole, append-assoc xs (e ∷ []) es, append-assoc (last .before) (last .one ∷ []) stayed) at (s .stands)
@@ -91,11 +91,11 @@ module _ {B : Book} {N : ℕ} {x : Memory} {order vs : List ℕ} {A : Arrays} {p
   unfolding Paired
   blocks = ap (λ (k : Key). k .blocks) (stands-forward xs e es (last .before) (last .one) stayed level apart .queue .0 .key)
 
-  -- its slot is one of the first N
-  pub next-slot : slotAt (getD order i 0) < N
+  -- its slot is one of the first D
+  pub next-slot : slotAt (getD order i 0) < D
   next-slot = stands-slot xs e es (last .before) (last .one) stayed level apart
 
-  -- each id of its row is one of the N, or none, and held
+  -- each id of its row is one of the N arrays, or none, and held
   pub next-held : (h : ℕ) → h ≤ B .m →
       (idAt (x .rows) (slotAt (getD order i 0)) h ≤ N) × (1 ≤ heldAt (x .holders) h (idAt (x .rows) (slotAt (getD order i 0)) h))
   next-held = stands-held xs e es (last .before) (last .one) stayed level apart
@@ -103,7 +103,7 @@ module _ {B : Book} {N : ℕ} {x : Memory} {order vs : List ℕ} {A : Arrays} {p
   -- one with no more than b blocks goes
   pub passed-out : (holders′ : List ℕ) → N ≤ 256 → keyAt (getD order i 0) .blocks ≤ b →
       LessBy (B .m + 1) (x .rows) (slotAt (getD order i 0)) (x .holders) holders′ →
-      Passed B N (memory (x .rows) holders′ (x .numbers) (x .bytes)) order (slotAt (getD order i 0) ∷ vs) A ps b n (i + 1) (gone + 1)
+      Passed B D N (memory (x .rows) holders′ (x .numbers) (x .bytes)) order (slotAt (getD order i 0) ∷ vs) A ps b n (i + 1) (gone + 1)
   unfolding queueOf
   passed-out holders′ top few less =
       let fewer : keyOf B (last .one) .blocks ≤ b = omega (arith, blocks) in
@@ -119,7 +119,7 @@ module _ {B : Book} {N : ℕ} {x : Memory} {order vs : List ℕ} {A : Arrays} {p
       }
 
   -- one with more stays
-  pub passed-in : b < keyAt (getD order i 0) .blocks → Passed B N x order vs A ps b n (i + 1) gone
+  pub passed-in : b < keyAt (getD order i 0) .blocks → Passed B D N x order vs A ps b n (i + 1) gone
   unfolding queueOf
   passed-in many =
       let more : b < keyOf B (last .one) .blocks = omega (arith, blocks) in

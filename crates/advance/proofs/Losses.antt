@@ -19,26 +19,26 @@ use Rattle.standing.specs.Standing.{EntryOf, Stands}
 use Rattle.advance.specs.Outruns.{Outrunning}
 
 -- the numbers that entries hold are those of the paths that memory stands for
-pub stands-numbers : {B : Book} {N : ℕ} {x : Memory} {es vs : List ℕ} {A : Arrays} {ps : List Path} → Stands B N x es vs A ps → numbers keyAt es ≡ numbers (keyOf B) ps
+pub stands-numbers : {B : Book} {D N : ℕ} {x : Memory} {es vs : List ℕ} {A : Arrays} {ps : List Path} → Stands B D N x es vs A ps → numbers keyAt es ≡ numbers (keyOf B) ps
 stands-numbers {B} {x = x} {es = es} {ps = ps} s = numbers-paired keyAt (keyOf B) (EntryOf B (x .rows)) (λ d p h. h .key) es ps (s .queue)
 
 -- ---- step 4
 
-module _ {m L N k b : ℕ} {x : Memory} {es vs visits : List ℕ} (c : Outrunning m L N k b x es vs visits) where
+module _ {m L D N k b : ℕ} {x : Memory} {es vs visits : List ℕ} (c : Outrunning m L D N k b x es vs visits) where
   abbrev B : Book
   B = c .queued .book
 
   -- what stays
-  left-is : extractAt B L N (c .here) .state .queue ≡ staying (keyOf B) L b (visit visits b) (c .queued .paths)
+  left-is : extractAt B L D (c .here) .state .queue ≡ staying (keyOf B) L b (visit visits b) (c .queued .paths)
   unfolding extractAt R.extract queuedAt movedAt copyAt staying
   left-is =
-      ap (λ i. staying (keyOf B) L i (visit (c .here .state .visits) i) (queuedAt B N (c .here))) (c .block)
-      ∙ ap (λ v. cond (eqb v L) (ahead (keyOf B) b (queuedAt B N (c .here))) (queuedAt B N (c .here))) (c .visited)
+      ap (λ i. staying (keyOf B) L i (visit (c .here .state .visits) i) (queuedAt B D (c .here))) (c .block)
+      ∙ ap (λ v. cond (eqb v L) (ahead (keyOf B) b (queuedAt B D (c .here))) (queuedAt B D (c .here))) (c .visited)
       ∙ ap (λ ps. staying (keyOf B) L b (visit visits b) ps) (c .paths)
 
   -- entries with the numbers of what stays lack what the step gives as outrun
   pub outruns : (es′ : List ℕ) → numbers keyAt es′ ≡ numbers (keyOf B) (staying (keyOf B) L b (visit visits b) (c .queued .paths)) →
-      Removes (stepAt B L N (c .here) .outrun) (numbers keyAt es) (numbers keyAt es′)
+      Removes (stepAt B L D (c .here) .outrun) (numbers keyAt es) (numbers keyAt es′)
   outruns es′ q =
-      subst₂ (λ (old new : List ℕ). Removes (stepAt B L N (c .here) .outrun) old new) (ap (numbers (keyOf B)) (c .paths) ∙ sym (stands-numbers (c .queued .stands)))
+      subst₂ (λ (old new : List ℕ). Removes (stepAt B L D (c .here) .outrun) old new) (ap (numbers (keyOf B)) (c .paths) ∙ sym (stands-numbers (c .queued .stands)))
       (ap (numbers (keyOf B)) left-is ∙ sym q) (during-removed (c .valid) (c .at) (c .more) .outrun)

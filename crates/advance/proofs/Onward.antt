@@ -15,7 +15,7 @@ use Rattle.reader.specs.Fit.{Fit, FitFirst, FitFor}
 use Rattle.reader.proofs.Descent.{turn-place, place-most}
 use Rattle.reader.proofs.Next.{turn-ready, down-ready, down-first, down-later, claim-ready}
 use Rattle.order.specs.Entries.{slotAt}
-use Rattle.standing.specs.Seen.{Memory, Lent, Seen, Viewed, StepSeen, IdsOnly}
+use Rattle.standing.specs.Seen.{Memory, Enough, HasArrays, Seen, Viewed, StepSeen, IdsOnly}
 use Rattle.standing.specs.Standing.{Stands, InHand, withIds}
 use Rattle.standing.proofs.Views.{stands-view}
 use Rattle.views.specs.Steps.{Upper, Turning, Claimable}
@@ -25,7 +25,7 @@ use Rattle.steps.proofs.Commits.{own-seen}
 
 -- ---- what the path in hand sees
 
-module _ {m N : ℕ} {x : Memory} {e : ℕ} {es vs : List ℕ} (h : InHand m N x e es vs) where
+module _ {m D N : ℕ} {x : Memory} {e : ℕ} {es vs : List ℕ} (h : InHand m D N x e es vs) where
   -- the ids of the other paths
   abbrev pub away : List (ℕ → ℕ)
   away = idsOf (h .rest)
@@ -38,7 +38,7 @@ module _ {m N : ℕ} {x : Memory} {e : ℕ} {es vs : List ℕ} (h : InHand m N x
   abbrev pub reached : View
   reached = downTo (h .book) (idsOf (h .rest)) (h .arrays) (h .taken) (h .taken .blocks)
 
-module _ {m N : ℕ} {x : Memory} {e : ℕ} {es vs : List ℕ} {last at : Block} (c : Moving m N x e es vs last at) {s : ℕ} (is : s ≡ slotAt e) where
+module _ {m D N : ℕ} {x : Memory} {e : ℕ} {es vs : List ℕ} {last at : Block} (c : Moving m D N x e es vs last at) {s : ℕ} (is : s ≡ slotAt e) where
   -- its next block lies within
   pub next-heights : (at .height ≤ m) × (at .place ≤ m)
   next-heights =
@@ -65,18 +65,18 @@ module _ {m N : ℕ} {x : Memory} {e : ℕ} {es vs : List ℕ} {last at : Block}
     first-upper : Upper m (ownView (c .hand))
     unfolding FitFor
     first-upper =
-        let h : InHand m N x e es vs = c .hand in
+        let h : InHand m D N x e es vs = c .hand in
         let f : FitFirst (h .book) (h .arrays) (h .taken) = subst (FitFor (h .book) (h .arrays) (h .taken)) first-is (c .fit) in
         subst (λ n. Upper n (ownView h)) (h .deep) (record { has = f .has; range = f .root })
 
-    pub first-viewed : Viewed m N s x (Upper m)
-    first-viewed = record { others = away (c .hand); view = ownView (c .hand); seen = own-seen (c .hand) is; met = first-upper }
+    pub first-viewed : Enough D N → Viewed m N s x (Upper m)
+    first-viewed enough = record { others = away (c .hand); view = ownView (c .hand); seen = own-seen (c .hand) enough is; met = first-upper }
 
-    pub first-seen : (y : Memory) → StepSeen m N s x y (Upper m) (λ others v. descend others (m - at .height) m 0 v) →
+    pub first-seen : Enough D N → (y : Memory) → StepSeen m N s x y (Upper m) (λ others v. descend others (m - at .height) m 0 v) →
         Seen m N s y (away (c .hand)) (reached (c .hand))
     unfolding StepSeen
-    first-seen y t =
-        let h : InHand m N x e es vs = c .hand in
+    first-seen enough y t =
+        let h : InHand m D N x e es vs = c .hand in
         let B : Book = h .book in
         let o : List (ℕ → ℕ) = away h in
         let v : View = ownView h in
@@ -85,7 +85,7 @@ module _ {m N : ℕ} {x : Memory} {e : ℕ} {es vs : List ℕ} {last at : Block}
         ∙ ap (λ j. descend o (B .m - j) (B .m) 0 v) (c .next .height ∙ ap (λ b. blockAt B b .j) first-is)
         ∙ sym (down-first B o (h .arrays) (h .taken))
         ∙ ap (downTo B o (h .arrays) (h .taken)) (sym first-is))
-        (t o v (own-seen h is) first-upper)
+        (t o v (own-seen h enough is) first-upper)
 
   -- ---- to a later block
 
@@ -124,7 +124,7 @@ module _ {m N : ℕ} {x : Memory} {e : ℕ} {es vs : List ℕ} {last at : Block}
     -- the turn: what P needs, and what it leaves
     pub committed-turning : Turning (last .place) (committed (c .hand))
     committed-turning =
-        let h : InHand m N x e es vs = c .hand in
+        let h : InHand m D N x e es vs = c .hand in
         let b : ℕ = later .0 in
         let r = turn-ready (h .book) (c .valid) (h .arrays) (h .taken) b last-fit (away h) more in
         subst₂ (λ a k. Turning a (commit (h .book) (away h) (h .taken) k (ownView h))) (sym (last-is .word)) (sym (later .1))
@@ -132,7 +132,7 @@ module _ {m N : ℕ} {x : Memory} {e : ℕ} {es vs : List ℕ} {last at : Block}
 
     pub turned-upper : Upper (last .place) (byP (away (c .hand)) (last .place) (committed (c .hand)))
     turned-upper =
-        let h : InHand m N x e es vs = c .hand in
+        let h : InHand m D N x e es vs = c .hand in
         let b : ℕ = later .0 in
         let r = down-ready (h .book) (c .valid) (h .arrays) (h .taken) b last-fit (away h) more in
         subst₂ (λ a k. Upper a (byP (away h) a (commit (h .book) (away h) (h .taken) k (ownView h)))) (sym (last-is .word)) (sym (later .1))
@@ -144,7 +144,7 @@ module _ {m N : ℕ} {x : Memory} {e : ℕ} {es vs : List ℕ} {last at : Block}
         Seen m N s z (away (c .hand)) (reached (c .hand))
     unfolding StepSeen
     down-seen y z seen t =
-        let h : InHand m N x e es vs = c .hand in
+        let h : InHand m D N x e es vs = c .hand in
         let B : Book = h .book in
         let o : List (ℕ → ℕ) = away h in
         let v : View = ownView h in
@@ -161,7 +161,7 @@ module _ {m N : ℕ} {x : Memory} {e : ℕ} {es vs : List ℕ} {last at : Block}
   pub reached-claimable : Claimable (at .height) (at .place) (reached (c .hand))
   unfolding Claimable
   reached-claimable = λ q.
-      let h : InHand m N x e es vs = c .hand in
+      let h : InHand m D N x e es vs = c .hand in
       subst (λ k. 1 ≤ reached h .ids k) (sym (q ∙ c .next .height))
       (claim-ready (h .book) (c .valid) (h .arrays) (h .taken) (away h) (c .next .within) (c .fit) .0)
 
@@ -169,10 +169,10 @@ module _ {m N : ℕ} {x : Memory} {e : ℕ} {es vs : List ℕ} {last at : Block}
   pub claimed-stands : (y z : Memory) → m ≤ 9 → Seen m N s y (away (c .hand)) (reached (c .hand)) →
       StepSeen m N s y z (Claimable (at .height) (at .place)) (λ others v. claim others (at .height) (at .place) v) → IdsOnly m s (x .rows) (z .rows) →
       let v = nextView (c .hand .book) (away (c .hand)) (c .hand .arrays) (c .hand .taken) (c .hand .taken .blocks) in
-      Stands (c .hand .book) N z (e ∷ es) vs (v .arrays) (withIds (c .hand .taken) (v .ids) ∷ c .hand .rest)
+      Stands (c .hand .book) D N z (e ∷ es) vs (v .arrays) (withIds (c .hand .taken) (v .ids) ∷ c .hand .rest)
   unfolding StepSeen
   claimed-stands y z d seen t only =
-      let h : InHand m N x e es vs = c .hand in
+      let h : InHand m D N x e es vs = c .hand in
       let o : List (ℕ → ℕ) = away h in
       let w : View = nextView (h .book) o (h .arrays) (h .taken) (h .taken .blocks) in
       let e′ : claim o (at .height) (at .place) (reached h) ≡ w = ap₂ (λ j k. claim o j k (reached h)) (c .next .height) (c .next .word) in
@@ -182,7 +182,7 @@ module _ {m N : ℕ} {x : Memory} {e : ℕ} {es vs : List ℕ} {last at : Block}
       (subst₂ (λ n k. IdsOnly n k (x .rows) (z .rows)) (sym (h .deep)) is only)
 
 -- from memory x to y, the path in slot s has gone to its next block
-pub record Gone (m N e s : ℕ) (last at : Block) (x y : Memory) : Type 0 where
-  pub lent : Lent m N y
+pub record Gone (m D N e s : ℕ) (last at : Block) (x y : Memory) : Type 0 where
+  pub has : HasArrays m N y
   pub only : IdsOnly m s (x .rows) (y .rows)
-  pub seen : {es vs : List ℕ} (c : Moving m N x e es vs last at) → Seen m N s y (away (c .hand)) (reached (c .hand))
+  pub seen : {es vs : List ℕ} (c : Moving m D N x e es vs last at) → Seen m N s y (away (c .hand)) (reached (c .hand))

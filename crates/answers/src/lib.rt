@@ -3,7 +3,6 @@
 pub mod numbers;
 pub mod put;
 
-pub use numbers::decoding_mismatch;
 pub use numbers::length_mismatch;
 pub use numbers::tested_number;
 pub use put::put_counts;

@@ -7,10 +7,10 @@ use lib.IntN.{ℤ}
 use lib.ListN.{length, drop, replicate}
 use lib.Seq.{drop-length}
 use Rattle.polar.specs.Layers.{part}
+use Rattle.codebook.specs.declared.Shape.{Shape}
 use Rattle.queue.specs.Queue.{Final, Run}
 use Rattle.machine.specs.Calls.{finalIn, countsOf}
 use Rattle.heights.specs.Workspace.{spot}
-use Rattle.steps.specs.declared.Setting.{Setting}
 use Rattle.reading.specs.declared.Ran.{Ran}
 use Rattle.reading.specs.Running.{Running, RanIs}
 
@@ -18,7 +18,7 @@ use Rattle.reading.specs.Running.{Running, RanIs}
 pub all-cleared : {A : Type 0} (v : A) (l : List A) (n : ℕ) → n ≡ length l → (k : ℕ) → k ≡ n → replicate n v ++ drop n l ≡ replicate k v
 all-cleared v l n e k q = rw (q, e, drop-length l) (append-nil (replicate (length l) v))
 
-pub deep-enough : {s : Setting} {values : List ℤ} {kinds terms heights starts : List ℕ} {biases : List ℤ} → Running s values kinds terms heights starts biases → s .m ≤ 9
+pub deep-enough : {x : Shape} {values : List ℤ} {kinds terms heights starts : List ℕ} {biases : List ℤ} → Running x values kinds terms heights starts biases → x .m ≤ 9
 deep-enough c = omega (arith, c .tables .booked .valid .high, c .deep)
 
 module _ {m N : ℕ} {run : Run Final} {x : Ran} {bytes : List ℕ} (r : RanIs m N run x bytes) where
@@ -27,9 +27,8 @@ module _ {m N : ℕ} {run : Run Final} {x : Ran} {bytes : List ℕ} (r : RanIs m
   unfolding finalIn
   found-is = sym (ap finalIn (r .ends))
 
-  pub ran-counts : record { extractions = x .extractions; crowded = x .crowded; outrun = x .outrun; discrepancy = x .discrepancy } ≡ countsOf (run .steps) (finalIn (run .end))
-  unfolding countsOf
-  ran-counts = cc (r .extractions, r .crowded, r .outrun, r .discrepancy ∙ ap (λ (y : Final). y .discrepancy) found-is)
+  pub ran-counts : x .counts ≡ countsOf (run .steps) (finalIn (run .end))
+  ran-counts = r .counts ∙ ap (countsOf (run .steps)) found-is
 
   pub ran-word : part (spot m (x .id) m) (2 ^ m) bytes ≡ finalIn (run .end) .word
   ran-word = r .word ∙ ap (λ (y : Final). y .word) found-is

@@ -1,5 +1,3 @@
-pub mod Unbarred
-pub mod Attempts
 pub mod Judged
 pub mod Cleared
 pub mod Readied

@@ -1,39 +1,60 @@
--- What loading and the tests give the run of a call: a loaded book stands in its tables, and a call is admitted exactly where
--- nothing bars it. By the laws of coding/proofs/Told, checks/proofs/Fitting and Admitted. Assumes nothing.
-use mathlib.Core.Path.{_≡_, refl, ap, _∙_}
-use mathlib.Core.Bool.{Bool, true, false, not, _&&_}
+-- What loading and the tests give the run of a call: a loaded book stands in its tables, with its shape, and values that pass their test fit it. Assumes nothing.
+use mathlib.Core.Path.{_≡_, refl, sym, ap, _∙_}
 use mathlib.Core.List.{List, [], _∷_, map}
-use mathlib.Core.Option.{none, some}
+use mathlib.Core.Option.{Option, none, some}
 use Prim.Native.Nat.{ℕ, _^_, _≤_}
 use native.Mathlib.Omega.{arith}
 use lib.IntN.{ℤ, pos, natAbs}
 use lib.ListN.{length, getD, length-map, List·getD-map}
-use lib.Dec.{T, leb, eqb, leb→le}
+use lib.Dec.{T, leb, leb→le}
+use lib.Pow.{pow-mono}
 use Rattle.laws.specs.Lists.{All, tab}
 use Rattle.laws.proofs.Tests.{and-left, and-right}
 use Rattle.laws.proofs.Lists.{over-getD, over-length, length-tab, getD-tab}
 use Rattle.polar.specs.Layers.{Within}
 use Rattle.codebook.specs.declared.Refusal.{Refusal}
-use Rattle.codebook.specs.declared.Refusal.the-variants.{Mismatch, BadSetting, BadValue}
-use Rattle.codebook.specs.declared.Sizes.{Sizes}
-use Rattle.codebook.specs.Refusals.{unless}
-use Rattle.codebook.specs.Book.{Book, Block, blockAt, startOf, freeCount}
-use Rattle.codebook.specs.Loading.{load, loaded}
-use Rattle.codebook.specs.Tables.{tablesOf, overlaid, loadedUpTo, Filled, sizesOf}
+use Rattle.codebook.specs.declared.Outcome.the-variants.{Done}
+use Rattle.codebook.specs.declared.Shape.{Shape}
+use Rattle.codebook.specs.Book.{Book, Block, blockAt, startOf}
+use Rattle.codebook.specs.Loading.{Load, load, refused, loaded, bookShape, shapeOf}
+use Rattle.codebook.specs.Tables.{tablesOf, overlaid, loadedUpTo, Filled}
 use Rattle.codebook.specs.Tables as C
 use Rattle.codebook.proofs.Loaded.{loaded-valid}
-use Rattle.coding.proofs.Told.{Known, load-tabled}
-use Rattle.machine.specs.Calls.{Input, Lent, settingsOk, lentOk, valuesOk, barred}
-use Rattle.checks.specs.declared.Settings.{Settings}
-use Rattle.checks.specs.declared.Checked.{Checked}
-use Rattle.checks.specs.declared.Checked.the-variants.{Good, Bad}
+use Rattle.coding.proofs.Told.{load-tabled}
+use Rattle.settings.specs.declared.Settings.{Settings}
+use Rattle.settings.specs.declared.Checked.the-variants.{Good, Bad}
+use Rattle.machine.specs.declared.Manner.{Manner}
+use Rattle.machine.specs.Calls.{Input, Lent, lengthsOf, firstFailed, valuesOk, testsBefore, barred}
 use Rattle.checks.specs.Checks.{admittedAs}
-use Rattle.checks.proofs.Admitted.{admittedBy, admitted}
-use Rattle.checks.proofs.Fitting.{LengthsRight, settings-fit, lengthsOf, lengths-fit}
 use Rattle.reading.specs.Running.{InTables}
 use Rattle.extraction.proofs.Counts.{blocks-few}
-use Rattle.attempts.specs.Attempt.{Ready, fitsFor}
-use Rattle.attempts.proofs.Unbarred.{Free}
+use Rattle.attempts.specs.Attempt.{Ready}
+
+-- ---- the book that is loaded
+
+-- a book, its loading, and that a shape is its own
+pub record Has (book : List ℕ) (x : Shape) : Type 0 where
+  pub is : Book
+  pub loads : load book ≡ loaded is
+  pub shape : x ≡ bookShape is
+
+pub shape-has : (book : List ℕ) (x : Shape) → x ≡ shapeOf (load book) → x .outcome ≡ Done → Has book x
+unfolding shapeOf
+shape-has book x e d = go (load book) refl (sym (ap (λ (y : Shape). y .outcome) e) ∙ d)
+  where
+    go : (l : Load) → load book ≡ l → shapeOf l .outcome ≡ Done → Has book x
+    go (refused r) p f = let z : _≡_ {A = ℕ} 0 1 = cc in absurd (omega arith)
+    go (loaded B) p f = record { is = B; loads = p; shape = e ∙ ap shapeOf p }
+
+module _ (book : List ℕ) (x : Shape) (h : Has book x) where
+  -- it is small
+  pub has-small : x .n ≤ 512
+  has-small =
+      let small : 2 ^ (h .is .m) ≤ 2 ^ 9 = pow-mono {j = 9} (loaded-valid book (h .is) (h .loads) .high) in
+      omega (arith, ap (λ (y : Shape). y .n) (h .shape))
+
+  pub has-few : x .blocks ≤ 512
+  has-few = omega (arith, ap (λ (y : Shape). y .blocks) (h .shape), blocks-few (h .is) (loaded-valid book (h .is) (h .loads)))
 
 -- ---- the tables of a loaded book
 
@@ -73,84 +94,39 @@ module _ (book : List ℕ) (B : Book) (e : load book ≡ loaded B) (old new : C.
         ap (λ (t : C.Tables). length (t .biases)) g ∙ over-length ws (old .biases) (omega (arith, length-map (B .blocks) (λ (x : Block). x .bias))) ∙ d,
       )
 
--- ---- the tests
+-- ---- the values
 
 pub values-within : (ys : List ℤ) → T (valuesOk ys) → All (Within 2047) ys
 unfolding valuesOk All
 values-within [] t = tt
 values-within (y ∷ ys) t = (leb→le (natAbs y) 2047 (and-left (leb (natAbs y) 2047) (valuesOk ys) t), values-within ys (and-right (leb (natAbs y) 2047) (valuesOk ys) t))
 
--- the answers of three tests, and why a call is barred by them
-unless-bad : (s b v : Bool) (x : Settings) {r : Refusal} → admittedBy s b v x ≡ Bad r → unless s BadSetting (unless b Mismatch (unless v BadValue none)) ≡ some r
-unfolding admittedBy unless
-unless-bad true true true x e = let z : _≡_ {A = ℕ} 0 1 = cc in absurd (omega arith)
-unless-bad true true false x e = cc
-unless-bad true false v x e = cc
-unless-bad false b v x e = cc
+-- ---- what the tests come to
 
-unless-good : (s b v : Bool) (x : Settings) {y : Settings} → admittedBy s b v x ≡ Good y → unless s BadSetting (unless b Mismatch (unless v BadValue none)) ≡ none
-unfolding admittedBy unless
-unless-good true true true x e = refl
-unless-good true true false x e = let z : _≡_ {A = ℕ} 0 1 = cc in absurd (omega arith)
-unless-good true false v x e = let z : _≡_ {A = ℕ} 0 1 = cc in absurd (omega arith)
-unless-good false b v x e = let z : _≡_ {A = ℕ} 0 1 = cc in absurd (omega arith)
+pub admitted-good : (o : Option Refusal) (s x : Settings) → admittedAs o s ≡ Good x → (o ≡ none) × (x ≡ s)
+unfolding admittedAs
+admitted-good none s x e = (refl, (cc))
+admitted-good (some r) s x e = let z : _≡_ {A = ℕ} 0 1 = cc in absurd (omega arith)
 
-module _ (B : Book) (c : Input) (l : Lent) (fits : Bool) where
-  -- what the tests of numbers answer for this book and call
-  abbrev pub admission : Checked
-  admission = admittedAs fits (2 ^ (B .m)) (freeCount (B .kinds)) (length (B .blocks)) (c .L) (c .D) (c .T) (lengthsOf c l) (c .values)
+pub admitted-bad : (o : Option Refusal) (s : Settings) (r : Refusal) → admittedAs o s ≡ Bad r → o ≡ some r
+unfolding admittedAs
+admitted-bad none s r e = let z : _≡_ {A = ℕ} 0 1 = cc in absurd (omega arith)
+admitted-bad (some q) s r e = cc
 
-  tests : admittedBy (settingsOk c) (fits && lentOk B c l) (valuesOk (c .values)) (record { visits = c .L; paths = c .D; limit = c .T }) ≡ admission
-  tests =
-      admitted (c .L) (c .D) (c .T) fits (2 ^ (B .m)) (freeCount (B .kinds)) (length (B .blocks)) (lengthsOf c l) (c .values) (settings-fit c)
-      (ap (λ (b : Bool). fits && b) (lengths-fit B c l)) refl
-
-  pub is-barred : (r : Refusal) → admission ≡ Bad r → barred B c l fits ≡ some r
-  unfolding barred
-  is-barred r e = unless-bad (settingsOk c) (fits && lentOk B c l) (valuesOk (c .values)) _ (tests ∙ e)
-
-  pub not-barred : (s : Settings) → admission ≡ Good s → barred B c l fits ≡ none
-  unfolding barred
-  not-barred s e = unless-good (settingsOk c) (fits && lentOk B c l) (valuesOk (c .values)) _ (tests ∙ e)
-
-  -- the same in other names for the book's sizes
-  module _ {n k count : ℕ} (p : n ≡ 2 ^ (B .m)) (q : k ≡ freeCount (B .kinds)) (r : count ≡ length (B .blocks)) where
-    pub admission-same : {b : Bool} → b ≡ fits → admittedAs b n k count (c .L) (c .D) (c .T) (lengthsOf c l) (c .values) ≡ admission
-    admission-same e = rw (e, p, q, r) refl
-
-    pub sized-same : Free B c l → LengthsRight n k count (c .L) (c .D) (lengthsOf c l)
-    sized-same f = rw (p, q, r) (f .sized)
-
--- ---- what a call asks of k besides
-
-module _ (hook : Bool) (B : Book) where
-  pub fits-any : not hook ≡ true → true ≡ fitsFor hook B
-  unfolding fitsFor
-  fits-any e = rw e refl
-
-  pub fits-record : (k : ℕ) → not hook ≡ false → k ≡ freeCount (B .kinds) → eqb k 32 ≡ fitsFor hook B
-  unfolding fitsFor
-  fits-record k e q = rw (e, q) refl
+-- by the shape that is the book's own
+pub barred-is : (k : Manner) (c : Input) (l : Lent) (x : Shape) (h : Has (c .book) x) → firstFailed (testsBefore k x (c .settings) (lengthsOf c l) (c .values)) ≡ barred k (h .is) c l
+unfolding barred
+barred-is k c l x h = ap (λ (y : Shape). firstFailed (testsBefore k y (c .settings) (lengthsOf c l) (c .values))) (h .shape)
 
 -- ---- all that the run needs
 
-pub known-blocks : {book : List ℕ} (x : Sizes) → x ≡ sizesOf (load book) → (K : Known book (x .m) (x .n) (x .k)) → x .blocks ≡ length (K .is .blocks)
-unfolding sizesOf
-known-blocks x e K = ap (λ (y : Sizes). y .blocks) (e ∙ ap sizesOf (K .loads))
-
-pub known-few : {book : List ℕ} (x : Sizes) → x ≡ sizesOf (load book) → Known book (x .m) (x .n) (x .k) → x .blocks ≤ 512
-known-few x e K = omega (arith, known-blocks x e K, blocks-few (K .is) (K .valid))
-
-abbrev pub ready : (c : Input) (l : Lent) (x : Sizes) → x ≡ sizesOf (load (c .book)) → (K : Known (c .book) (x .m) (x .n) (x .k)) (old new : C.Tables) → Filled (load (c .book)) (loadedUpTo (c .book)) old new
-    → Free (K .is) c l → Ready x (c .values) (new .kinds) (new .terms) (new .heights) (new .starts) (new .biases)
-ready c l x e K old new f free =
+abbrev pub ready : (book : List ℕ) (ys : List ℤ) (x : Shape) (h : Has book x) (old new : C.Tables) → Filled (load book) (loadedUpTo book) old new
+    → length ys ≡ x .n → T (valuesOk ys) → Ready x ys (new .kinds) (new .terms) (new .heights) (new .starts) (new .biases)
+ready book ys x h old new f fits good =
     record {
-      book = K .is;
-      tables = load-read (c .book) (K .is) (K .loads) old new f;
-      deep = K .height;
-      size = K .size;
-      free = K .free;
-      blocks = known-blocks x e K;
-      fits = free .sized .values;
-      range = values-within (c .values) (free .valued);
+      book = h .is;
+      tables = load-read book (h .is) (h .loads) old new f;
+      shape = h .shape;
+      fits = fits;
+      range = values-within ys good;
     }

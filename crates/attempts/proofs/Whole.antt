@@ -1,18 +1,27 @@
--- Demand 3 of an attempt, and so of both calls: the reader's run of the call is the machine's (the whole-run theorem), its extractions remove what they say, and the counts and the walk
--- that an attempt leaves are those of that run. Assumes nothing.
-use mathlib.Core.Path.{_≡_, refl, _∙_}
-use mathlib.Core.Bool.{Bool, false}
+-- Demand 3 of a call that makes a run: the reader's run of the call is the machine's (the whole-run theorem), its extractions remove what they say, and the counts and the walk
+-- that the call leaves are those of that run. So the call by the reader's run is document 01's, by the machine's. Assumes nothing.
+use mathlib.Core.Path.{_≡_, refl, sym, ap, ap₂, _∙_, subst₂}
+use mathlib.Core.List.{List}
+use mathlib.Core.Option.{Option, none, some}
 use Prim.Native.Nat.{_+_, _*_, _^_}
 use native.Mathlib.Omega.{arith}
 use lib.ListN.{take}
+use lib.IntN.{ℤ}
 use lib.Seq.{length-take-le}
+use Rattle.codebook.specs.declared.Refusal.{Refusal}
+use Rattle.codebook.specs.declared.Shape.{Shape}
 use Rattle.codebook.specs.Book.{Book}
-use Rattle.codebook.specs.Loading.{loaded, load}
+use Rattle.codebook.specs.Loading.{Load, refused, loaded, load, bookShape}
 use Rattle.codebook.proofs.Loaded.{loaded-valid}
-use Rattle.queue.specs.Run.{mostExtractions}
-use Rattle.machine.specs.declared.Counts.{Counts}
-use Rattle.machine.specs.Calls.{Input, Lent, numbersNeeded, finalIn, countsOf, afterRun}
+use Rattle.settings.specs.declared.Settings.{Settings}
+use Rattle.machine.specs.declared.Manner.{Manner}
+use Rattle.queue.specs.Queue.{Step, Final, End, Run}
+use Rattle.machine.specs.Calls.{Input, Lent, lengthsOf, numbersNeeded, barred, readied, machineRun, finalIn, countsOf, afterRun, verdict, outcomeOf, isDone, ranCall, unbarred, callWith, callBy, callOf}
+use Rattle.machine.proofs.Unbarred.{Free}
+use Rattle.machine.proofs.Called.{call-ran}
 use Rattle.runs.specs.Runs.{Exact}
+use Rattle.runs.specs.Handed.{Made}
+use Rattle.runs.proofs.Handed.{made-free}
 use Rattle.heights.specs.Workspace.{Room}
 use Rattle.reader.specs.Agree.{Agree}
 use Rattle.reader.proofs.Agree.{agree, reader-exact}
@@ -21,70 +30,75 @@ use Rattle.reader.proofs.Removed.{run-removed}
 use Rattle.reader.proofs.Bounds.{steps-most, entries-most}
 use Rattle.reading.proofs.Received.{received-root}
 use Rattle.attempts.specs.Reading.{arraysLent, readerRun}
-use Rattle.attempts.specs.Attempt.{fitsFor, answerOf, ranOf, unbarred, attemptWith, attempted}
 use Rattle.attempts.specs.WholeRun.{Agreed, WholeRun}
-use Rattle.attempts.proofs.Unbarred.{Free, nothing-bars}
 
--- the workspace lent has room for the arrays
-lent-room : (B : Book) (c : Input) (l : Lent) → Free B c l → Room (B .m) (c .D) (take (numbersNeeded B c) (l .numbers))
-unfolding Room numbersNeeded
-lent-room B c l f =
-    let e = length-take-le (c .D * (2 * 2 ^ (B .m) + 32)) (l .numbers) (f .sized .numbers) in
-    rw (e) (omega arith)
+module _ (k : Manner) (c : Input) (l : Lent) (B : Book) (m : Made k c l B) where
+  abbrev s : Settings
+  s = c .settings
 
--- and their root holds the received values
-lent-root : (B : Book) (c : Input) (l : Lent) → Free B c l → arraysLent B c l .vals (B .m) 1 ≡ c .values
-unfolding arraysLent
-lent-root B c l f =
-    received-root (B .m) (c .D) (c .values) (take (numbersNeeded B c) (l .numbers)) (lent-room B c l f) (omega (arith, f .ranged .alive)) (f .sized .values) _
+  abbrev x : Shape
+  x = bookShape B
 
--- the reader's run of a call that nothing bars is the machine's
-pub runs-agree : (B : Book) (c : Input) (l : Lent) → load (c .book) ≡ loaded B → Free B c l → Agree B (c .L) (c .D) (c .values) (arraysLent B c l)
-runs-agree B c l e f = agree (c .book) B e (c .L) (c .D) (c .values) (arraysLent B c l) (f .ranged .visited) (f .sized .values) (lent-root B c l f)
+  abbrev ys : List ℤ
+  ys = readied k c
 
--- its final word is in the code, with its own data and its exact discrepancy
-pub lent-exact : (B : Book) (c : Input) (l : Lent) → load (c .book) ≡ loaded B → Free B c l → Exact B (c .values) (finalIn (readerRun B c l .end))
-unfolding readerRun
-lent-exact B c l e f =
-    reader-exact B (loaded-valid (c .book) B e) (c .L) (c .D) (c .values) (arraysLent B c l) (f .ranged .visited) (f .sized .values) (lent-root B c l f)
+  free : Free k x s (lengthsOf c l) (c .values)
+  free = made-free k c l B m
 
--- what an attempt leaves, for every input
-pub whole-attempt : (hook : Bool) (c : Input) (l : Lent) → WholeRun (fitsFor hook) c l (attempted hook c l .answer .counts) (attempted hook c l .lent)
-unfolding WholeRun attempted attemptWith unbarred ranOf answerOf afterRun
-whole-attempt hook c l B e b = rw (e, b) agreed
-  where
-    agreed : Agreed B c l (countsOf (readerRun B c l .steps) (finalIn (readerRun B c l .end))) (afterRun B c l (readerRun B c l .steps) (finalIn (readerRun B c l .end)) false)
-    agreed =
-        unfold mostExtractions readerRun afterRun in
-        let ok = loaded-valid (c .book) B e in
-        let f = nothing-bars B c l (fitsFor hook B) b in
-        let root = lent-root B c l f in
-        record {
-          runs = runs-agree B c l e f;
-          moments = run-steps-are B (c .L) (c .D) (arraysLent B c l);
-          removed = run-removed B (c .values) ok (f .sized .values) (c .L) (c .D) (arraysLent B c l) root;
-          few = steps-most B (c .values) ok (f .sized .values) (c .L) (c .D) (arraysLent B c l) root (f .ranged .visited);
-          entered = entries-most B (c .values) ok (f .sized .values) (c .L) (c .D) (arraysLent B c l) root (f .ranged .visited);
-          counted = refl;
-          paths = refl;
-          blocks = refl;
-          scores = refl;
-        }
+  -- the workspace lent has room for the arrays, and their root holds the values
+  lent-room : Room (B .m) (s .paths) (take (numbersNeeded x s) (l .numbers))
+  unfolding Room numbersNeeded
+  lent-room = let e = length-take-le (s .paths * (2 * 2 ^ (B .m) + 32)) (l .numbers) (free .sized .numbers) in rw e (omega arith)
 
--- it is of the counts and the walk alone
-pub whole-same : (fits : Book → Bool) (c : Input) (l : Lent) {counts counts′ : Counts} (after after′ : Lent) → counts′ ≡ counts → after′ .walkPath ≡ after .walkPath → after′ .walkBlocks ≡ after .walkBlocks
-    → after′ .walkScore ≡ after .walkScore → WholeRun fits c l counts after → WholeRun fits c l counts′ after′
+  lent-root : arraysLent x s ys l .vals (B .m) 1 ≡ ys
+  unfolding arraysLent
+  lent-root = received-root (B .m) (s .paths) ys (take (numbersNeeded x s) (l .numbers)) lent-room (omega (arith, free .ranged .alive)) (free .sized .values) _
+
+  -- the reader's run of a call that nothing bars is the machine's
+  pub runs-agree : Agree B (s .visits) (s .paths) ys (arraysLent x s ys l)
+  runs-agree = agree (c .book) B (m .loads) (s .visits) (s .paths) ys (arraysLent x s ys l) (free .ranged .visited) (free .sized .values) lent-root
+
+  pub runs-same : readerRun B s ys l ≡ machineRun B s ys l
+  unfolding readerRun machineRun
+  runs-same = ap₂ (λ (steps : List Step) (end : End Final). record { steps = steps; end = end }) (runs-agree .steps) (runs-agree .end)
+
+  -- its final word is in the code, with its own data and its exact discrepancy
+  pub lent-exact : Exact B ys (finalIn (readerRun B s ys l .end))
+  unfolding readerRun
+  lent-exact = reader-exact B (loaded-valid (c .book) B (m .loads)) (s .visits) (s .paths) ys (arraysLent x s ys l) (free .ranged .visited) (free .sized .values) lent-root
+
+  agreed : let w = ranCall (k .reads) x s l (readerRun B s ys l) in Agreed B s ys l (w .answer .counts) (w .lent)
+  unfolding readerRun ranCall afterRun
+  agreed =
+      let ok = loaded-valid (c .book) B (m .loads) in
+      record {
+        runs = runs-agree;
+        moments = run-steps-are B (s .visits) (s .paths) (arraysLent x s ys l);
+        removed = run-removed B ys ok (free .sized .values) (s .visits) (s .paths) (arraysLent x s ys l) lent-root;
+        few = steps-most B ys ok (free .sized .values) (s .visits) (s .paths) (arraysLent x s ys l) lent-root (free .ranged .visited);
+        entered = entries-most B ys ok (free .sized .values) (s .visits) (s .paths) (arraysLent x s ys l) lent-root (free .ranged .visited);
+        counted = refl;
+        paths = refl;
+        blocks = refl;
+        scores = refl;
+      }
+
+-- ---- the call, for every input
+
+-- the reader's run of the call, where it makes one, is the whole run
+pub whole-call : (k : Manner) (c : Input) (l : Lent) → WholeRun k c l (callBy readerRun k c l .answer .counts) (callBy readerRun k c l .lent)
 unfolding WholeRun
-whole-same fits c l after after′ n p q r w B e b =
-    let a = w B e b in
-    record {
-      runs = a .runs;
-      moments = a .moments;
-      removed = a .removed;
-      few = a .few;
-      entered = a .entered;
-      counted = n ∙ a .counted;
-      paths = p ∙ a .paths;
-      blocks = q ∙ a .blocks;
-      scores = r ∙ a .scores;
-    }
+whole-call k c l B m = rw (call-ran readerRun k c l B (m .loads) (m .unbarred)) (agreed k c l B m)
+
+-- the call by the reader's run is the call by the machine's
+pub calls-agree : (k : Manner) (c : Input) (l : Lent) → callBy readerRun k c l ≡ callOf k c l
+unfolding callBy callWith unbarred
+calls-agree k c l = go (load (c .book)) refl
+  where
+    checked : (B : Book) → load (c .book) ≡ loaded B → (o : Option Refusal) → barred k B c l ≡ o → unbarred readerRun k B c l o ≡ unbarred machineRun k B c l o
+    checked B e (some r) b = refl
+    checked B e none b = ap (ranCall (k .reads) (bookShape B) (c .settings) l) (runs-same k c l B (record { loads = e; unbarred = b }))
+
+    go : (y : Load) → load (c .book) ≡ y → callWith readerRun k y c l ≡ callWith machineRun k y c l
+    go (refused r) e = refl
+    go (loaded B) e = checked B e (barred k B c l) refl

@@ -1,36 +1,37 @@
-// What both decoding calls share: the book is loaded, the call is admitted or refused, the run is made, and its word judged by the limit. Word and data
-// are found, not yet handed out. Relies on ran.rt and the crates codebook, coding and checks; specs/Attempt.antt says what is found.
+// A decoding call by the reader's run: the book is loaded, the call is admitted or refused, the run is made, its word is judged, and handed out where no verdict is against it. Relies
+// on ran.rt, verdict.rt and the crates loading, coding and checks; machine/specs/Calls says what a call answers and leaves.
 use crate::ran::run_cleared;
-use checks::Checked;
-use checks::Lengths;
+use crate::verdict::give;
+use crate::verdict::judge;
 use checks::admission::admit;
 use codebook::Outcome;
 use codebook::Refusal;
-use codebook::Sizes;
+use codebook::Shape;
+use codec::HookRecord;
+use codec::Status;
 use coding::data_of;
 use loading::load_tables;
 use machine::Counts;
-use machine::Decoded;
-use steps::Setting;
+use machine::HookDecoded;
+use machine::Lengths;
+use machine::Manner;
+use machine::Reads;
+use settings::Checked;
+use settings::Settings;
 ghost use mathlib.Core.Path.{_≡_};
-ghost use mathlib.Core.Bool.{true};
-ghost use mathlib.Core.List.{_++_};
-ghost use Prim.Native.Nat.{_+_, _*_, _≤_};
-ghost use lib.IntN.{pos};
-ghost use lib.ListN.{length, take, drop, replicate};
-ghost use Rattle.polar.specs.Layers.{part};
-ghost use Rattle.codebook.specs.declared.Outcome.the-variants.{Refused as NotDone};
-ghost use Rattle.queue.specs.Queue.{Step};
-ghost use Rattle.machine.specs.Calls.{given, lent, finalIn, within, noCounts, walked};
-ghost use Rattle.reader.specs.Reader as R;
-ghost use Rattle.reading.specs.Running.{arraysOf, received};
-ghost use Rattle.attempts.specs.Attempt.{answerOf, attempted, Holding, Ready};
+ghost use Prim.Native.Nat.{_≤_};
+ghost use lib.Dec.{T};
+ghost use lib.ListN.{length};
+ghost use Rattle.settings.specs.Settings.{Ranged};
+ghost use Rattle.machine.specs.Calls.{given, lentBefore, lentAfter, numbersNeeded, bytesNeeded, walkNeeded, holds, refusedAs, ranCall, callBy};
+ghost use Rattle.attempts.specs.Reading.{readerRun};
+ghost use Rattle.attempts.specs.Attempt.{Ready};
 
 // The answer where no run is made.
-fn refused(r: Refusal) -> Decoded
-    ensures { λ x. ⌜ (x .outcome ≡ NotDone r) × (x .counts ≡ noCounts) ⌝ }
+fn refused(r: Refusal) -> HookDecoded
+    ensures { λ x. ⌜ x ≡ refusedAs r ⌝ }
 {
-    Decoded {
+    HookDecoded {
         outcome: Outcome::Refused(r),
         counts: Counts {
             extractions: 0,
@@ -38,21 +39,28 @@ fn refused(r: Refusal) -> Decoded
             outrun: 0,
             discrepancy: 0,
         },
+        hook: HookRecord {
+            plant: 0,
+            carcass: 0,
+            side: 0,
+            status: Status::Passed,
+        },
     }
 }
 
-// The run of an admitted call, on the stated part of the workspace. Where its word is within the limit, `found` begins with it and `info` with its data.
-fn judge(
-    x: Sizes,
-    visits: u32,
-    paths: u32,
-    limit: u32,
+// An admitted call: the run on the stated part of the workspace, the data of its word, the verdict, and what is handed out. What the run finds goes to `found`, its data to `info`.
+fn decide(
+    r: Reads,
+    x: Shape,
+    s: Settings,
     values: &[i16],
     kinds: &[u8; 512],
     terms: &[u32; 512],
     heights: &[u8; 512],
     starts: &[u16; 512],
     biases: &[i32; 512],
+    word: &mut [u8],
+    bits: &mut [u8],
     numbers: &mut [i32],
     bytes: &mut [u8],
     walk_path: &mut [i32],
@@ -60,36 +68,24 @@ fn judge(
     walk_score: &mut [i32],
     found: &mut [u8],
     info: &mut [u8],
-) -> Decoded
-    requires { ⌜ (1 ≤ visits) × (visits ≤ 32) × (2 ≤ paths) × (paths ≤ 256) ⌝ }
+) -> HookDecoded
+    requires { ⌜ Ranged s × T (holds r x) × (length (now word) ≡ x .n) × (length (now bits) ≡ x .k) ⌝ }
     requires { ⌜ (length (now heights) ≡ 512) × (length (now starts) ≡ 512) × (length (now biases) ≡ 512) × (length (now found) ≡ 512) × (length (now info) ≡ 512) ⌝ }
-    requires { ⌜ (paths * (2 * x .n + 32) ≤ length (now numbers)) × (paths * (2 * x .n) ≤ length (now bytes)) ⌝ }
-    requires { ⌜ (visits * x .blocks + 1 ≤ length (now «walk_path»)) × (visits * x .blocks + 1 ≤ length (now «walk_blocks»))
-        × (visits * x .blocks + 1 ≤ length (now «walk_score»)) ⌝ }
+    requires { ⌜ (numbersNeeded x s ≤ length (now numbers)) × (bytesNeeded x s ≤ length (now bytes)) ⌝ }
+    requires { ⌜ (walkNeeded x s ≤ length (now «walk_path»)) × (walkNeeded x s ≤ length (now «walk_blocks»)) × (walkNeeded x s ≤ length (now «walk_score»)) ⌝ }
     requires { ⌜ Ready x (now values) (now kinds) (now terms) (now heights) (now starts) (now biases) ⌝ }
-    ensures { λ _. ⌜ (now (numbers .exit) ≡ replicate (paths * (2 * x .n + 32)) (pos 0) ++ drop (paths * (2 * x .n + 32)) (now (numbers .entry)))
-        × (now (bytes .exit) ≡ replicate (paths * (2 * x .n)) 0 ++ drop (paths * (2 * x .n)) (now (bytes .entry))) ⌝ }
-    ensures { λ r. ⌜ ((c : Ready x (now (values .entry)) (now (kinds .entry)) (now (terms .entry)) (now (heights .entry)) (now (starts .entry)) (now (biases .entry)))
-        → (let y = R.runOf (c .book) visits paths (arraysOf (x .m) (received (x .m) (now (values .entry)) (take (paths * (2 * x .n + 32)) (now (numbers .entry))))
-        (take (paths * (2 * x .n)) (now (bytes .entry)))) in
-        (r ≡ answerOf limit (y .steps) (y .end))
-        × (now («walk_path» .exit) ≡ walked (λ (z : Step). pos (z .path)) (y .steps) (now («walk_path» .entry)))
-        × (now («walk_blocks» .exit) ≡ walked (λ (z : Step). pos (z .blocks)) (y .steps) (now («walk_blocks» .entry)))
-        × (now («walk_score» .exit) ≡ walked (λ (z : Step). z .score) (y .steps) (now («walk_score» .entry)))
-        × (within limit (y .end) ≡ true → (part 0 (x .n) (now (found .exit)) ≡ finalIn (y .end) .word) × (part 0 (x .k) (now (info .exit)) ≡ finalIn (y .end) .bits)))) ⌝ }
+    ensures { λ y. ⌜ ((c : Ready x (now (values .entry)) (now (kinds .entry)) (now (terms .entry)) (now (heights .entry)) (now (starts .entry)) (now (biases .entry)))
+        → (let l = lentBefore word bits numbers bytes «walk_path» «walk_blocks» «walk_score» in
+        let w = ranCall r x s l (readerRun (c .book) s (now (values .entry)) l) in
+        (y ≡ w .answer) × (lentAfter word bits numbers bytes «walk_path» «walk_blocks» «walk_score» ≡ w .lent))) ⌝ }
 {
     let n = x.n as usize;
     let k = x.k as usize;
-    let most = paths as usize;
+    let most = s.paths as usize;
     let size = most * (2 * n + 32);
     let room = most * (2 * n);
-    let s = Setting {
-        m: x.m as usize,
-        blocks: x.blocks as usize,
-        visits,
-        paths: most,
-    };
     let counts = run_cleared(
+        x,
         s,
         values,
         kinds,
@@ -104,44 +100,35 @@ fn judge(
         walk_score,
         &mut found[..n],
     );
-    if limit < counts.discrepancy {
-        return Decoded {
-            outcome: Outcome::Refused(Refusal::AboveLimit),
-            counts,
-        };
-    }
     let mut u = [0u8; 512];
     data_of(kinds, x.m, &found[..n], &mut u[..n], &mut info[..k]);
-    Decoded {
-        outcome: Outcome::Done,
+    let read = judge(r, s, counts.discrepancy, &info[..k]);
+    let outcome = read.outcome;
+    give(outcome, found, info, word, bits);
+    let hook = read.hook;
+    HookDecoded {
+        outcome,
         counts,
+        hook,
     }
 }
 
-// Loads, admits, runs and judges; the run is the reader's on the workspace lent (specs/Reading). Only the lengths of word and data are looked at.
+// A call in this manner: loaded, tested, run, judged, handed out. The run is the reader's on the workspace lent (specs/Reading).
 pub fn attempt(
-    hook: bool,
+    k: Manner,
     book: &[u8],
-    visits: u32,
-    paths: u32,
-    limit: u32,
+    asked: Settings,
     values: &[i16],
-    word: &[u8],
-    bits: &[u8],
+    word: &mut [u8],
+    bits: &mut [u8],
     numbers: &mut [i32],
     bytes: &mut [u8],
     walk_path: &mut [i32],
     walk_blocks: &mut [i32],
     walk_score: &mut [i32],
-    found: &mut [u8],
-    info: &mut [u8],
-) -> Decoded
-    requires { ⌜ (length (now found) ≡ 512) × (length (now info) ≡ 512) ⌝ }
-    ensures { λ r. ⌜ (let a = attempted hook (given (now (book .entry)) visits paths limit (now (values .entry)))
-        (lent (now (word .entry)) (now (bits .entry)) (now (numbers .entry)) (now (bytes .entry)) (now («walk_path» .entry)) (now («walk_blocks» .entry)) (now («walk_score» .entry))) in
-        (r ≡ a .answer)
-        × (lent (now (word .entry)) (now (bits .entry)) (now (numbers .exit)) (now (bytes .exit)) (now («walk_path» .exit)) (now («walk_blocks» .exit)) (now («walk_score» .exit)) ≡ a .lent)
-        × Holding a (now (found .exit)) (now (info .exit))) ⌝ }
+) -> HookDecoded
+    ensures { λ r. ⌜ (let w = callBy readerRun k (given (now (book .entry)) asked (now (values .entry))) (lentBefore word bits numbers bytes «walk_path» «walk_blocks» «walk_score») in
+        (r ≡ w .answer) × (lentAfter word bits numbers bytes «walk_path» «walk_blocks» «walk_score» ≡ w .lent)) ⌝ }
 {
     let mut kinds = [0u8; 512];
     let mut terms = [0u32; 512];
@@ -170,37 +157,31 @@ pub fn attempt(
         blocks: walk_blocks.len(),
         scores: walk_score.len(),
     };
-    let admitted = admit(
-        !hook || x.k == 32,
-        x.n as usize,
-        x.k as usize,
-        x.blocks as usize,
-        visits,
-        paths,
-        limit,
-        l,
-        values,
-    );
-    if let Checked::Bad(r) = admitted {
-        return refused(r);
+    let admitted = admit(k, x, asked, l, values);
+    let reads = k.reads;
+    let mut found = [0u8; 512];
+    let mut info = [0u8; 512];
+    match admitted {
+        Checked::Bad(r) => refused(r),
+        Checked::Good(s) => decide(
+            reads,
+            x,
+            s,
+            values,
+            &kinds,
+            &terms,
+            &heights,
+            &starts,
+            &biases,
+            word,
+            bits,
+            numbers,
+            bytes,
+            walk_path,
+            walk_blocks,
+            walk_score,
+            &mut found,
+            &mut info,
+        ),
     }
-    judge(
-        x,
-        visits,
-        paths,
-        limit,
-        values,
-        &kinds,
-        &terms,
-        &heights,
-        &starts,
-        &biases,
-        numbers,
-        bytes,
-        walk_path,
-        walk_blocks,
-        walk_score,
-        found,
-        info,
-    )
 }

@@ -1,6 +1,6 @@
-// A command of a book in words. Relies on crate text.
-use text::bytes::four;
-use text::bytes::two;
+// A command of a book in words. Relies on crates text and numerals.
+use numerals::four;
+use numerals::two;
 use text::print_bytes;
 use text::print_number;
 use text::print_words;

@@ -6,6 +6,7 @@ use numbered::make_record_number;
 use numbered::read_data_number;
 use numbered::read_record_answer;
 use numbered::test_number;
+use settings::Settings;
 use slices::decode_hook_slices;
 use slices::decode_slices;
 ghost use mathlib.Core.Path.{_≡_};
@@ -13,9 +14,10 @@ ghost use Rattle.codebook.specs.Refusals.{outcomeNumber};
 ghost use Rattle.codec.specs.Record.{statusOf};
 ghost use Rattle.codec.specs.Calls.{encodeCall, testCall, readDataCall};
 ghost use Rattle.codec.specs.Numbers.{testedNumber};
-ghost use Rattle.machine.specs.Calls.{given, lent};
+ghost use Rattle.settings.specs.Settings.{asked};
+ghost use Rattle.machine.specs.Calls.{given, lentBefore, lentAfter};
 ghost use Rattle.numbered.specs.Answers.{loadAnswer, makeRecordWrote, readRecordAnswer};
-ghost use Rattle.slices.specs.Slices.{plainAnswered, hookAnswered, PlainSlices, HookSlices};
+ghost use Rattle.slices.specs.Slices.{PlainSlices, HookSlices};
 
 // Loads a book: its n, k and V.
 #[no_mangle]
@@ -93,18 +95,18 @@ pub extern "C" fn saddlemint_decode(
     walk_score: &mut [i32],
     counts: &mut [u32],
 ) -> u32
-    ensures { λ r. ⌜ (let c = given (now (book .entry)) visits paths limit (now (values .entry)) in
-        let l = lent (now (word .entry)) (now (bits .entry)) (now (numbers .entry)) (now (bytes .entry)) (now («walk_path» .entry)) (now («walk_blocks» .entry)) (now («walk_score» .entry)) in
-        let after = lent (now (word .exit)) (now (bits .exit)) (now (numbers .exit)) (now (bytes .exit)) (now («walk_path» .exit)) (now («walk_blocks» .exit)) (now («walk_score» .exit)) in
-        let a = plainAnswered c l (now (counts .entry)) in
-        (r ≡ a .number) × (after ≡ a .lent) × (now (counts .exit) ≡ a .counts)
-        × PlainSlices c l (now (counts .entry)) r after (now (counts .exit))) ⌝ }
+    ensures { λ r. ⌜ PlainSlices (given (now (book .entry)) (asked visits paths limit) (now (values .entry)))
+        (lentBefore word bits numbers bytes «walk_path» «walk_blocks» «walk_score») (now (counts .entry))
+        r (lentAfter word bits numbers bytes «walk_path» «walk_blocks» «walk_score») (now (counts .exit)) ⌝ }
 {
-    decode_slices(
-        book,
+    let s = Settings {
         visits,
         paths,
         limit,
+    };
+    decode_slices(
+        book,
+        s,
         values,
         word,
         bits,
@@ -135,18 +137,18 @@ pub extern "C" fn saddlemint_decode_hook(
     counts: &mut [u32],
     hook: &mut [u32],
 ) -> u32
-    ensures { λ r. ⌜ (let c = given (now (book .entry)) visits paths limit (now (values .entry)) in
-        let l = lent (now (word .entry)) (now (bits .entry)) (now (numbers .entry)) (now (bytes .entry)) (now («walk_path» .entry)) (now («walk_blocks» .entry)) (now («walk_score» .entry)) in
-        let after = lent (now (word .exit)) (now (bits .exit)) (now (numbers .exit)) (now (bytes .exit)) (now («walk_path» .exit)) (now («walk_blocks» .exit)) (now («walk_score» .exit)) in
-        let a = hookAnswered c l (now (counts .entry)) (now (hook .entry)) in
-        (r ≡ a .number) × (after ≡ a .lent) × (now (counts .exit) ≡ a .counts) × (now (hook .exit) ≡ a .hook)
-        × HookSlices c l (now (counts .entry)) (now (hook .entry)) r after (now (counts .exit)) (now (hook .exit))) ⌝ }
+    ensures { λ r. ⌜ HookSlices (given (now (book .entry)) (asked visits paths limit) (now (values .entry)))
+        (lentBefore word bits numbers bytes «walk_path» «walk_blocks» «walk_score») (now (counts .entry)) (now (hook .entry))
+        r (lentAfter word bits numbers bytes «walk_path» «walk_blocks» «walk_score») (now (counts .exit)) (now (hook .exit)) ⌝ }
 {
-    decode_hook_slices(
-        book,
+    let s = Settings {
         visits,
         paths,
         limit,
+    };
+    decode_hook_slices(
+        book,
+        s,
         values,
         word,
         bits,

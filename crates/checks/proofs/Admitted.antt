@@ -1,53 +1,41 @@
--- What is admitted, by the outcomes of the three tests; and what the check of the settings tells. Each by cases of the tests. Assumes nothing.
+-- What is admitted, by the outcomes of the three tests: of the settings, of what fits, of the values. By cases of the tests. Assumes nothing.
 use mathlib.Core.Path.{_≡_, refl, sym, ap, _∙_}
 use mathlib.Core.Bool.{Bool, true, false, cond, _&&_}
-use mathlib.Core.List.{List}
-use Prim.Native.Nat.{ℕ}
-use native.Mathlib.Omega.{arith}
+use mathlib.Core.List.{List, [], _∷_}
 use lib.IntN.{ℤ}
-use Rattle.codebook.specs.declared.Refusal.{Refusal}
 use Rattle.codebook.specs.declared.Refusal.the-variants.{Mismatch, BadSetting, BadValue}
-use Rattle.machine.specs.Calls.{valuesOk}
-use Rattle.checks.specs.declared.Settings.{Settings}
-use Rattle.checks.specs.declared.Checked.{Checked}
-use Rattle.checks.specs.declared.Checked.the-variants.{Good, Bad}
-use Rattle.checks.specs.declared.Lengths.{Lengths}
-use Rattle.checks.specs.Checks.{settingsFit, checkedAs, lengthsFit, admittedAs}
-use Rattle.checks.proofs.Fitting.{Ranged, settings-tell}
+use Rattle.codebook.specs.declared.Shape.{Shape}
+use Rattle.codebook.specs.Refusals.{unless}
+use Rattle.settings.specs.declared.Settings.{Settings}
+use Rattle.settings.specs.declared.Checked.{Checked}
+use Rattle.settings.specs.declared.Checked.the-variants.{Good, Bad}
+use Rattle.settings.specs.Settings.{settingsOk}
+use Rattle.machine.specs.declared.Manner.{Manner}
+use Rattle.machine.specs.declared.Lengths.{Lengths}
+use Rattle.machine.specs.Calls.{test, firstFailed, lengthsOk, besideOk, holds, valuesOk, testsBefore}
+use Rattle.checks.specs.Checks.{fitting, admittedAs}
 
 -- the answer of three tests, one after the other
 unfoldable pub admittedBy : Bool → Bool → Bool → Settings → Checked
-admittedBy s b v x = cond s (cond b (cond v (Good x) (Bad BadValue)) (Bad Mismatch)) (Bad BadSetting)
+admittedBy a b v s = cond a (cond b (cond v (Good s) (Bad BadValue)) (Bad Mismatch)) (Bad BadSetting)
 
-module _ (L D limit : ℕ) where
-  abbrev made : Settings
-  made = record { visits = L; paths = D; limit = limit }
+-- the second is three
+three : (s : Settings) (a h l b v : Bool) → admittedBy a (h && l && b) v s
+    ≡ admittedAs (firstFailed (test a BadSetting ∷ test h Mismatch ∷ test l Mismatch ∷ test b Mismatch ∷ test v BadValue ∷ [])) s
+unfolding admittedBy admittedAs firstFailed unless
+three s true true true true true = refl
+three s true true true true false = refl
+three s true true true false v = refl
+three s true true false b v = refl
+three s true false l b v = refl
+three s false h l b v = refl
 
-  pub admitted : (fits : Bool) (n k count : ℕ) (l : Lengths) (ys : List ℤ) {s b v : Bool} → settingsFit L D limit ≡ s
-      → (fits && lengthsFit n k count L D l) ≡ b → valuesOk ys ≡ v → admittedBy s b v made ≡ admittedAs fits n k count L D limit l ys
-  unfolding admittedAs admittedBy
-  admitted fits n k count l ys {s} {b} {v} p q r =
-      sym
-      (ap (λ (y : Bool). admittedBy y (fits && lengthsFit n k count L D l) (valuesOk ys) made) p
-      ∙ ap (λ (y : Bool). admittedBy s y (valuesOk ys) made) q
-      ∙ ap (λ (y : Bool). admittedBy s b y made) r)
-
-  -- what the check of the settings tells: none were made, or these were, each in its range
-  pub none-made : (r : Refusal) → checkedAs L D limit ≡ Bad r → settingsFit L D limit ≡ false
-  unfolding checkedAs
-  none-made r = go (settingsFit L D limit)
-    where
-      go : (b : Bool) → cond b (Good made) (Bad BadSetting) ≡ Bad r → b ≡ false
-      go true e = let z : _≡_ {A = ℕ} 0 1 = cc in absurd (omega arith)
-      go false e = refl
-
-  pub these-made : (s : Settings) → checkedAs L D limit ≡ Good s → (settingsFit L D limit ≡ true) × (s ≡ made)
-  unfolding checkedAs
-  these-made s = go (settingsFit L D limit)
-    where
-      go : (b : Bool) → cond b (Good made) (Bad BadSetting) ≡ Good s → (b ≡ true) × (s ≡ made)
-      go true e = (refl, (cc))
-      go false e = let z : _≡_ {A = ℕ} 0 1 = cc in absurd (omega arith)
-
-  pub in-ranges : settingsFit L D limit ≡ true → Ranged L D limit
-  in-ranges e = settings-tell L D limit .out (rw e tt)
+pub admitted : (k : Manner) (x : Shape) (s : Settings) (l : Lengths) (ys : List ℤ) {a b v : Bool} → settingsOk s ≡ a → fitting k x s l ≡ b → valuesOk ys ≡ v
+    → admittedBy a b v s ≡ admittedAs (firstFailed (testsBefore k x s l ys)) s
+unfolding testsBefore fitting
+admitted k x s l ys {a} {b} {v} p q r =
+    sym
+    (ap (λ (y : Bool). admittedBy y (fitting k x s l) (valuesOk ys) s) p
+    ∙ ap (λ (y : Bool). admittedBy a y (valuesOk ys) s) q
+    ∙ ap (λ (y : Bool). admittedBy a b y s) r)
+    ∙ three s (settingsOk s) (holds (k .reads) x) (lengthsOk x s l) (besideOk k x s) (valuesOk ys)

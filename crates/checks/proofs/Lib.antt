@@ -1,4 +1,4 @@
-pub mod Fitting
+pub mod Chains
 pub mod Admitted
 pub mod Valued
 pub mod Cleared

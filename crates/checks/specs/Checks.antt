@@ -1,37 +1,20 @@
--- The checks of a decoding call, as functions of numbers: document 01, "Refusal table", 8, 7 and 9. machine/specs/Calls says the same of a call's input
--- and buffers; proofs/Fitting shows the two alike (settings-fit, lengths-fit). Assumes nothing.
-use mathlib.Core.Bool.{Bool, cond, _&&_}
-use mathlib.Core.List.{List}
-use Prim.Native.Nat.{ℕ, _+_, _*_}
-use lib.Dec.{leb, eqb}
-use lib.IntN.{ℤ}
-use Rattle.codebook.specs.declared.Refusal.the-variants.{Mismatch, BadSetting, BadValue}
-use Rattle.machine.specs.Calls.{valuesOk}
-use Rattle.checks.specs.declared.Checked.{Checked}
-use Rattle.checks.specs.declared.Checked.the-variants.{Good, Bad}
-use Rattle.checks.specs.declared.Lengths.{Lengths}
+-- What the tests of a decoding call come to: document 01, "Refusal table", 8, 7 and 9. The tests themselves are machine/specs/Calls'. Assumes nothing.
+use mathlib.Core.Bool.{Bool, _&&_}
+use mathlib.Core.Option.{Option, none, some}
+use Rattle.codebook.specs.declared.Refusal.{Refusal}
+use Rattle.codebook.specs.declared.Shape.{Shape}
+use Rattle.settings.specs.declared.Settings.{Settings}
+use Rattle.settings.specs.declared.Checked.{Checked}
+use Rattle.settings.specs.declared.Checked.the-variants.{Good, Bad}
+use Rattle.machine.specs.declared.Manner.{Manner}
+use Rattle.machine.specs.declared.Lengths.{Lengths}
+use Rattle.machine.specs.Calls.{lengthsOk, besideOk, holds}
 
--- L 1 to 32, D 2 to 256, T 0 to 1,048,576
-unfoldable pub settingsFit : ℕ → ℕ → ℕ → Bool
-settingsFit L D T = leb 1 L && leb L 32 && leb 2 D && leb D 256 && leb T 1048576
+-- whether the three tests for 7 are passed
+unfoldable pub fitting : Manner → Shape → Settings → Lengths → Bool
+fitting k x s l = holds (k .reads) x && lengthsOk x s l && besideOk k x s
 
--- the settings, if each is in its range, else 8
-unfoldable pub checkedAs : ℕ → ℕ → ℕ → Checked
-checkedAs L D T = cond (settingsFit L D T) (Good (record { visits = L; paths = D; limit = T })) (Bad BadSetting)
-
--- values and word are exactly n long, data exactly k; workspace and walk hold at least what a run asks, for V blocks
-unfoldable pub lengthsFit : ℕ → ℕ → ℕ → ℕ → ℕ → Lengths → Bool
-lengthsFit n k V′ L D l =
-    eqb (l .values) n && eqb (l .word) n && eqb (l .bits) k
-    && leb (D * (2 * n + 32)) (l .numbers)
-    && leb (D * (2 * n)) (l .bytes)
-    && leb (L * V′ + 1) (l .paths)
-    && leb (L * V′ + 1) (l .blocks)
-    && leb (L * V′ + 1) (l .scores)
-
--- what a call with a good book goes on with: its settings, or why it makes no run: 8, then 7, then 9; fits is what the call asks of k besides
-unfoldable pub admittedAs : Bool → ℕ → ℕ → ℕ → ℕ → ℕ → ℕ → Lengths → List ℤ → Checked
-admittedAs fits n k V′ L D T l ys =
-    cond (settingsFit L D T)
-    (cond (fits && lengthsFit n k V′ L D l) (cond (valuesOk ys) (Good (record { visits = L; paths = D; limit = T })) (Bad BadValue)) (Bad Mismatch))
-    (Bad BadSetting)
+-- the settings that a call goes on with, or why it makes no run
+unfoldable pub admittedAs : Option Refusal → Settings → Checked
+admittedAs none s = Good s
+admittedAs (some r) s = Bad r

@@ -1,12 +1,13 @@
-// Tests of what a decoding call is given and lent: the values and the lengths. Relies on no other file; machine/specs/Calls says which values are good,
-// specs/Checks.antt which lengths.
+// Tests of what a decoding call is given and lent: the values and the lengths. Relies on no other file; machine/specs/Calls says which are good.
 ghost use mathlib.Core.Path.{_≡_};
 ghost use Prim.Native.Nat.{_≤_};
 ghost use lib.Dec.{leb};
 ghost use lib.IntN.{natAbs};
-ghost use Rattle.machine.specs.Calls.{valuesOk};
-ghost use Rattle.checks.specs.Checks.{lengthsFit};
-use crate::Lengths;
+ghost use Rattle.settings.specs.Settings.{Ranged};
+ghost use Rattle.machine.specs.Calls.{walkNeeded, lengthsOk, valuesOk};
+use codebook::Shape;
+use machine::Lengths;
+use settings::Settings;
 
 // Whether a value lies in -2,047 to 2,047.
 fn value_ok(v: i16) -> bool
@@ -33,19 +34,23 @@ pub fn values_ok(values: &[i16]) -> bool
     faults == 0
 }
 
-// Whether the lengths are right for a book with n, k and so many blocks, and the settings L and D.
-pub fn lengths_ok(
-    n: usize,
-    k: usize,
-    blocks: usize,
-    visits: usize,
-    paths: usize,
-    l: Lengths,
-) -> bool
-    requires { ⌜ (n ≤ 512) × (blocks ≤ 512) × (visits ≤ 32) × (paths ≤ 256) ⌝ }
-    ensures { λ r. ⌜ r ≡ lengthsFit n k blocks visits paths l ⌝ }
+// How many extractions a run may have, and so the entries of a walk buffer.
+pub fn walk_needed(x: Shape, s: Settings) -> usize
+    requires { ⌜ (x .blocks ≤ 512) × Ranged s ⌝ }
+    ensures { λ r. ⌜ r ≡ walkNeeded x s ⌝ }
 {
-    let walk = visits * blocks + 1;
+    s.visits as usize * x.blocks as usize + 1
+}
+
+// Whether the lengths are right for a book of this shape, and these settings.
+pub fn lengths_ok(x: Shape, s: Settings, l: Lengths) -> bool
+    requires { ⌜ (x .n ≤ 512) × (x .blocks ≤ 512) × Ranged s ⌝ }
+    ensures { λ r. ⌜ r ≡ lengthsOk x s l ⌝ }
+{
+    let n = x.n as usize;
+    let k = x.k as usize;
+    let paths = s.paths as usize;
+    let walk = walk_needed(x, s);
     if l.values != n || l.word != n || l.bits != k {
         return false;
     }

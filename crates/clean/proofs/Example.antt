@@ -1,7 +1,6 @@
 -- There are clean hooks, at the least L, D and T: two of the marked table, one with biases 3, 2, 2 and 0 and values from 1 to 2,047 in magnitude, one with k = 0. By computing.
 -- Assumes nothing.
 use mathlib.Core.Path.{_≡_, refl}
-use mathlib.Core.Bool.{true}
 use mathlib.Core.List.{List, [], _∷_, _++_}
 use Prim.Native.Nat.{ℕ, zero, suc, _<_}
 use native.Mathlib.Omega.{arith}
@@ -10,13 +9,14 @@ use lib.IntN.{pos}
 use lib.Signed.{_≤ℤ_}
 use Rattle.laws.specs.Pairs.{Paired}
 use Rattle.codebook.specs.Book.{free, frozen, Book, blockAt}
-use Rattle.machine.specs.Calls.{Input, Lent, given, plainCall}
-use Rattle.machine.specs.Table.{size, zeros, block, end, flatBook, room, flatRoom, cleanValues}
+use Rattle.machine.specs.declared.Reads.the-variants.{Data}
+use Rattle.machine.specs.Calls.{Input, Lent, callOf, plain}
+use Rattle.machine.specs.Table.{asks, size, zeros, block, end, flatBook, room, flatRoom, cleanValues}
 use Rattle.machine.proofs.Computing.{computing}
 use Rattle.runs.specs.Handed.{Made}
 use Rattle.clean.specs.Clean.{Clean}
-use Rattle.clean.specs.Calls.{cleanPlain}
-use Rattle.clean.proofs.Calls.{plain-clean}
+use Rattle.clean.specs.Calls.{ReadsClean}
+use Rattle.clean.proofs.Calls.{call-clean}
 
 -- ---- biases that fall and stay, the word 1011
 
@@ -32,9 +32,9 @@ abbrev word : List ℕ
 word = 1 ∷ 0 ∷ 1 ∷ 1 ∷ []
 
 abbrev hook : Input
-hook = given (flatBook 3 2 2 0) 1 2 0 cleanValues
+hook = asks (flatBook 3 2 2 0) 1 2 0 cleanValues
 
-made : Made true hook flatRoom fallingBook
+made : Made plain hook flatRoom fallingBook
 unfolding computing
 made = record { loads = refl; unbarred = refl }
 
@@ -56,8 +56,8 @@ falling =
     fall (suc (suc zero)) l = record { le = tt }
     fall (suc (suc (suc b))) l = absurd (omega arith)
 
-pub clean-example : plainCall hook flatRoom ≡ cleanPlain fallingBook hook flatRoom word
-clean-example = plain-clean fallingBook hook flatRoom word falling made
+pub clean-example : ReadsClean Data fallingBook (hook .settings) flatRoom word (callOf plain hook flatRoom)
+clean-example = call-clean plain hook flatRoom fallingBook word falling made
 
 -- ---- k = 0, one block
 
@@ -68,12 +68,12 @@ abbrev zeroWord : List ℕ
 zeroWord = 0 ∷ 0 ∷ 0 ∷ 0 ∷ []
 
 abbrev zeroHook : Input
-zeroHook = given (size 2 ++ (zeros 4 ++ (block 2 5 ++ end))) 1 2 0 (replicate 4 (pos 1))
+zeroHook = asks (size 2 ++ (zeros 4 ++ (block 2 5 ++ end))) 1 2 0 (replicate 4 (pos 1))
 
 abbrev zeroRoom : Lent
 zeroRoom = room 4 0 80 16 2
 
-zero-made : Made true zeroHook zeroRoom zeroBook
+zero-made : Made plain zeroHook zeroRoom zeroBook
 unfolding computing
 zero-made = record { loads = refl; unbarred = refl }
 
@@ -89,5 +89,5 @@ zero-clean =
       biases = λ b l. absurd (omega arith);
     }
 
-pub zero-example : plainCall zeroHook zeroRoom ≡ cleanPlain zeroBook zeroHook zeroRoom zeroWord
-zero-example = plain-clean zeroBook zeroHook zeroRoom zeroWord zero-clean zero-made
+pub zero-example : ReadsClean Data zeroBook (zeroHook .settings) zeroRoom zeroWord (callOf plain zeroHook zeroRoom)
+zero-example = call-clean plain zeroHook zeroRoom zeroBook zeroWord zero-clean zero-made

@@ -189,10 +189,14 @@ loadFrom (suc fuel) s (byte ∷ after) =
 unfoldable pub load : List ℕ → Load
 load bytes = loadFrom (length bytes) start bytes
 
--- what the load call answers: n, k and V, zeros on a refusal
+-- the shape of a book: m, n, k and V
+abbrev pub bookShape : Book → Shape
+bookShape B = record { outcome = Done; m = B .m; n = 2 ^ (B .m); k = freeCount (B .kinds); blocks = length (B .blocks) }
+
+-- what loading answers: the book's shape, zeros on a refusal
 unfoldable pub shapeOf : Load → Shape
-shapeOf (refused r) = record { outcome = Refused r; n = 0; k = 0; blocks = 0 }
-shapeOf (loaded B) = record { outcome = Done; n = 2 ^ (B .m); k = freeCount (B .kinds); blocks = length (B .blocks) }
+shapeOf (refused r) = record { outcome = Refused r; m = 0; n = 0; k = 0; blocks = 0 }
+shapeOf (loaded B) = bookShape B
 
 -- the number of a call on a book: that of the refusal where it does not load, else what the call's own tests come to
 unfoldable pub numberBy : Load → (Book → ℕ) → ℕ

@@ -12,7 +12,7 @@ use Rattle.laws.specs.Lists.{tab, over}
 use Rattle.codebook.specs.declared.Refusal.{Refusal}
 use Rattle.codebook.specs.declared.Refusal.the-variants.{Truncated, Misplaced}
 use Rattle.codebook.specs.declared.Outcome.the-variants.{Done}
-use Rattle.codebook.specs.declared.Sizes.{Sizes}
+use Rattle.codebook.specs.declared.Shape.{Shape}
 use Rattle.codebook.specs.declared.Command.{Command}
 use Rattle.codebook.specs.declared.Command.the-variants.{Length, Free, Zero, Tie, Term, Block as NextBlock, End}
 use Rattle.codebook.specs.declared.Read.{Read}
@@ -102,9 +102,9 @@ pub record HoldsLoaded (p : Progress) (t old : Tables) (s : Loading) : Type 0 wh
   pub starts : t .starts ≡ over (tab (length (s .blocks)) (startOf (s .blocks))) (old .starts)
   pub biases : t .biases ≡ over (map (λ (x : Block). x .bias) (s .blocks)) (old .biases)
 
--- the sizes of a book that is loaded
-unfoldable pub sizesAt : Progress → Sizes
-sizesAt p = record { outcome = Done; m = p .m; n = p .n; k = p .free; blocks = p .blocks }
+-- the shape of a book that is loaded
+unfoldable pub shapeAt : Progress → Shape
+shapeAt p = record { outcome = Done; m = p .m; n = p .n; k = p .free; blocks = p .blocks }
 
 -- ---- what a command comes to
 

@@ -1,4 +1,4 @@
--- The tables that the loader fills for the decoder, as functions of the loaded book; and what the load calls answer. Assumes nothing.
+-- The tables that the loader fills for the decoder, as functions of the loaded book. Assumes nothing.
 use mathlib.Core.Path.{_≡_}
 use mathlib.Core.Bool.{cond}
 use mathlib.Core.List.{List, [], _∷_, map}
@@ -10,7 +10,6 @@ use lib.IntN.{ℤ}
 use Rattle.laws.specs.Lists.{tab, over}
 use Rattle.codebook.specs.declared.Refusal.{Refusal}
 use Rattle.codebook.specs.declared.Outcome.the-variants.{Done, Refused}
-use Rattle.codebook.specs.declared.Sizes.{Sizes}
 use Rattle.codebook.specs.Book.{Kind, free, frozen, tied, Block, Book, freeCount, startOf}
 use Rattle.codebook.specs.Loading.{Loading, Load, refused, loaded, start, total, member, width, command, refusal, next}
 
@@ -87,8 +86,3 @@ loadedUpTo bytes = stopFrom (length bytes) start bytes
 unfoldable pub Filled : Load → Loading → Tables → Tables → Type 0
 Filled (refused r) s old new = new ≡ overlaid (tablesSoFar s) old
 Filled (loaded B) s old new = new ≡ overlaid (tablesOf B) old
-
--- what loading answers beside the tables: m, n, k and V, zeros on a refusal
-unfoldable pub sizesOf : Load → Sizes
-sizesOf (refused r) = record { outcome = Refused r; m = 0; n = 0; k = 0; blocks = 0 }
-sizesOf (loaded B) = record { outcome = Done; m = B .m; n = 2 ^ (B .m); k = freeCount (B .kinds); blocks = length (B .blocks) }

@@ -49,9 +49,10 @@ pub enum Command {
     End,
 }
 
-// What the load call answers: the length n, the number of free indices k, the number of blocks V; zeros where it is refused.
+// What loading answers: m, the length n = 2^m, the number of free indices k, the number of blocks V; zeros where it is refused.
 pub struct Shape {
     pub outcome: Outcome,
+    pub m: u32,
     pub n: u32,
     pub k: u32,
     pub blocks: u32,
@@ -84,15 +85,6 @@ pub enum Step {
     // The end command.
     End(Progress),
     Refused(Refusal),
-}
-
-// What loading answers with the tables: m, n, k and the number of blocks; zeros where it is refused.
-pub struct Sizes {
-    pub outcome: Outcome,
-    pub m: u32,
-    pub n: u32,
-    pub k: u32,
-    pub blocks: u32,
 }
 
 mod numbers;

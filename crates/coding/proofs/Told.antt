@@ -17,13 +17,12 @@ use Rattle.codebook.specs.declared.Refusal.{Refusal}
 use Rattle.codebook.specs.declared.Refusal.the-variants.{Mismatch, BadValue}
 use Rattle.codebook.specs.declared.Outcome.{Outcome}
 use Rattle.codebook.specs.declared.Outcome.the-variants.{Done, Refused}
-use Rattle.codebook.specs.declared.Sizes.{Sizes}
 use Rattle.codebook.specs.declared.Shape.{Shape}
 use Rattle.codebook.specs.Refusals.{outcomeNumber}
 use Rattle.codebook.specs.Book.{Book, freeCount}
 use Rattle.codebook.specs.Limits.{Valid}
 use Rattle.codebook.specs.Loading.{Load, refused, loaded, load, shapeOf}
-use Rattle.codebook.specs.Tables.{Tables, kindCodes, tieSet, tablesOf, overlaid, loadedUpTo, Filled, sizesOf}
+use Rattle.codebook.specs.Tables.{Tables, kindCodes, tieSet, tablesOf, overlaid, loadedUpTo, Filled}
 use Rattle.codebook.proofs.Loaded.{loaded-valid}
 use Rattle.codebook.proofs.Codes.{codes-length}
 use Rattle.codec.specs.declared.HookRecord.{HookRecord}
@@ -60,24 +59,6 @@ known-small K =
     omega (arith, K .size)
 
 module _ (book : List ℕ) where
-  pub sizes-refused : (x : Sizes) (r : Refusal) → x ≡ sizesOf (load book) → x .outcome ≡ Refused r → load book ≡ refused r
-  unfolding sizesOf
-  sizes-refused x r e q = go (load book) (sym (ap (λ (y : Sizes). y .outcome) e) ∙ q)
-    where
-      go : (l : Load) → sizesOf l .outcome ≡ Refused r → l ≡ refused r
-      go (refused s) p = let z : s ≡ r = cc in ap refused z
-      go (loaded B) p = let z : _≡_ {A = ℕ} 0 1 = cc in absurd (omega arith)
-
-  pub sizes-known : (x : Sizes) → x ≡ sizesOf (load book) → x .outcome ≡ Done → Known book (x .m) (x .n) (x .k)
-  unfolding sizesOf
-  sizes-known x e q = go (load book) refl (sym (ap (λ (y : Sizes). y .outcome) e) ∙ q)
-    where
-      go : (l : Load) → load book ≡ l → sizesOf l .outcome ≡ Done → Known book (x .m) (x .n) (x .k)
-      go (refused s) p d = let z : _≡_ {A = ℕ} 0 1 = cc in absurd (omega arith)
-      go (loaded B) p d =
-          let f : x ≡ sizesOf (loaded B) = e ∙ ap sizesOf p in
-          record { is = B; loads = p; height = ap (λ (y : Sizes). y .m) f; size = ap (λ (y : Sizes). y .n) f; free = ap (λ (y : Sizes). y .k) f; valid = loaded-valid book B p }
-
   pub shape-refused : (x : Shape) (r : Refusal) → x ≡ shapeOf (load book) → x .outcome ≡ Refused r → load book ≡ refused r
   unfolding shapeOf
   shape-refused x r e q = go (load book) (sym (ap (λ (y : Shape). y .outcome) e) ∙ q)
@@ -86,13 +67,15 @@ module _ (book : List ℕ) where
       go (refused s) p = let z : s ≡ r = cc in ap refused z
       go (loaded B) p = let z : _≡_ {A = ℕ} 0 1 = cc in absurd (omega arith)
 
-  pub shape-known : (x : Shape) → x ≡ shapeOf (load book) → x .outcome ≡ Done → (B : Book) × (load book ≡ loaded B) × (x .k ≡ freeCount (B .kinds))
+  pub shape-known : (x : Shape) → x ≡ shapeOf (load book) → x .outcome ≡ Done → Known book (x .m) (x .n) (x .k)
   unfolding shapeOf
   shape-known x e q = go (load book) refl (sym (ap (λ (y : Shape). y .outcome) e) ∙ q)
     where
-      go : (l : Load) → load book ≡ l → shapeOf l .outcome ≡ Done → (B : Book) × (load book ≡ loaded B) × (x .k ≡ freeCount (B .kinds))
+      go : (l : Load) → load book ≡ l → shapeOf l .outcome ≡ Done → Known book (x .m) (x .n) (x .k)
       go (refused s) p d = let z : _≡_ {A = ℕ} 0 1 = cc in absurd (omega arith)
-      go (loaded B) p d = (B, p, ap (λ (y : Shape). y .k) (e ∙ ap shapeOf p))
+      go (loaded B) p d =
+          let f : x ≡ shapeOf (loaded B) = e ∙ ap shapeOf p in
+          record { is = B; loads = p; height = ap (λ (y : Shape). y .m) f; size = ap (λ (y : Shape). y .n) f; free = ap (λ (y : Shape). y .k) f; valid = loaded-valid book B p }
 
   -- the tables hold a loaded book's kinds
   pub load-tabled : (B : Book) (old new : Tables) → load book ≡ loaded B → Filled (load book) (loadedUpTo book) old new → Tabled (B .kinds) (new .kinds) (new .terms)

@@ -3,7 +3,7 @@
 // says what each call answers, codec/specs/Numbers its number in document 01, codec/specs/Testing what a test means by encoding.
 use codebook::Outcome;
 use codebook::Refusal;
-use codebook::Sizes;
+use codebook::Shape;
 use codec::HookRecord;
 use codec::RecordRead;
 use codec::Tested;
@@ -29,8 +29,7 @@ ghost use Rattle.polar.specs.Bits.{Bit};
 ghost use Rattle.polar.specs.Transform.{transform};
 ghost use Rattle.codebook.specs.Refusals.{outcomeNumber};
 ghost use Rattle.codebook.specs.Book.{Kind, Book, freeCount};
-ghost use Rattle.codebook.specs.Loading.{load, loaded};
-ghost use Rattle.codebook.specs.Tables.{sizesOf};
+ghost use Rattle.codebook.specs.Loading.{load, loaded, shapeOf};
 ghost use Rattle.codec.specs.Code.{freeBits, obeysAll};
 ghost use Rattle.codec.specs.Tabled.{Coded, Tabled, Some};
 ghost use Rattle.codec.specs.Calls.{encodeCall, testCall, readDataCall, makeRecordCall, readRecordCall};
@@ -38,8 +37,8 @@ ghost use Rattle.codec.specs.Numbers.{testedNumber, encodeNumber, testNumber, r
 ghost use Rattle.codec.specs.Testing.{TestedExactly};
 
 // Loads a book: its sizes, and the tables of its kinds.
-fn load_kinds(book: &[u8], kinds: &mut [u8; 512], terms: &mut [u32; 512]) -> Sizes
-    ensures { λ r. ⌜ r ≡ sizesOf (load (now (book .entry))) ⌝ }
+fn load_kinds(book: &[u8], kinds: &mut [u8; 512], terms: &mut [u32; 512]) -> Shape
+    ensures { λ r. ⌜ r ≡ shapeOf (load (now (book .entry))) ⌝ }
     ensures { λ _. ⌜ ((B : Book) → load (now (book .entry)) ≡ loaded B → Tabled (B .kinds) (now (kinds .exit)) (now (terms .exit))) ⌝ }
 {
     let mut heights = [0u8; 512];

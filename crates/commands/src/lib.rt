@@ -1,41 +1,15 @@
-// A command of a code book is read: document 01, "The code book". Relies on the crate codebook; codebook/specs/Loading says what the bytes mean.
+// A command of a code book is read: document 01, "The code book". Relies on the crates numerals and codebook; codebook/specs/Loading says what the bytes mean.
 use codebook::Command;
 use codebook::Read;
+use numerals::four;
+use numerals::one;
+use numerals::two;
 ghost use mathlib.Core.Path.{_≡_};
 ghost use mathlib.Core.List.{[]};
 ghost use Prim.Native.Nat.{_+_, _<_, _≤_};
 ghost use lib.ListN.{length, take, drop};
-ghost use Rattle.codebook.specs.Loading.{listed, width, bigEndian, signed, command};
+ghost use Rattle.codebook.specs.Loading.{listed, width, signed, command};
 ghost use Rattle.codebook.specs.Progress.{readAt};
-
-// A byte, widened.
-fn wide(x: u8) -> u32
-    ensures { λ r. ⌜ (r ≡ x) × (r < 256) ⌝ }
-{
-    x as u32
-}
-
-// The number that one, two or four bytes make, the highest first.
-fn one(book: &[u8], at: usize) -> u32
-    requires { ⌜ at + 1 ≤ length (now book) ⌝ }
-    ensures { λ r. ⌜ r ≡ bigEndian 0 (take 1 (drop at (now (book .entry)))) ⌝ }
-{
-    wide(book[at])
-}
-
-fn two(book: &[u8], at: usize) -> u32
-    requires { ⌜ at + 2 ≤ length (now book) ⌝ }
-    ensures { λ r. ⌜ (r ≡ bigEndian 0 (take 2 (drop at (now (book .entry))))) × (r < 65536) ⌝ }
-{
-    256 * wide(book[at]) + wide(book[at + 1])
-}
-
-fn four(book: &[u8], at: usize) -> u32
-    requires { ⌜ at + 4 ≤ length (now book) ⌝ }
-    ensures { λ r. ⌜ r ≡ bigEndian 0 (take 4 (drop at (now (book .entry)))) ⌝ }
-{
-    65536 * two(book, at) + two(book, at + 2)
-}
 
 // A number of 32 bits as two's complement.
 fn signed_of(x: u32) -> i32

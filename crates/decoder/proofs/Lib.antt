@@ -1,3 +1,2 @@
-pub mod Handing
-pub mod Handed
-pub mod Fits
+pub mod Said
+pub mod Walked

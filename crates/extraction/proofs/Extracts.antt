@@ -31,7 +31,7 @@ pub visit-length : (visits : List ℕ) (b : ℕ) → length (visit visits b) ≡
 unfolding visit
 visit-length visits b = length-set visits b (suc (getD visits b 0))
 
-module _ {m L N k n : ℕ} {x : Memory} {e : ℕ} {es vs kinds terms : List ℕ} {last at : Block} {kept counts : List ℕ} (c : Extracting m L N k n x e es vs kinds terms last at kept counts) where
+module _ {m L D N k n : ℕ} {x : Memory} {e : ℕ} {es vs kinds terms : List ℕ} {last at : Block} {kept counts : List ℕ} (c : Extracting m L D N k n x e es vs kinds terms last at kept counts) where
   abbrev book : Book
   book = c .hand .book
 
@@ -53,7 +53,7 @@ module _ {m L N k n : ℕ} {x : Memory} {e : ℕ} {es vs kinds terms : List ℕ}
   extract-more : path .blocks ≡ length (book .blocks) → ⊥
   extract-more q = omega (arith, c .next .within, q)
 
-  pub extract-seconding : Seconding m L N k n x e es vs kinds terms last kept
+  pub extract-seconding : Seconding m L D N k n x e es vs kinds terms last kept
   extract-seconding =
       record {
         hand = c .hand;
@@ -66,16 +66,16 @@ module _ {m L N k n : ℕ} {x : Memory} {e : ℕ} {es vs kinds terms : List ℕ}
       }
 
   -- the copy; the crowded before and after; and the memory that stands for it
-  module _ (two : 2 ≤ N) (before : ℕ) (kept′ : List ℕ) {queued n′ crowded : ℕ} {y : Memory} {qs ws : List ℕ}
+  module _ (two : 2 ≤ D) (before : ℕ) (kept′ : List ℕ) {queued n′ crowded : ℕ} {y : Memory} {qs ws : List ℕ}
       (done : let o = extract-seconding in
-      let k = copy (o .hand .book) N (o .hand .arrays) (o .hand .taken) (o .hand .rest) n (o .hand .taken .blocks) in
-      CopiedTo (o .hand .book) N e (o .hand .taken) k before queued n′ crowded y qs ws kept′) where
+      let k = copy (o .hand .book) D (o .hand .arrays) (o .hand .taken) (o .hand .rest) n (o .hand .taken .blocks) in
+      CopiedTo (o .hand .book) D N e (o .hand .taken) k before queued n′ crowded y qs ws kept′) where
     abbrev second : Cut
-    second = copy book N arrays path rest n (path .blocks)
+    second = copy book D arrays path rest n (path .blocks)
 
     -- ---- step 3
 
-    pub extract-thirding : Thirding m N y e qs ws kinds terms last at kept′
+    pub extract-thirding : Thirding m D N y e qs ws kinds terms last at kept′
     unfolding extract-seconding
     extract-thirding =
         let ok = c .booked .valid in
@@ -87,7 +87,7 @@ module _ {m L N k n : ℕ} {x : Memory} {e : ℕ} {es vs kinds terms : List ℕ}
                 valid = ok;
                 next = c .next;
                 last-is = c .last-is;
-                fit = fit-copied book N arrays path rest n (path .blocks) (during-fit ok (c .moment) two);
+                fit = fit-copied book D arrays path rest n (path .blocks) (during-fit ok (c .moment) two);
               };
           known = done .4;
           booked = c .booked;
@@ -101,7 +101,7 @@ module _ {m L N k n : ℕ} {x : Memory} {e : ℕ} {es vs kinds terms : List ℕ}
     MovedTo z qs′ words =
         let h = extract-thirding .moving .hand in
         let k = move (h .book) (h .arrays) (h .taken) (h .rest) in
-        Stands (h .book) N z qs′ ws (k .arrays) (insert (keyOf (h .book)) (k .path) (h .rest))
+        Stands (h .book) D N z qs′ ws (k .arrays) (insert (keyOf (h .book)) (k .path) (h .rest))
         × Kepts (h .book) (k .arrays) words qs′ (insert (keyOf (h .book)) (k .path) (h .rest))
 
     module _ {z : Memory} {qs′ : List ℕ} (words : List ℕ) (moved : MovedTo z qs′ words) where
@@ -110,7 +110,7 @@ module _ {m L N k n : ℕ} {x : Memory} {e : ℕ} {es vs kinds terms : List ℕ}
 
       -- ---- step 4
 
-      pub extract-outrunning : (k′ : ℕ) → k′ ≡ k → (b : ℕ) → b ≡ keyAt e .blocks → Outrunning m L N k′ b z qs′ ws counts
+      pub extract-outrunning : (k′ : ℕ) → k′ ≡ k → (b : ℕ) → b ≡ keyAt e .blocks → Outrunning m L D N k′ b z qs′ ws counts
       unfolding extract-thirding queuedAt movedAt copyAt
       extract-outrunning k′ d b q =
           let same : path .blocks ≡ b = sym (q ∙ taken-blocks (c .hand .stands)) in
@@ -119,7 +119,7 @@ module _ {m L N k n : ℕ} {x : Memory} {e : ℕ} {es vs kinds terms : List ℕ}
                 record { book = book; arrays = third .arrays; paths = insert (keyOf book) (third .path) (second .queue); deep = c .hand .deep; stands = moved .0 };
             valid = c .booked .valid;
             here = momentIn (c .hand) n (c .visits);
-            at = subst (λ i. RunMoment book L N i (momentIn (c .hand) n (c .visits))) (sym d) (c .moment);
+            at = subst (λ i. RunMoment book L D i (momentIn (c .hand) n (c .visits))) (sym d) (c .moment);
             more = extract-more;
             block = same;
             paths = refl;
@@ -131,14 +131,14 @@ module _ {m L N k n : ℕ} {x : Memory} {e : ℕ} {es vs kinds terms : List ℕ}
       Comes visits left gone outrun w es′ vs′ k =
           (left ≡ length (k .state .queue)) × (n′ ≡ k .state .next) × (visits ≡ k .state .visits)
           × (crowded ≡ before + length (k .step .crowded)) × (outrun ≡ gone + length (k .step .outrun))
-          × Stands book N w es′ vs′ (k .state .arrays) (k .state .queue) × Kepts book (k .state .arrays) words es′ (k .state .queue)
+          × Stands book D N w es′ vs′ (k .state .arrays) (k .state .queue) × Kepts book (k .state .arrays) words es′ (k .state .queue)
 
       pub extract-done : (gone b : ℕ) {left outrun : ℕ} {w : Memory} {es′ vs′ : List ℕ} (q : b ≡ keyAt e .blocks) (k′ : ℕ) (d : k′ ≡ k) → es′ ≡ staying keyAt L b (visit counts b) qs′ →
           (let o = extract-outrunning k′ d b q .queued in
           let stay = staying (keyOf (o .book)) L b (visit counts b) (o .paths) in
           (left ≡ length stay) × (outrun ≡ gone + length (outrunBy (keyOf (o .book)) L b (visit counts b) (o .paths)))
-          × Stands (o .book) N w es′ vs′ (o .arrays) stay) →
-          Comes (visit counts b) left gone outrun w es′ vs′ (extract book L N arrays path rest n counts)
+          × Stands (o .book) D N w es′ vs′ (o .arrays) stay) →
+          Comes (visit counts b) left gone outrun w es′ vs′ (extract book L D arrays path rest n counts)
       unfolding extract extract-seconding extract-thirding extract-outrunning numbers
       extract-done gone b {left} {outrun} {w} {es′} {vs′} q k′ d stayed h =
           let o = extract-outrunning k′ d b q .queued in
@@ -146,7 +146,7 @@ module _ {m L N k n : ℕ} {x : Memory} {e : ℕ} {es vs kinds terms : List ℕ}
           let Left : ℕ → Type 0 = λ i.
           let stay = staying (keyOf book) L i (visit counts i) (o .paths) in
           (left ≡ length stay) × (outrun ≡ gone + length (outrunBy (keyOf book) L i (visit counts i) (o .paths)))
-          × Stands book N w es′ vs′ (third .arrays) stay in
+          × Stands book D N w es′ vs′ (third .arrays) stay in
           let k : Left (path .blocks) = subst Left same h in
           let own : es′ ≡ staying keyAt L (path .blocks) (visit counts (path .blocks)) qs′ = stayed ∙ ap (λ i. staying keyAt L i (visit counts i) qs′) same in
           let kepts = kepts-staying book words (third .arrays) L (path .blocks) (visit counts (path .blocks)) qs′ (o .paths) (moved .1) in

@@ -36,7 +36,7 @@ same-next : (v w : Word) (B : Book) (vs : List ℤ) (x : Parities) (b : ℕ) →
 unfolding nextAfter nearer
 same-next v w B vs x b p q = ap₂ (λ (k n : ℕ). nearestWith (λ (y : Word). ltb k (y .cost) || eqb k (y .cost) && ltb n (y .number)) B vs x b) p q
 
-module _ {m N : ℕ} {x : Memory} {e : ℕ} {es vs kinds terms : List ℕ} {last at : Block} {kept : List ℕ} (c : Thirding m N x e es vs kinds terms last at kept) where
+module _ {m D N : ℕ} {x : Memory} {e : ℕ} {es vs kinds terms : List ℕ} {last at : Block} {kept : List ℕ} (c : Thirding m D N x e es vs kinds terms last at kept) where
   abbrev book : Book
   book = c .moving .hand .book
 

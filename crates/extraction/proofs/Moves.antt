@@ -29,7 +29,7 @@ use Rattle.sharing.specs.Sharing.{idAt, HasIds}
 use Rattle.heights.specs.Workspace.{spot, Id, Parts}
 use Rattle.heights.proofs.Spots.{spot-room}
 use Rattle.standing.specs.Seen.{Memory, memory, Lent}
-use Rattle.standing.specs.Standing.{cell, Row, Stands, withIds, PutRow, Made}
+use Rattle.standing.specs.Standing.{cell, spentAt, costAt, paritiesAt, Row, Stands, withIds, PutRow, Made}
 use Rattle.standing.proofs.Taken.{taken-row, taken-key, taken-blocks}
 use Rattle.standing.proofs.Places.{stands-insert}
 use Rattle.standing.proofs.Written.{stands-put}
@@ -43,7 +43,7 @@ unfolding FitFor
 fit-parities B A p zero f = f .parities
 fit-parities B A p (suc b) f = f .parities
 
-module _ {m N : ℕ} {x : Memory} {e : ℕ} {es vs kinds terms : List ℕ} {last at : Block} {kept : List ℕ} (c : Thirding m N x e es vs kinds terms last at kept) where
+module _ {m D N : ℕ} {x : Memory} {e : ℕ} {es vs kinds terms : List ℕ} {last at : Block} {kept : List ℕ} (c : Thirding m D N x e es vs kinds terms last at kept) where
   abbrev book : Book
   book = c .moving .hand .book
 
@@ -103,20 +103,20 @@ module _ {m N : ℕ} {x : Memory} {e : ℕ} {es vs kinds terms : List ℕ} {last
 
   -- ---- memory once they are
 
-  module _ {y : Memory} (st : Stands book N y (e ∷ es) vs (view .arrays) (withIds path (view .ids) ∷ rest)) where
+  module _ {y : Memory} (st : Stands book D N y (e ∷ es) vs (view .arrays) (withIds path (view .ids) ∷ rest)) where
     row : Row book (y .rows) (slotAt e) (withIds path (view .ids))
     row = taken-row st
 
     -- the cells read
-    pub third-spent : cell (y .rows) (slotAt e) 10 ≡ path .spent
+    pub third-spent : cell (y .rows) (slotAt e) spentAt ≡ path .spent
     unfolding withIds
     third-spent = row .spent
 
-    pub third-cost : cell (y .rows) (slotAt e) 11 ≡ path .cost
+    pub third-cost : cell (y .rows) (slotAt e) costAt ≡ path .cost
     unfolding withIds
     third-cost = row .cost
 
-    pub third-set : cell (y .rows) (slotAt e) 14 ≡ paritySet book (path .parities)
+    pub third-set : cell (y .rows) (slotAt e) paritiesAt ≡ paritySet book (path .parities)
     unfolding withIds
     third-set = row .parities
 
@@ -143,12 +143,12 @@ module _ {m N : ℕ} {x : Memory} {e : ℕ} {es vs kinds terms : List ℕ} {last
         ∙ st .vals h (view .ids h) low id-ok
         ∙ ap (λ (k : ℕ). valsOf view k) (c .moving .next .height)
 
-    pub third-searchable : Lent m N y → Searchable (y .numbers) (spot m (idAt (y .rows) (slotAt e) (at .height)) (at .height)) kinds (at .start) (at .height)
+    pub third-searchable : Lent m D N y → Searchable (y .numbers) (spot m (idAt (y .rows) (slotAt e) (at .height)) (at .height)) kinds (at .start) (at .height)
     third-searchable l =
         record {
           low = block-low book (path .blocks) kinds terms (at .start) (at .height) third-tabled;
           walk = block-walkable book (path .blocks) kinds terms (at .start) (at .height) third-tabled;
-          within = subst (λ (i : ℕ). spot m i (at .height) + 2 ^ at .height ≤ length (y .numbers)) (sym id-is) (spot-room third-low id-ok (y .numbers) (l .numbers));
+          within = subst (λ (i : ℕ). spot m i (at .height) + 2 ^ at .height ≤ length (y .numbers)) (sym id-is) (spot-room third-low id-ok (y .numbers) (l .has .numbers));
           small = subst (All (Within 1048064)) (sym values-are) (ready .1);
         }
 
@@ -174,7 +174,7 @@ module _ {m N : ℕ} {x : Memory} {e : ℕ} {es vs kinds terms : List ℕ} {last
       unfolding candidateOf
       cost-is = ap (λ (w : Candidate). w .cost) third-found
 
-      pub third-total : cell (y .rows) (slotAt e) 10 + cell (y .rows) (slotAt e) 11 + found .cost ≤ 1048064
+      pub third-total : cell (y .rows) (slotAt e) spentAt + cell (y .rows) (slotAt e) costAt + found .cost ≤ 1048064
       third-total = omega (arith, third-spent, third-cost, cost-is, c .total)
 
       word-is : (k : ℕ) → suc (path .blocks) ≡ suc k → found .number ≡ number (lastWord book moved k)
@@ -186,11 +186,11 @@ module _ {m N : ℕ} {x : Memory} {e : ℕ} {es vs kinds terms : List ℕ} {last
           ∙ ap (λ (i : ℕ). number (lastWord book moved i)) same
 
       -- its key is the entry's with one block more and the new score
-      key-is : {s : ℤ} → s ≡ negℤ (pos (cell (y .rows) (slotAt e) 10 + cell (y .rows) (slotAt e) 11 + found .cost)) -ℤ at .bias →
+      key-is : {s : ℤ} → s ≡ negℤ (pos (cell (y .rows) (slotAt e) spentAt + cell (y .rows) (slotAt e) costAt + found .cost)) -ℤ at .bias →
           _≡_ {A = Key} (record { score = s; blocks = keyAt e .blocks + 1; number = keyAt e .number }) (keyOf book moved)
       unfolding keyOf scoreOf
       key-is {s} q =
-          let total : cell (y .rows) (slotAt e) 10 + cell (y .rows) (slotAt e) 11 + found .cost ≡ path .spent + path .cost + c .word .cost =
+          let total : cell (y .rows) (slotAt e) spentAt + cell (y .rows) (slotAt e) costAt + found .cost ≡ path .spent + path .cost + c .word .cost =
           omega (arith, third-spent, third-cost, cost-is) in
           let score : s ≡ scoreOf book moved (suc (path .blocks)) = q ∙ ap₂ (λ (k : ℕ) (z : ℤ). negℤ (pos k) -ℤ z) total (c .moving .next .bias) in
           let blocks : keyAt e .blocks + 1 ≡ suc (path .blocks) = omega (arith, taken-blocks (c .moving .hand .stands)) in
@@ -199,7 +199,7 @@ module _ {m N : ℕ} {x : Memory} {e : ℕ} {es vs kinds terms : List ℕ} {last
 
       -- what its entry and its row hold
       third-made : {d : ℕ} → Packed d (keyOf book moved) (slotAt e) →
-          Made book moved d (slotAt e) (cell (y .rows) (slotAt e) 10 + cell (y .rows) (slotAt e) 11) (found .cost) (found .number) (cell (y .rows) (slotAt e) 14) (found .parities)
+          Made book moved d (slotAt e) (cell (y .rows) (slotAt e) spentAt + cell (y .rows) (slotAt e) costAt) (found .cost) (found .number) (cell (y .rows) (slotAt e) paritiesAt) (found .parities)
       unfolding candidateOf
       third-made packed =
           record {
@@ -213,17 +213,17 @@ module _ {m N : ℕ} {x : Memory} {e : ℕ} {es vs kinds terms : List ℕ} {last
 
       -- ---- the row written, and the entry queued
 
-      pub third-packed : {d : ℕ} {s : ℤ} → s ≡ negℤ (pos (cell (y .rows) (slotAt e) 10 + cell (y .rows) (slotAt e) 11 + found .cost)) -ℤ at .bias →
+      pub third-packed : {d : ℕ} {s : ℤ} → s ≡ negℤ (pos (cell (y .rows) (slotAt e) spentAt + cell (y .rows) (slotAt e) costAt + found .cost)) -ℤ at .bias →
           Packed d (record { score = s; blocks = keyAt e .blocks + 1; number = keyAt e .number }) (slotAt e) → Packed d (keyOf book moved) (slotAt e)
       third-packed {d} score packed = subst (λ (k : Key). Packed d k (slotAt e)) (key-is score) packed
 
       pub third-queued : {d : ℕ} {rows′ : List ℕ} → Packed d (keyOf book moved) (slotAt e) →
-          PutRow (slotAt e) (y .rows) rows′ (cell (y .rows) (slotAt e) 10 + cell (y .rows) (slotAt e) 11) (found .cost) (found .number) (cell (y .rows) (slotAt e) 14) (found .parities) →
+          PutRow (slotAt e) (y .rows) rows′ (cell (y .rows) (slotAt e) spentAt + cell (y .rows) (slotAt e) costAt) (found .cost) (found .number) (cell (y .rows) (slotAt e) paritiesAt) (found .parities) →
           let k = move book (c .moving .hand .arrays) path rest in
-          Stands book N (memory rows′ (y .holders) (y .numbers) (y .bytes)) (insert keyAt d es) vs (k .arrays) (insert (keyOf book) (k .path) rest)
+          Stands book D N (memory rows′ (y .holders) (y .numbers) (y .bytes)) (insert keyAt d es) vs (k .arrays) (insert (keyOf book) (k .path) rest)
       unfolding move moveWith withIds
       third-queued {d} {rows′} packed put =
           let Ends : Option Word → Type 0 = λ o.
           let k = moveWith (c .moving .hand .arrays) path view o in
-          Stands book N (memory rows′ (y .holders) (y .numbers) (y .bytes)) (insert keyAt d es) vs (k .arrays) (insert (keyOf book) (k .path) rest) in
+          Stands book D N (memory rows′ (y .holders) (y .numbers) (y .bytes)) (insert keyAt d es) vs (k .arrays) (insert (keyOf book) (k .path) rest) in
           subst Ends (sym (c .found)) (stands-insert (stands-put st (c .booked .valid .high) put (third-made packed) refl))

@@ -22,13 +22,16 @@ use order::entries::entry;
 use order::entries::number_of;
 use order::entries::slot_of;
 use order::moves::insert;
-use steps::Setting;
+use settings::Settings;
+use standing::row::cost_of;
+use standing::row::parities_of;
+use standing::row::put;
+use standing::row::spent_of;
 use steps::Tally;
 use steps::copies::copy;
 use words::Block;
 use words::kept::keep;
 use words::nearest_words;
-use words::put;
 use words::score;
 
 // Step 2 for the path of entry e, taken at a moment of the reader's run; the empty path has no copy. The numbers that the order's entries hold before it and not after are those that the reader's
@@ -42,7 +45,9 @@ fn second(
     bytes: &[u8],
     kinds: &[u8; 512],
     terms: &[u32; 512],
-    s: Setting,
+    m: usize,
+    s: Settings,
+    arrays: usize,
     t: Tally,
     e: u64,
     last: Block,
@@ -51,18 +56,18 @@ fn second(
     sets: &mut [u32; 256],
     sums: &mut [u32; 128],
 ) -> Tally
-    requires { ⌜ Lent (s .m) (s .paths) (memory (now rows) (now holders) (now numbers) (now bytes)) × (length (now order) ≡ 256) × (length (now vacant) ≡ 256) × Cells (s .paths) (now kept) ⌝ }
+    requires { ⌜ Lent m (s .paths) arrays (memory (now rows) (now holders) (now numbers) (now bytes)) × (length (now order) ≡ 256) × (length (now vacant) ≡ 256) × Cells (s .paths) (now kept) ⌝ }
     requires { ⌜ Scratch (now words) (now sets) (now sums) × (2 ≤ s .paths) × (t .queued + 1 ≤ s .paths) × (t .next < 32768) × (t .crowded < 65536) ⌝ }
-    requires { ⌜ Seconding (s .m) (s .visits) (s .paths) (t .extractions) (t .next) (memory (now rows) (now holders) (now numbers) (now bytes)) e (queueOf (now order) (t .queued))
+    requires { ⌜ Seconding m (s .visits) (s .paths) arrays (t .extractions) (t .next) (memory (now rows) (now holders) (now numbers) (now bytes)) e (queueOf (now order) (t .queued))
         (queueOf (now vacant) (s .paths - (t .queued + 1))) (now kinds) (now terms) last (now kept) ⌝ }
     requires { ⌜ Rising (now order) (t .queued) ⌝ }
-    ensures { λ _. ⌜ Lent (s .m) (s .paths) (memory (now (rows .exit)) (now (holders .exit)) (now (numbers .exit)) (now (bytes .entry)))
+    ensures { λ _. ⌜ Lent m (s .paths) arrays (memory (now (rows .exit)) (now (holders .exit)) (now (numbers .exit)) (now (bytes .entry)))
         × (length (now (order .exit)) ≡ 256) × (length (now (vacant .exit)) ≡ 256) × Cells (s .paths) (now (kept .exit)) × Scratch (now (words .exit)) (now (sets .exit)) (now (sums .exit)) ⌝ }
     ensures { λ r. ⌜ (r .extractions ≡ t .extractions) × (r .outrun ≡ t .outrun) × (r .queued + 1 ≤ s .paths) ⌝ }
-    ensures { λ r. ⌜ ((c : Seconding (s .m) (s .visits) (s .paths) (t .extractions) (t .next) (memory (now (rows .entry)) (now (holders .entry)) (now (numbers .entry)) (now (bytes .entry))) e
+    ensures { λ r. ⌜ ((c : Seconding m (s .visits) (s .paths) arrays (t .extractions) (t .next) (memory (now (rows .entry)) (now (holders .entry)) (now (numbers .entry)) (now (bytes .entry))) e
         (queueOf (now (order .entry)) (t .queued)) (queueOf (now (vacant .entry)) (s .paths - (t .queued + 1))) (now (kinds .entry)) (now (terms .entry)) last (now (kept .entry)))
         → (let k = R.copy (c .hand .book) (s .paths) (c .hand .arrays) (c .hand .taken) (c .hand .rest) (t .next) (c .hand .taken .blocks) in
-        CopiedTo (c .hand .book) (s .paths) e (c .hand .taken) k (t .crowded) (r .queued) (r .next) (r .crowded) (memory (now (rows .exit)) (now (holders .exit)) (now (numbers .exit)) (now (bytes .entry)))
+        CopiedTo (c .hand .book) (s .paths) arrays e (c .hand .taken) k (t .crowded) (r .queued) (r .next) (r .crowded) (memory (now (rows .exit)) (now (holders .exit)) (now (numbers .exit)) (now (bytes .entry)))
         (queueOf (now (order .exit)) (r .queued)) (queueOf (now (vacant .exit)) (s .paths - (r .queued + 1))) (now (kept .exit))
         × Removes (stepAt (c .hand .book) (s .visits) (s .paths) (momentIn (c .hand) (t .next) (c .visits)) .crowded) (Q.numbers keyAt (queueOf (now (order .entry)) (t .queued)))
         (Q.numbers keyAt (queueOf (now (order .exit)) (r .queued))))) ⌝ }
@@ -81,7 +86,9 @@ fn second(
         bytes,
         kinds,
         terms,
+        m,
         s,
+        arrays,
         t,
         e,
         blocks,
@@ -104,6 +111,7 @@ fn third(
     terms: &[u32; 512],
     m: usize,
     paths: usize,
+    arrays: usize,
     queued: usize,
     e: u64,
     last: Block,
@@ -112,22 +120,22 @@ fn third(
     words: &mut [u32; 256],
     sums: &mut [u32; 128],
 )
-    requires { ⌜ Lent m paths (memory (now rows) (now holders) (now numbers) (now bytes)) × (length (now order) ≡ 256) × (queued + 1 ≤ paths) × Cells paths (now kept) × (length (now words) ≡ 256) × (length (now sums) ≡ 128) ⌝ }
-    requires { ⌜ ((vs : List ℕ) × Thirding m paths (memory (now rows) (now holders) (now numbers) (now bytes)) e (queueOf (now order) queued) vs (now kinds) (now terms) last at (now kept)) ⌝ }
+    requires { ⌜ Lent m paths arrays (memory (now rows) (now holders) (now numbers) (now bytes)) × (length (now order) ≡ 256) × (queued + 1 ≤ paths) × Cells paths (now kept) × (length (now words) ≡ 256) × (length (now sums) ≡ 128) ⌝ }
+    requires { ⌜ ((vs : List ℕ) × Thirding m paths arrays (memory (now rows) (now holders) (now numbers) (now bytes)) e (queueOf (now order) queued) vs (now kinds) (now terms) last at (now kept)) ⌝ }
     requires { ⌜ Rising (now order) queued ⌝ }
-    ensures { λ _. ⌜ Lent m paths (memory (now (rows .exit)) (now (holders .exit)) (now (numbers .exit)) (now (bytes .exit)))
+    ensures { λ _. ⌜ Lent m paths arrays (memory (now (rows .exit)) (now (holders .exit)) (now (numbers .exit)) (now (bytes .exit)))
         × (length (now (order .exit)) ≡ 256) × Cells paths (now (kept .exit)) × (length (now (words .exit)) ≡ 256) × (length (now (sums .exit)) ≡ 128) ⌝ }
-    ensures { λ _. ⌜ ((vs : List ℕ) (c : Thirding m paths (memory (now (rows .entry)) (now (holders .entry)) (now (numbers .entry)) (now (bytes .entry))) e (queueOf (now (order .entry)) queued) vs (now (kinds .entry)) (now (terms .entry)) last at (now (kept .entry)))
+    ensures { λ _. ⌜ ((vs : List ℕ) (c : Thirding m paths arrays (memory (now (rows .entry)) (now (holders .entry)) (now (numbers .entry)) (now (bytes .entry))) e (queueOf (now (order .entry)) queued) vs (now (kinds .entry)) (now (terms .entry)) last at (now (kept .entry)))
         → (let h = c .moving .hand in let k = R.move (h .book) (h .arrays) (h .taken) (h .rest) in
-        Stands (h .book) paths (memory (now (rows .exit)) (now (holders .exit)) (now (numbers .exit)) (now (bytes .exit))) (queueOf (now (order .exit)) (suc queued)) vs
+        Stands (h .book) paths arrays (memory (now (rows .exit)) (now (holders .exit)) (now (numbers .exit)) (now (bytes .exit))) (queueOf (now (order .exit)) (suc queued)) vs
         (k .arrays) (Q.insert (keyOf (h .book)) (k .path) (h .rest))
         × Kepts (h .book) (k .arrays) (now (kept .exit)) (queueOf (now (order .exit)) (suc queued)) (Q.insert (keyOf (h .book)) (k .path) (h .rest)))) ⌝ }
     ensures { λ _. ⌜ Rising (now (order .exit)) (suc queued) ⌝ }
 {
-    calculate(rows, holders, numbers, bytes, m, paths, e, last, at);
+    calculate(rows, holders, numbers, bytes, m, paths, arrays, e, last, at);
     let slot = slot_of(e);
-    let spent = rows[slot * 16 + 10] + rows[slot * 16 + 11];
-    let parities = rows[slot * 16 + 14];
+    let spent = spent_of(rows, slot) + cost_of(rows, slot);
+    let parities = parities_of(rows, slot);
     let found = nearest_words(rows, numbers, kinds, terms, m, slot, at, words, sums);
     let near = found.first;
     let cost = near.cost;
@@ -162,7 +170,9 @@ pub fn extract(
     bytes: &mut [u8],
     kinds: &[u8; 512],
     terms: &[u32; 512],
-    s: Setting,
+    m: usize,
+    s: Settings,
+    arrays: usize,
     t: Tally,
     e: u64,
     last: Block,
@@ -172,27 +182,26 @@ pub fn extract(
     sets: &mut [u32; 256],
     sums: &mut [u32; 128],
 ) -> Tally
-    requires { ⌜ Lent (s .m) (s .paths) (memory (now rows) (now holders) (now numbers) (now bytes)) × (length (now order) ≡ 256) × (length (now vacant) ≡ 256) × (length (now visits) ≡ 512) × Cells (s .paths) (now kept) ⌝ }
+    requires { ⌜ Lent m (s .paths) arrays (memory (now rows) (now holders) (now numbers) (now bytes)) × (length (now order) ≡ 256) × (length (now vacant) ≡ 256) × (length (now visits) ≡ 512) × Cells (s .paths) (now kept) ⌝ }
     requires { ⌜ Scratch (now words) (now sets) (now sums) × (2 ≤ s .paths) × (t .queued + 1 ≤ s .paths) × (t .next < 32768) × (t .crowded < 65536) × (t .outrun < 16777216) ⌝ }
     requires { ⌜ ((b : ℕ) → getD (now visits) b 0 < 65536) ⌝ }
-    requires { ⌜ Extracting (s .m) (s .visits) (s .paths) (t .extractions) (t .next) (memory (now rows) (now holders) (now numbers) (now bytes)) e (queueOf (now order) (t .queued))
+    requires { ⌜ Extracting m (s .visits) (s .paths) arrays (t .extractions) (t .next) (memory (now rows) (now holders) (now numbers) (now bytes)) e (queueOf (now order) (t .queued))
         (queueOf (now vacant) (s .paths - (t .queued + 1))) (now kinds) (now terms) last at (now kept) (now visits) ⌝ }
     requires { ⌜ Rising (now order) (t .queued) ⌝ }
-    ensures { λ _. ⌜ Lent (s .m) (s .paths) (memory (now (rows .exit)) (now (holders .exit)) (now (numbers .exit)) (now (bytes .exit)))
+    ensures { λ _. ⌜ Lent m (s .paths) arrays (memory (now (rows .exit)) (now (holders .exit)) (now (numbers .exit)) (now (bytes .exit)))
         × (length (now (order .exit)) ≡ 256) × (length (now (vacant .exit)) ≡ 256) × (length (now (visits .exit)) ≡ 512) × Cells (s .paths) (now (kept .exit)) × Scratch (now (words .exit)) (now (sets .exit)) (now (sums .exit)) ⌝ }
     ensures { λ r. ⌜ (r .extractions ≡ t .extractions) × (r .queued ≤ s .paths) ⌝ }
-    ensures { λ r. ⌜ ((c : Extracting (s .m) (s .visits) (s .paths) (t .extractions) (t .next) (memory (now (rows .entry)) (now (holders .entry)) (now (numbers .entry)) (now (bytes .entry))) e (queueOf (now (order .entry)) (t .queued))
+    ensures { λ r. ⌜ ((c : Extracting m (s .visits) (s .paths) arrays (t .extractions) (t .next) (memory (now (rows .entry)) (now (holders .entry)) (now (numbers .entry)) (now (bytes .entry))) e (queueOf (now (order .entry)) (t .queued))
         (queueOf (now (vacant .entry)) (s .paths - (t .queued + 1))) (now (kinds .entry)) (now (terms .entry)) last at (now (kept .entry)) (now (visits .entry)))
         → (let k = R.extract (c .hand .book) (s .visits) (s .paths) (c .hand .arrays) (c .hand .taken) (c .hand .rest) (t .next) (now (visits .entry)) in
         (r .queued ≡ length (k .state .queue)) × (r .next ≡ k .state .next) × (now (visits .exit) ≡ k .state .visits)
         × (r .crowded ≡ t .crowded + length (k .step .crowded)) × (r .outrun ≡ t .outrun + length (k .step .outrun))
-        × Stands (c .hand .book) (s .paths) (memory (now (rows .exit)) (now (holders .exit)) (now (numbers .exit)) (now (bytes .exit))) (queueOf (now (order .exit)) (r .queued))
+        × Stands (c .hand .book) (s .paths) arrays (memory (now (rows .exit)) (now (holders .exit)) (now (numbers .exit)) (now (bytes .exit))) (queueOf (now (order .exit)) (r .queued))
         (queueOf (now (vacant .exit)) (s .paths - r .queued)) (k .state .arrays) (k .state .queue)
         × Kepts (c .hand .book) (k .state .arrays) (now (kept .exit)) (queueOf (now (order .exit)) (r .queued)) (k .state .queue))) ⌝ }
     ensures { λ r. ⌜ Rising (now (order .exit)) (r .queued) ⌝ }
 {
-    let m = s.m;
-    let paths = s.paths;
+    let paths = s.paths as usize;
     let mut x = second(
         rows,
         holders,
@@ -202,7 +211,9 @@ pub fn extract(
         bytes,
         kinds,
         terms,
+        m,
         s,
+        arrays,
         t,
         e,
         last,
@@ -222,6 +233,7 @@ pub fn extract(
         terms,
         m,
         paths,
+        arrays,
         queued,
         e,
         last,
@@ -237,6 +249,7 @@ pub fn extract(
         order,
         vacant,
         visits,
+        m,
         s,
         x,
         blocks_of(e) as usize,

@@ -2,7 +2,7 @@
 // specs/Workspace.antt says where an array stands, reader/specs/Arrays what a write leaves.
 ghost use mathlib.Core.Path.{_≡_};
 ghost use mathlib.Core.List.{List};
-ghost use Prim.Native.Nat.{ℕ, suc, _+_, _*_, _^_, _≤_, _<_};
+ghost use Prim.Native.Nat.{ℕ, suc, _+_, _^_, _≤_, _<_};
 ghost use lib.ListN.{length, take, drop};
 ghost use lib.IntN.{ℤ};
 ghost use Rattle.laws.specs.Lists.{All};
@@ -31,12 +31,12 @@ pub fn spot_of(m: usize, id: usize, h: usize) -> usize
 }
 
 // The values of height h of array `to` become Q of the halves of those of the height above of array `from`.
-pub fn first_half(numbers: &mut [i32], m: usize, most: usize, h: usize, from: usize, to: usize)
-    requires { ⌜ (m ≤ 9) × (h < m) × (most ≤ 256) × Room m most (now numbers) × Id most from × Id most to ⌝ }
+pub fn first_half(numbers: &mut [i32], m: usize, arrays: usize, h: usize, from: usize, to: usize)
+    requires { ⌜ (m ≤ 9) × (h < m) × (arrays ≤ 256) × Room m arrays (now numbers) × Id arrays from × Id arrays to ⌝ }
     requires { ⌜ All (Within 1048064) (part (spot m from (suc h)) (2 ^ suc h) (now numbers)) ⌝ }
     ensures { λ _. ⌜ length (now (numbers .exit)) ≡ length (now (numbers .entry)) ⌝ }
-    ensures { λ _. ⌜ ((vals : ℕ → ℕ → List ℤ) → Parts m most (now (numbers .entry)) vals → (let ys = vals (suc h) from in
-        Parts m most (now (numbers .exit)) (store vals h to (Qs (take (2 ^ h) ys) (drop (2 ^ h) ys))))) ⌝ }
+    ensures { λ _. ⌜ ((vals : ℕ → ℕ → List ℤ) → Parts m arrays (now (numbers .entry)) vals → (let ys = vals (suc h) from in
+        Parts m arrays (now (numbers .exit)) (store vals h to (Qs (take (2 ^ h) ys) (drop (2 ^ h) ys))))) ⌝ }
 {
     let n = power(h);
     lower_q(numbers, spot_of(m, from, h + 1), spot_of(m, to, h), n);
@@ -47,19 +47,19 @@ pub fn second_half(
     numbers: &mut [i32],
     bytes: &[u8],
     m: usize,
-    most: usize,
+    arrays: usize,
     h: usize,
     from: usize,
     word: usize,
     to: usize,
 )
-    requires { ⌜ (m ≤ 9) × (h < m) × (most ≤ 256) × Room m most (now numbers) × Room m most (now bytes) ⌝ }
-    requires { ⌜ Id most from × Id most word × Id most to ⌝ }
+    requires { ⌜ (m ≤ 9) × (h < m) × (arrays ≤ 256) × Room m arrays (now numbers) × Room m arrays (now bytes) ⌝ }
+    requires { ⌜ Id arrays from × Id arrays word × Id arrays to ⌝ }
     requires { ⌜ All (Within 524032) (part (spot m from (suc h)) (2 ^ suc h) (now numbers)) ⌝ }
     ensures { λ _. ⌜ length (now (numbers .exit)) ≡ length (now (numbers .entry)) ⌝ }
-    ensures { λ _. ⌜ ((vals : ℕ → ℕ → List ℤ) (sums : ℕ → ℕ → List ℕ) → Parts m most (now (numbers .entry)) vals
-        → Parts m most (now (bytes .entry)) sums → (let ys = vals (suc h) from in
-        Parts m most (now (numbers .exit)) (store vals h to (Ps (sums h word) (take (2 ^ h) ys) (drop (2 ^ h) ys))))) ⌝ }
+    ensures { λ _. ⌜ ((vals : ℕ → ℕ → List ℤ) (sums : ℕ → ℕ → List ℕ) → Parts m arrays (now (numbers .entry)) vals
+        → Parts m arrays (now (bytes .entry)) sums → (let ys = vals (suc h) from in
+        Parts m arrays (now (numbers .exit)) (store vals h to (Ps (sums h word) (take (2 ^ h) ys) (drop (2 ^ h) ys))))) ⌝ }
 {
     let n = power(h);
     lower_p(
@@ -73,11 +73,11 @@ pub fn second_half(
 }
 
 // The values of height h of array `from`, copied to array `to`.
-pub fn copy_half(numbers: &mut [i32], m: usize, most: usize, h: usize, from: usize, to: usize)
-    requires { ⌜ (m ≤ 9) × (h ≤ m) × (most ≤ 256) × Room m most (now numbers) × Id most from × Id most to ⌝ }
+pub fn copy_half(numbers: &mut [i32], m: usize, arrays: usize, h: usize, from: usize, to: usize)
+    requires { ⌜ (m ≤ 9) × (h ≤ m) × (arrays ≤ 256) × Room m arrays (now numbers) × Id arrays from × Id arrays to ⌝ }
     ensures { λ _. ⌜ length (now (numbers .exit)) ≡ length (now (numbers .entry)) ⌝ }
-    ensures { λ _. ⌜ ((vals : ℕ → ℕ → List ℤ) → Parts m most (now (numbers .entry)) vals
-        → Parts m most (now (numbers .exit)) (store vals h to (vals h from))) ⌝ }
+    ensures { λ _. ⌜ ((vals : ℕ → ℕ → List ℤ) → Parts m arrays (now (numbers .entry)) vals
+        → Parts m arrays (now (numbers .exit)) (store vals h to (vals h from))) ⌝ }
 {
     let n = power(h);
     copy_values(numbers, spot_of(m, from, h), spot_of(m, to, h), n);

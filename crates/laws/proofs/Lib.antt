@@ -1,4 +1,5 @@
 pub mod Tests
+pub mod Tells
 pub mod Lists
 pub mod Pairs
 pub mod Removes

@@ -1,4 +1,4 @@
-// One input from its bytes to its listing. Relies on input.rt, lines.rt, text::bytes, loading::load and decoder::decode.
+// One input from its bytes to its listing. Relies on input.rt, lines.rt, the crate numerals, loading::load and decoder::decode.
 use crate::input::Cut;
 use crate::input::book_length;
 use crate::input::read_values;
@@ -10,8 +10,9 @@ use codebook::Shape;
 use codebook::refusal_number;
 use decoder::decode;
 use loading::load;
-use text::bytes::four;
-use text::bytes::two;
+use numerals::four;
+use numerals::two;
+use settings::Settings;
 ghost use Prim.Native.Nat.{_+_, _≤_};
 ghost use lib.ListN.{length};
 
@@ -28,15 +29,7 @@ fn visits_of(byte: u8) -> u32 {
 }
 
 // Decodes with these settings into word and data, and prints the listing.
-fn decoded(
-    book: &[u8],
-    visits: u32,
-    paths: u32,
-    limit: u32,
-    values: &[i16],
-    word: &mut [u8],
-    bits: &mut [u8],
-) {
+fn decoded(book: &[u8], settings: Settings, values: &[i16], word: &mut [u8], bits: &mut [u8]) {
     let mut numbers = [0i32; 10240];
     let mut bytes = [0u8; 8192];
     let mut path = [0i32; 2049];
@@ -44,9 +37,7 @@ fn decoded(
     let mut score = [0i32; 2049];
     let r = decode(
         book,
-        visits,
-        paths,
-        limit,
+        settings,
         values,
         word,
         bits,
@@ -95,11 +86,14 @@ fn list_whole(s: &[u8], size: usize)
     let count = read_values(s, end + 7, &mut values);
     let mut word = [0u8; 64];
     let mut bits = [0u8; 64];
-    decoded(
-        book,
+    let settings = Settings {
         visits,
         paths,
         limit,
+    };
+    decoded(
+        book,
+        settings,
         &values[..count],
         &mut word[..n],
         &mut bits[..k],

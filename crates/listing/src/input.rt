@@ -1,8 +1,9 @@
-// An input of program `walk`: book length, book, L, D, T, values, all big-endian. Relies on text::bytes.
-use text::bytes::two;
+// An input of program `walk`: book length, book, L, D, T, values, all big-endian. Relies on the crate numerals.
+use numerals::two;
 ghost use mathlib.Core.Path.{_≡_};
-ghost use Prim.Native.Nat.{ℕ, _+_, _*_, _≤_, _<_};
-ghost use lib.ListN.{length, getD};
+ghost use Prim.Native.Nat.{ℕ, _+_, _≤_, _<_};
+ghost use lib.ListN.{length, take};
+ghost use Rattle.codebook.specs.Loading.{bigEndian};
 
 // Two bytes as a number in two's complement.
 fn signed(s: &[u8], at: usize) -> i16
@@ -23,8 +24,8 @@ pub enum Cut {
 }
 
 pub fn book_length(s: &[u8]) -> Cut
-    ensures { λ r. ⌜ ((n : ℕ) → r ≡ Cut.Whole n → (n ≡ 256 * getD (now (s .entry)) 0 0 + getD (now (s .entry)) 1 0) × (n + 9 ≤ length (now (s .entry)))) ⌝ }
-    ensures { λ r. ⌜ (r ≡ Cut.Short → length (now (s .entry)) < 256 * getD (now (s .entry)) 0 0 + getD (now (s .entry)) 1 0 + 9) ⌝ }
+    ensures { λ r. ⌜ ((n : ℕ) → r ≡ Cut.Whole n → (n ≡ bigEndian 0 (take 2 (now (s .entry)))) × (n + 9 ≤ length (now (s .entry)))) ⌝ }
+    ensures { λ r. ⌜ (r ≡ Cut.Short → length (now (s .entry)) < bigEndian 0 (take 2 (now (s .entry))) + 9) ⌝ }
 {
     if s.len() < 2 {
         return Cut::Short;

@@ -20,16 +20,16 @@ use Rattle.codebook.specs.declared.Refusal.the-variants.{Truncated, Unknown, Mi
 use Rattle.codebook.specs.declared.Outcome.the-variants.{Done}
 use Rattle.codebook.specs.declared.Command.{Command}
 use Rattle.codebook.specs.declared.Command.the-variants.{Length, Free, Zero, Tie, Term, Block as NextBlock, End}
-use Rattle.codebook.specs.declared.Sizes.{Sizes}
+use Rattle.codebook.specs.declared.Shape.{Shape}
 use Rattle.codebook.specs.declared.Read.{Read}
 use Rattle.codebook.specs.declared.Read.the-variants.{Found, Unlisted}
 use Rattle.codebook.specs.declared.Progress.{Progress}
 use Rattle.codebook.specs.declared.Step.the-variants.{Next, End as Ended, Refused}
 use Rattle.codebook.specs.Refusals.{unless}
 use Rattle.codebook.specs.Book.{freeCount, tiedCount, startOf}
-use Rattle.codebook.specs.Loading.{Loading, refused, loaded, start, total, placed, listed, width, command, next, refusal, bookOf, load}
-use Rattle.codebook.specs.Tables.{Tables, kindCodes, tieSet, tablesOf, overlaid, tablesSoFar, loadedUpTo, Filled, sizesOf}
-use Rattle.codebook.specs.Progress.{readAt, byteOf, isEnd, verdict, Sized, HoldsLoaded, Goes, Judged, sizesAt}
+use Rattle.codebook.specs.Loading.{Loading, refused, loaded, start, total, placed, listed, width, command, next, refusal, bookOf, load, shapeOf}
+use Rattle.codebook.specs.Tables.{Tables, kindCodes, tieSet, tablesOf, overlaid, tablesSoFar, loadedUpTo, Filled}
+use Rattle.codebook.specs.Progress.{readAt, byteOf, isEnd, verdict, Sized, HoldsLoaded, Goes, Judged, shapeAt}
 use Rattle.codebook.proofs.Fuel.{judgedAs, foldFrom, none-left, fuel-enough, refusedAs, endedAs, load-fold, stopped, stoppedAt, stop-fold}
 use Rattle.codebook.proofs.Blocks.{start-some}
 use Rattle.codebook.proofs.Loaded.{total-begun}
@@ -226,9 +226,9 @@ module _ (p : Progress) (t old : Tables) (s : Loading) (h : HoldsLoaded p t old 
   all-filled : length (s .kinds) ≡ total s
   all-filled = h .counts .order (start-some (s .blocks) (omega (arith, h .counts .start, all-covered, total-begun s begun, pow-pos (s .m))))
 
-  pub end-sizes : sizesOf (loaded (bookOf s)) ≡ sizesAt p
-  unfolding sizesOf sizesAt bookOf
-  end-sizes =
+  pub end-shape : shapeOf (loaded (bookOf s)) ≡ shapeAt p
+  unfolding shapeOf shapeAt bookOf
+  end-shape =
       let c = h .counts in
       let n : 2 ^ (s .m) ≡ p .n = sym (total-begun s begun) ∙ sym (c .n) in
       let k : freeCount (s .kinds) ≡ p .free = sym (c .free ∙ ap freeCount (take-all (s .covered) (s .kinds) (omega (arith, all-covered, all-filled)))) in
@@ -281,26 +281,26 @@ pub record Refuses (bytes : List ℕ) (old u : Tables) (f : Refusal) : Type 0 wh
   pub left : u ≡ overlaid (tablesSoFar (loadedUpTo bytes)) old
 
 -- the answer of a refusal
-pub refused-answer : (bytes : List ℕ) (old u : Tables) (f : Refusal) (x : Sizes) → Refuses bytes old u f → x ≡ sizesOf (refused f)
-    → x ≡ sizesOf (load bytes) × Filled (load bytes) (loadedUpTo bytes) old u
+pub refused-answer : (bytes : List ℕ) (old u : Tables) (f : Refusal) (x : Shape) → Refuses bytes old u f → x ≡ shapeOf (refused f)
+    → x ≡ shapeOf (load bytes) × Filled (load bytes) (loadedUpTo bytes) old u
 unfolding Filled
 refused-answer bytes old u f x e a = (rw (e .answer) a, rw (e .answer) (e .left))
 
 -- the answer at the end command, before nothing or more bytes
 ended : (bytes : List ℕ) (old : Tables) (q : Progress) (u : Tables) (s : Loading) (nx : ℕ) → HoldsLoaded q u old s → T (placed s 0x7f) → nx ≤ length bytes
     → load bytes ≡ endedAs s (eqb nx (length bytes)) → loadedUpTo bytes ≡ s
-    → sizesOf (load bytes) ≡ cond (ltb nx (length bytes)) (sizesOf (refused Misplaced)) (sizesAt q) × Filled (load bytes) (loadedUpTo bytes) old u
+    → shapeOf (load bytes) ≡ cond (ltb nx (length bytes)) (shapeOf (refused Misplaced)) (shapeAt q) × Filled (load bytes) (loadedUpTo bytes) old u
 unfolding Filled
 ended bytes old q u s nx h e w all stop = go (lt-or nx (length bytes))
   where
     go : (nx < length bytes) ⊎ (length bytes ≤ nx)
-        → sizesOf (load bytes) ≡ cond (ltb nx (length bytes)) (sizesOf (refused Misplaced)) (sizesAt q) × Filled (load bytes) (loadedUpTo bytes) old u
+        → shapeOf (load bytes) ≡ cond (ltb nx (length bytes)) (shapeOf (refused Misplaced)) (shapeAt q) × Filled (load bytes) (loadedUpTo bytes) old u
     go (inl l) =
         let more : load bytes ≡ refused Misplaced = all ∙ rw (ne-eqb nx (length bytes) (omega arith)) in
         (rw (more, lt-ltb nx (length bytes) l), rw (more, stop) (holds-tables q u old s h))
     go (inr l) =
         let none : load bytes ≡ loaded (bookOf s) = all ∙ rw (eq-eqb nx (length bytes) (omega arith)) in
-        (rw (none, le-ltb nx (length bytes) l) (end-sizes q u old s h e), rw none (end-filled q u old s h e))
+        (rw (none, le-ltb nx (length bytes) l) (end-shape q u old s h e), rw none (end-filled q u old s h e))
 
 module _ (bytes : List ℕ) (old : Tables) (p : Progress) (t : Tables) (at : ℕ) (r : Reached bytes old p t at) where
   -- loading stops here, with the tables as they are
@@ -339,7 +339,7 @@ module _ (bytes : List ℕ) (old : Tables) (p : Progress) (t : Tables) (at : ℕ
 
     -- the end, with what follows it
     pub reached-last : (q : Progress) (u : Tables) → Judged (verdict (r .s) c whole) (isEnd c) (u ≡ t) (λ (x : Progress). HoldsLoaded x u old (next (r .s) c)) (Ended q)
-        → sizesOf (load bytes) ≡ cond (ltb nx (length bytes)) (sizesOf (refused Misplaced)) (sizesAt q) × Filled (load bytes) (loadedUpTo bytes) old u
+        → shapeOf (load bytes) ≡ cond (ltb nx (length bytes)) (shapeOf (refused Misplaced)) (shapeAt q) × Filled (load bytes) (loadedUpTo bytes) old u
     reached-last q u j =
         let k = judged-end (u ≡ t) (λ (x : Progress). HoldsLoaded x u old (next (r .s) c)) _ _ q j in
         let f = end-stands (r .s) c whole (k .0) (k .1) in

@@ -5,7 +5,6 @@ use codebook::Progress;
 use codebook::Read;
 use codebook::Refusal;
 use codebook::Shape;
-use codebook::Sizes;
 use codebook::Step;
 use commands::read_command;
 use obeying::obey;
@@ -14,8 +13,8 @@ ghost use mathlib.Core.Bool.{cond};
 ghost use Prim.Native.Nat.{_<_};
 ghost use Rattle.codebook.specs.Refusals.{outcomeNumber};
 ghost use Rattle.codebook.specs.Loading.{load, refused, shapeOf, numberBy};
-ghost use Rattle.codebook.specs.Tables.{sizesOf, loadedUpTo, Filled};
-ghost use Rattle.codebook.specs.Progress.{Sized, tables, sizesAt};
+ghost use Rattle.codebook.specs.Tables.{loadedUpTo, Filled};
+ghost use Rattle.codebook.specs.Progress.{Sized, tables, shapeAt};
 
 // A contract knows the length of an array by value, and not of one behind a reference: so the arrays are read whole once, and nothing is done
 // with them.
@@ -43,10 +42,10 @@ fn sized(
 }
 
 // The answer of a refusal: zeros beside it.
-fn refuse(r: Refusal) -> Sizes
-    ensures { λ x. ⌜ x ≡ sizesOf (refused r) ⌝ }
+fn refuse(r: Refusal) -> Shape
+    ensures { λ x. ⌜ x ≡ shapeOf (refused r) ⌝ }
 {
-    Sizes {
+    Shape {
         outcome: Outcome::Refused(r),
         m: 0,
         n: 0,
@@ -55,14 +54,14 @@ fn refuse(r: Refusal) -> Sizes
     }
 }
 
-// The sizes at the end command, after which nothing may follow.
-fn finish(p: Progress, follows: bool) -> Sizes
-    ensures { λ x. ⌜ x ≡ cond follows (sizesOf (refused Refusal.Misplaced)) (sizesAt p) ⌝ }
+// The shape at the end command, after which nothing may follow.
+fn finish(p: Progress, follows: bool) -> Shape
+    ensures { λ x. ⌜ x ≡ cond follows (shapeOf (refused Refusal.Misplaced)) (shapeAt p) ⌝ }
 {
     if follows {
         return refuse(Refusal::Misplaced);
     }
-    Sizes {
+    Shape {
         outcome: Outcome::Done,
         m: p.m,
         n: p.n,
@@ -79,8 +78,8 @@ pub fn load_tables(
     heights: &mut [u8; 512],
     starts: &mut [u16; 512],
     biases: &mut [i32; 512],
-) -> Sizes
-    ensures answer { λ r. ⌜ r ≡ sizesOf (load (now (book .entry))) ⌝ }
+) -> Shape
+    ensures answer { λ r. ⌜ r ≡ shapeOf (load (now (book .entry))) ⌝ }
     ensures filled { λ _. ⌜ Filled (load (now (book .entry))) (loadedUpTo (now (book .entry))) (tables (now (kinds .entry)) (now (terms .entry)) (now (heights .entry)) (now (starts .entry)) (now (biases .entry))) (tables (now (kinds .exit)) (now (terms .exit)) (now (heights .exit)) (now (starts .exit)) (now (biases .exit))) ⌝ }
 {
     sized(kinds, terms, heights, starts, biases);
@@ -125,19 +124,12 @@ pub fn load(book: &[u8]) -> Shape
     let mut heights = [0u8; 512];
     let mut starts = [0u16; 512];
     let mut biases = [0i32; 512];
-    let x = load_tables(
+    load_tables(
         book,
         &mut kinds,
         &mut terms,
         &mut heights,
         &mut starts,
         &mut biases,
-    );
-    let outcome = x.outcome;
-    Shape {
-        outcome,
-        n: x.n,
-        k: x.k,
-        blocks: x.blocks,
-    }
+    )
 }

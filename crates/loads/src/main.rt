@@ -1,9 +1,9 @@
 // Replays recorded load cases: reads a stream of operations on standard input (reference/README.md has its format), and prints for each case what
-// the load call answers. The output is held to what the independent reference printed. Relies on loading::load and text::bytes.
+// the load call answers. The output is held to what the independent reference printed. Relies on loading::load and numerals::two.
 use codebook::Shape;
 use libc::STDIN_FILENO;
 use libc::STDOUT_FILENO;
-use text::bytes::two;
+use numerals::two;
 ghost use Prim.Native.Nat.{_+_, _<_, _≤_};
 ghost use lib.ListN.{length};
 

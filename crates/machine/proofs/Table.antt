@@ -2,7 +2,7 @@
 use mathlib.Core.Path.{refl}
 use Rattle.laws.specs.Lists.{All}
 use Rattle.machine.specs.Rows.{Holds}
-use Rattle.machine.specs.Table.{marked, markedRuns, queueRows, cleanRows, goodBooks, truncatedBooks, unknownCommands, misplacedBooks, outOfRangeBooks, tooManyTiedOrFree, firstFaults, codecRows, recordRows, lentRows, hookRows, table}
+use Rattle.machine.specs.Table.{marked, markedRuns, queueRows, cleanRows, goodBooks, truncatedBooks, unknownCommands, misplacedBooks, outOfRangeBooks, tooManyTiedOrFree, firstFaults, codecRows, recordRows, lentRows, hookRows, mannerRows, table}
 use Rattle.machine.proofs.Computing.{computing}
 
 marked-holds : All Holds marked
@@ -65,7 +65,11 @@ hook-rows-holds : All Holds hookRows
 unfolding computing
 hook-rows-holds = (refl, (refl, (refl, (refl, (refl, tt)))))
 
+manner-rows-holds : All Holds mannerRows
+unfolding computing
+manner-rows-holds = (refl, (refl, (refl, (refl, (refl, (refl, (refl, (refl, (refl, (refl, (refl, (refl, tt))))))))))))
+
 -- the whole table
 pub table-holds : All (All Holds) table
 unfolding All table
-table-holds = (marked-holds, (marked-runs-holds, (queue-rows-holds, (clean-rows-holds, (good-books-holds, (truncated-books-holds, (unknown-commands-holds, (misplaced-books-holds, (out-of-range-books-holds, (too-many-tied-or-free-holds, (first-faults-holds, (codec-rows-holds, (record-rows-holds, (lent-rows-holds, (hook-rows-holds, tt)))))))))))))))
+table-holds = (marked-holds, (marked-runs-holds, (queue-rows-holds, (clean-rows-holds, (good-books-holds, (truncated-books-holds, (unknown-commands-holds, (misplaced-books-holds, (out-of-range-books-holds, (too-many-tied-or-free-holds, (first-faults-holds, (codec-rows-holds, (record-rows-holds, (lent-rows-holds, (hook-rows-holds, (manner-rows-holds, tt))))))))))))))))

@@ -1,40 +1,49 @@
--- What the plain decoding call and the hook call answer, and what each leaves in every lent buffer: document 01, "Refusal table" and "The
--- marker's plain machine". Assumes nothing.
+-- What a decoding call answers, and what it leaves in every lent buffer: document 01, "Refusal table" and "The marker's plain machine". One definition serves every call: a
+-- manner says how one differs from another, and the run is an argument, so that the plain machine's and the reader's go into the same definition. Assumes nothing.
 use mathlib.Core.Bool.{Bool, true, false, cond, _&&_}
 use mathlib.Core.List.{List, [], _∷_, _++_, map}
 use mathlib.Core.Option.{Option, none, some}
-use Prim.Native.Nat.{ℕ, _+_, _*_, _^_}
+use Prim.Native.Nat.{ℕ, _+_, _*_}
 use lib.ListN.{length, drop, replicate}
 use lib.IntN.{ℤ, pos, natAbs}
 use lib.Dec.{leb, eqb}
+use denote.Ref.{RefT, now}
+use denote.Triple.Both.{Both}
 use Rattle.laws.specs.Lists.{sum}
 use Rattle.polar.specs.Transform.{transform}
 use Rattle.polar.specs.Value.{R}
 use Rattle.codebook.specs.declared.Refusal.{Refusal}
-use Rattle.codebook.specs.declared.Refusal.the-variants.{Mismatch, BadSetting, BadValue, AboveLimit}
+use Rattle.codebook.specs.declared.Refusal.the-variants.{Mismatch, BadSetting, BadValue, AboveLimit, Unreadable}
 use Rattle.codebook.specs.declared.Outcome.{Outcome}
 use Rattle.codebook.specs.declared.Outcome.the-variants.{Done, Refused}
+use Rattle.codebook.specs.declared.Shape.{Shape}
 use Rattle.codebook.specs.Refusals.{unless}
 use Rattle.codebook.specs.Book.{Book}
-use Rattle.codebook.specs.Loading.{Load, refused, loaded, load}
-use Rattle.codec.specs.declared.RecordRead.{RecordRead}
+use Rattle.codebook.specs.Loading.{Load, refused, loaded, load, bookShape}
+use Rattle.settings.specs.declared.Settings.{Settings}
+use Rattle.settings.specs.Settings.{settingsOk}
+use Rattle.codec.specs.declared.HookRecord.{HookRecord}
 use Rattle.codec.specs.Code.{freeBits}
 use Rattle.codec.specs.Record.{noRecord, readRecord}
-use Rattle.codec.specs.Calls.{wordFits, dataFits, holds32, notRead, recordRead}
+use Rattle.machine.specs.declared.Reads.{Reads}
+use Rattle.machine.specs.declared.Reads.the-variants.{Data, Record}
+use Rattle.machine.specs.declared.Beside.{Beside}
+use Rattle.machine.specs.declared.Beside.the-variants.{Absent, Entries}
+use Rattle.machine.specs.declared.Manner.{Manner}
+use Rattle.machine.specs.declared.Lengths.{Lengths}
 use Rattle.machine.specs.declared.Counts.{Counts}
 use Rattle.machine.specs.declared.Decoded.{Decoded}
 use Rattle.machine.specs.declared.HookDecoded.{HookDecoded}
-use Rattle.queue.specs.Queue.{Step, Final, End, found, dry, endAs}
+use Rattle.queue.specs.Run.{mostExtractions}
+use Rattle.queue.specs.Queue.{Step, Final, End, found, dry, endAs, Run}
 use Rattle.machine.specs.Machine.{Path, runOf}
 
--- ---- input and refusals
+-- ---- what a call is given and lent
 
--- what a decoding call is given: the book's bytes, the settings L (visits), D (paths) and T (limit), and the soft values
+-- what it is given: the book's bytes, the settings, and the soft values
 pub record Input : Type 0 where
   pub book : List ℕ
-  pub L : ℕ
-  pub D : ℕ
-  pub T : ℕ
+  pub settings : Settings
   pub values : List ℤ
 
 -- what it is lent, with what each buffer holds: word and data, the workspace's numbers and bytes, and the walk (document 01's word): path
@@ -48,9 +57,9 @@ pub record Lent : Type 0 where
   pub walkBlocks : List ℤ
   pub walkScore : List ℤ
 
--- both put together from a call's parameters
-abbrev pub given : List ℕ → ℕ → ℕ → ℕ → List ℤ → Input
-given book L D T values = record { book = book; L = L; D = D; T = T; values = values }
+-- both put together from their parts
+abbrev pub given : List ℕ → Settings → List ℤ → Input
+given book s values = record { book = book; settings = s; values = values }
 
 abbrev pub lent : List ℕ → List ℕ → List ℤ → List ℕ → List ℤ → List ℤ → List ℤ → Lent
 lent word bits numbers bytes walkPath walkBlocks walkScore =
@@ -64,40 +73,117 @@ lent word bits numbers bytes walkPath walkBlocks walkScore =
       walkScore = walkScore;
     }
 
--- L 1 to 32, D 2 to 256, T 0 to 1,048,576
-unfoldable pub settingsOk : Input → Bool
-settingsOk c = leb 1 (c .L) && leb (c .L) 32 && leb 2 (c .D) && leb (c .D) 256 && leb (c .T) 1048576
+-- a slice that is lent to be written, as a contract has it at entry and at exit
+abbrev pub Slice : Type 0 → Type 0
+Slice A = Both (RefT (List A)) (RefT (List A))
+
+-- what is lent, of a call's parameters: as it is at entry, and as it is at exit
+abbrev pub lentBefore : Slice ℕ → Slice ℕ → Slice ℤ → Slice ℕ → Slice ℤ → Slice ℤ → Slice ℤ → Lent
+lentBefore word bits numbers bytes path blocks score =
+    lent (now (word .entry)) (now (bits .entry)) (now (numbers .entry)) (now (bytes .entry)) (now (path .entry)) (now (blocks .entry)) (now (score .entry))
+
+abbrev pub lentAfter : Slice ℕ → Slice ℕ → Slice ℤ → Slice ℕ → Slice ℤ → Slice ℤ → Slice ℤ → Lent
+lentAfter word bits numbers bytes path blocks score =
+    lent (now (word .exit)) (now (bits .exit)) (now (numbers .exit)) (now (bytes .exit)) (now (path .exit)) (now (blocks .exit)) (now (score .exit))
+
+-- the lengths of both
+abbrev pub lengthsOf : Input → Lent → Lengths
+lengthsOf c l =
+    record {
+      values = length (c .values);
+      word = length (l .word);
+      bits = length (l .bits);
+      numbers = length (l .numbers);
+      bytes = length (l .bytes);
+      paths = length (l .walkPath);
+      blocks = length (l .walkBlocks);
+      scores = length (l .walkScore);
+    }
+
+-- ---- tests before the run
+
+-- a test, and the refusal where it is not passed
+pub record Test : Type 0 where
+  pub passed : Bool
+  pub refusal : Refusal
+
+abbrev pub test : Bool → Refusal → Test
+test passed refusal = record { passed = passed; refusal = refusal }
+
+-- the refusal of the first test that is not passed
+unfoldable pub firstFailed : List Test → Option Refusal
+firstFailed [] = none
+firstFailed (t ∷ ts) = unless (t .passed) (t .refusal) (firstFailed ts)
 
 -- the least sizes of the workspace, in numbers and in bytes, and of a walk buffer
-unfoldable pub numbersNeeded : Book → Input → ℕ
-numbersNeeded B c = c .D * (2 * 2 ^ (B .m) + 32)
+unfoldable pub numbersNeeded : Shape → Settings → ℕ
+numbersNeeded x s = s .paths * (2 * x .n + 32)
 
-unfoldable pub bytesNeeded : Book → Input → ℕ
-bytesNeeded B c = c .D * (2 * 2 ^ (B .m))
+unfoldable pub bytesNeeded : Shape → Settings → ℕ
+bytesNeeded x s = s .paths * (2 * x .n)
 
-unfoldable pub walkNeeded : Book → Input → ℕ
-walkNeeded B c = c .L * length (B .blocks) + 1
+unfoldable pub walkNeeded : Shape → Settings → ℕ
+walkNeeded x s = mostExtractions (s .visits) (x .blocks)
 
 -- values and word are exactly n long, data exactly k; workspace and walk may be longer than asked
-unfoldable pub lentOk : Book → Input → Lent → Bool
-lentOk B c l =
-    eqb (length (c .values)) (2 ^ (B .m)) && wordFits B (l .word) && dataFits B (l .bits)
-    && leb (numbersNeeded B c) (length (l .numbers))
-    && leb (bytesNeeded B c) (length (l .bytes))
-    && leb (walkNeeded B c) (length (l .walkPath))
-    && leb (walkNeeded B c) (length (l .walkBlocks))
-    && leb (walkNeeded B c) (length (l .walkScore))
+unfoldable pub lengthsOk : Shape → Settings → Lengths → Bool
+lengthsOk x s l =
+    eqb (l .values) (x .n) && eqb (l .word) (x .n) && eqb (l .bits) (x .k)
+    && leb (numbersNeeded x s) (l .numbers)
+    && leb (bytesNeeded x s) (l .bytes)
+    && leb (walkNeeded x s) (l .paths)
+    && leb (walkNeeded x s) (l .blocks)
+    && leb (walkNeeded x s) (l .scores)
+
+-- a slice beside, if there is one, has at least, or exactly, so many entries
+unfoldable pub atLeast : ℕ → Beside → Bool
+atLeast n Absent = true
+atLeast n (Entries size) = leb n size
+
+unfoldable pub exactly : ℕ → Beside → Bool
+exactly n Absent = true
+exactly n (Entries size) = eqb size n
+
+-- how many entries counts and record have as slices
+abbrev pub countsSize : ℕ
+countsSize = 4
+
+abbrev pub recordSize : ℕ
+recordSize = 4
+
+-- there are enough step records; counts and record have their size
+unfoldable pub besideOk : Manner → Shape → Settings → Bool
+besideOk k x s = atLeast (walkNeeded x s) (k .steps) && exactly countsSize (k .counts) && exactly recordSize (k .hook)
+
+-- a record needs k = 32
+unfoldable pub holds : Reads → Shape → Bool
+holds Data x = true
+holds Record x = eqb (x .k) 32
 
 -- every value lies in -2,047 to 2,047
 unfoldable pub valuesOk : List ℤ → Bool
 valuesOk [] = true
 valuesOk (y ∷ ys) = leb (natAbs y) 2047 && valuesOk ys
 
--- why a call with a good book makes no run: 8, then 7, then 9; fits is what the call asks of k besides
-unfoldable pub barred : Book → Input → Lent → Bool → Option Refusal
-barred B c l fits = unless (settingsOk c) BadSetting (unless (fits && lentOk B c l) Mismatch (unless (valuesOk (c .values)) BadValue none))
+-- the tests of a call whose book loads, in document 01's order: 8, 7, 9
+unfoldable pub testsBefore : Manner → Shape → Settings → Lengths → List ℤ → List Test
+testsBefore k x s l ys =
+    test (settingsOk s) BadSetting
+    ∷ test (holds (k .reads) x) Mismatch
+    ∷ test (lengthsOk x s l) Mismatch
+    ∷ test (besideOk k x s) Mismatch
+    ∷ test (valuesOk ys) BadValue
+    ∷ []
 
--- ---- what a run leaves
+-- why a call with a good book makes no run
+unfoldable pub barred : Manner → Book → Input → Lent → Option Refusal
+barred k B c l = firstFailed (testsBefore k (bookShape B) (c .settings) (lengthsOf c l) (c .values))
+
+-- the values that the run is made from: those given
+abbrev pub readied : Manner → Input → List ℤ
+readied k c = c .values
+
+-- ---- what a run comes to
 
 -- what a path with all blocks comes to: the word is u·A of its bits, its data the bits at the free indices, its discrepancy R without the sign
 unfoldable pub finalOf : Book → List ℤ → Path → Final
@@ -112,15 +198,63 @@ finalOf B ys p =
 unfoldable pub endOf : Book → List ℤ → End Path → End Final
 endOf B ys e = endAs (finalOf B ys) e
 
+-- the plain machine's run, as a call has it
+unfoldable pub machineRun : Book → Settings → List ℤ → Lent → Run Final
+machineRun B s ys l =
+    let r = runOf B (s .visits) (s .paths) ys in
+    record { steps = r .steps; end = endOf B ys (r .end) }
+
 -- the final word, or nothing where a run is dry, as no run of an accepted call is (runs/proofs/Ends)
 unfoldable pub finalIn : End Final → Final
 finalIn (found f) = f
 finalIn dry = record { word = []; bits = []; discrepancy = 0 }
 
+-- ---- verdicts after the run
+
 -- whether a final word is found, and within the limit
 unfoldable pub within : ℕ → End Final → Bool
 within limit (found f) = leb (f .discrepancy) limit
 within limit dry = false
+
+-- whether there is a record
+unfoldable pub isRead : Option HookRecord → Bool
+isRead none = false
+isRead (some h) = true
+
+-- where a record is read: whether the data hold one
+unfoldable pub recordTests : Reads → Final → List Test
+recordTests Data f = []
+recordTests Record f = test (isRead (readRecord (f .bits))) Unreadable ∷ []
+
+-- the verdicts on how a run ended, in document 01's order: 10, 11
+unfoldable pub verdicts : Reads → Settings → End Final → List Test
+verdicts r s end = test (within (s .limit) end) AboveLimit ∷ recordTests r (finalIn end)
+
+-- the refusal where a verdict goes against the word, if one does
+unfoldable pub verdict : Reads → Settings → End Final → Option Refusal
+verdict r s end = firstFailed (verdicts r s end)
+
+-- ---- what is handed out
+
+-- the outcome by what was refused, and whether there is none
+unfoldable pub outcomeOf : Option Refusal → Outcome
+outcomeOf none = Done
+outcomeOf (some r) = Refused r
+
+unfoldable pub isDone : Outcome → Bool
+isDone Done = true
+isDone (Refused r) = false
+
+-- a record, or zeros, passed
+unfoldable pub recordOr : Option HookRecord → HookRecord
+recordOr none = noRecord
+recordOr (some h) = h
+
+-- the record that is answered: that of the word's data, where one is read and nothing is refused
+unfoldable pub hookOf : Reads → Option Refusal → Final → HookRecord
+hookOf Data v f = noRecord
+hookOf Record none f = recordOr (readRecord (f .bits))
+hookOf Record (some r) f = noRecord
 
 -- the counts of a run
 unfoldable pub countsOf : List Step → Final → Counts
@@ -141,84 +275,81 @@ unfoldable pub walked : (Step → ℤ) → List Step → List ℤ → List ℤ
 walked entry steps old = map entry steps ++ drop (length steps) old
 
 -- the buffers after a run: word and data are written on success alone, the walk always, and the workspace is zero at its stated size
-unfoldable pub afterRun : Book → Input → Lent → List Step → Final → Bool → Lent
-afterRun B c l steps f success =
+unfoldable pub afterRun : Shape → Settings → Lent → List Step → Final → Bool → Lent
+afterRun x s l steps f success =
     record {
       word = cond success (f .word) (l .word);
       bits = cond success (f .bits) (l .bits);
-      numbers = replicate (numbersNeeded B c) (pos 0) ++ drop (numbersNeeded B c) (l .numbers);
-      bytes = replicate (bytesNeeded B c) 0 ++ drop (bytesNeeded B c) (l .bytes);
+      numbers = replicate (numbersNeeded x s) (pos 0) ++ drop (numbersNeeded x s) (l .numbers);
+      bytes = replicate (bytesNeeded x s) 0 ++ drop (bytesNeeded x s) (l .bytes);
       walkPath = walked (λ s. pos (s .path)) steps (l .walkPath);
       walkBlocks = walked (λ s. pos (s .blocks)) steps (l .walkBlocks);
       walkScore = walked (λ s. s .score) steps (l .walkScore);
     }
 
--- ---- the calls
+-- ---- the call
 
--- a call's answer, and the buffers afterwards
+-- a call's answer, the buffers afterwards, and the extractions of its run: none where it makes none
 pub record Called (A : Type 0) : Type 0 where
   pub answer : A
   pub lent : Lent
+  pub steps : List Step
 
--- the plain call after a run with these extractions and this end: the word is handed out exactly when there is one and its discrepancy is within T, else 10
-unfoldable pub plainRan : Book → Input → Lent → List Step → End Final → Called Decoded
-plainRan B c l steps end =
-    let clear = within (c .T) end in
+-- a refusal with 1 to 9 gives counts of 0, a record of zeros, passed, and leaves every buffer
+unfoldable pub refusedAs : Refusal → HookDecoded
+refusedAs r = record { outcome = Refused r; counts = noCounts; hook = noRecord }
+
+unfoldable pub refusedCall : Refusal → Lent → Called HookDecoded
+refusedCall r l = record { answer = refusedAs r; lent = l; steps = [] }
+
+-- after a run: word, data and record are handed out exactly where no verdict is against them
+unfoldable pub ranCall : Reads → Shape → Settings → Lent → Run Final → Called HookDecoded
+ranCall r x s l run =
+    let f = finalIn (run .end) in
+    let v = verdict r s (run .end) in
     record {
-      answer = record { outcome = cond clear Done (Refused AboveLimit); counts = countsOf steps (finalIn end) };
-      lent = afterRun B c l steps (finalIn end) clear;
+      answer = record { outcome = outcomeOf v; counts = countsOf (run .steps) f; hook = hookOf r v f };
+      lent = afterRun x s l (run .steps) f (isDone (outcomeOf v));
+      steps = run .steps;
     }
 
--- a refusal with 1 to 9 gives counts of 0 and leaves every buffer
-unfoldable pub plainRefused : Refusal → Lent → Called Decoded
-plainRefused r l = record { answer = record { outcome = Refused r; counts = noCounts }; lent = l }
+-- by a run that is made of a book, settings, values and what is lent
+module _ (run : Book → Settings → List ℤ → Lent → Run Final) where
+  -- on a loaded book: barred, or run
+  unfoldable pub unbarred : Manner → Book → Input → Lent → Option Refusal → Called HookDecoded
+  unbarred k B c l (some r) = refusedCall r l
+  unbarred k B c l none = ranCall (k .reads) (bookShape B) (c .settings) l (run B (c .settings) (readied k c) l)
 
--- on a loaded book: barred, or run
-unfoldable pub plainChecked : Book → Input → Lent → Option Refusal → Called Decoded
-plainChecked B c l (some r) = plainRefused r l
-plainChecked B c l none =
-    let r = runOf B (c .L) (c .D) (c .values) in
-    plainRan B c l (r .steps) (endOf B (c .values) (r .end))
+  -- by what loading comes to, and the whole call
+  unfoldable pub callWith : Manner → Load → Input → Lent → Called HookDecoded
+  callWith k (refused r) c l = refusedCall r l
+  callWith k (loaded B) c l = unbarred k B c l (barred k B c l)
 
--- by what loading comes to, and the whole call
-unfoldable pub plainWith : Load → Input → Lent → Called Decoded
-plainWith (refused r) c l = plainRefused r l
-plainWith (loaded B) c l = plainChecked B c l (barred B c l true)
+  unfoldable pub callBy : Manner → Input → Lent → Called HookDecoded
+  callBy k c l = callWith k (load (c .book)) c l
 
-unfoldable pub plainCall : Input → Lent → Called Decoded
-plainCall c l = plainWith (load (c .book)) c l
+-- document 01's call, by the plain machine's run
+abbrev pub callOf : Manner → Input → Lent → Called HookDecoded
+callOf k c l = callBy machineRun k c l
 
--- the hook call: 10 where no word is within the limit, else the record of the word's data, or 11
-unfoldable pub hookOf : Bool → Final → RecordRead
-hookOf false f = notRead AboveLimit
-hookOf true f = recordRead (readRecord (f .bits))
+-- ---- its instances
 
--- whether an outcome is success
-unfoldable pub isDone : Outcome → Bool
-isDone Done = true
-isDone (Refused r) = false
+-- the plain call and the hook call, with nothing lent beside
+abbrev pub plain : Manner
+plain = record { reads = Data; steps = Absent; counts = Absent; hook = Absent }
 
--- the same as the plain call, with the record besides
-unfoldable pub hookRan : Book → Input → Lent → List Step → End Final → Called HookDecoded
-hookRan B c l steps end =
-    let read = hookOf (within (c .T) end) (finalIn end) in
-    record {
-      answer = record { outcome = read .outcome; counts = countsOf steps (finalIn end); hook = read .hook };
-      lent = afterRun B c l steps (finalIn end) (isDone (read .outcome));
-    }
+abbrev pub hooked : Manner
+hooked = record { reads = Record; steps = Absent; counts = Absent; hook = Absent }
 
-unfoldable pub hookRefused : Refusal → Lent → Called HookDecoded
-hookRefused r l = record { answer = record { outcome = Refused r; counts = noCounts; hook = noRecord }; lent = l }
+-- an answer without its record, and with the record of a call that reads none
+abbrev pub bare : HookDecoded → Decoded
+bare a = record { outcome = a .outcome; counts = a .counts }
 
-unfoldable pub hookChecked : Book → Input → Lent → Option Refusal → Called HookDecoded
-hookChecked B c l (some r) = hookRefused r l
-hookChecked B c l none =
-    let r = runOf B (c .L) (c .D) (c .values) in
-    hookRan B c l (r .steps) (endOf B (c .values) (r .end))
+abbrev pub unread : Decoded → HookDecoded
+unread a = record { outcome = a .outcome; counts = a .counts; hook = noRecord }
 
-unfoldable pub hookWith : Load → Input → Lent → Called HookDecoded
-hookWith (refused r) c l = hookRefused r l
-hookWith (loaded B) c l = hookChecked B c l (barred B c l (holds32 B))
+abbrev pub plainCall : Input → Lent → Called Decoded
+plainCall c l = let w = callOf plain c l in record { answer = bare (w .answer); lent = w .lent; steps = w .steps }
 
-unfoldable pub hookCall : Input → Lent → Called HookDecoded
-hookCall c l = hookWith (load (c .book)) c l
+abbrev pub hookCall : Input → Lent → Called HookDecoded
+hookCall c l = callOf hooked c l

@@ -15,13 +15,14 @@ use Rattle.codec.specs.declared.HookRecord.{HookRecord}
 use Rattle.codec.specs.declared.Tested.{Tested}
 use Rattle.codec.specs.Record.{recordBits, readRecord}
 use Rattle.codec.specs.Calls.{encodeCall, testCall, readDataCall, makeRecordCall, readRecordCall}
+use Rattle.machine.specs.declared.Manner.{Manner}
 use Rattle.machine.specs.declared.Counts.{Counts}
 use Rattle.machine.specs.declared.Decoded.{Decoded}
 use Rattle.machine.specs.declared.HookDecoded.{HookDecoded}
 use Rattle.queue.specs.Queue.{Step}
 use Rattle.machine.specs.Words.{Ranked, nearest, nextAfter}
 use Rattle.machine.specs.Machine.{runOf}
-use Rattle.machine.specs.Calls.{Input, Lent, Called, plainCall, hookCall}
+use Rattle.machine.specs.Calls.{Input, Lent, Called, callOf, plainCall, hookCall}
 
 -- what loading answers, as numbers: the outcome's, n, k and V
 unfoldable pub shape : ℕ → ℕ → ℕ → ℕ → List ℕ
@@ -92,6 +93,8 @@ pub data Row : Type 0 where
   refuses : Input → Lent → ℕ → Row
   leaves : Input → Lent → Lent → Row
   hooks : Input → Lent → Seen → HookRecord → Row
+  -- the number of a call in any manner
+  answers : Manner → Input → Lent → ℕ → Row
 
 -- what a row claims
 unfoldable pub Holds : Row → Type 0
@@ -107,8 +110,9 @@ Holds (makes h ds) = recordBits h ≡ ds
 Holds (reads ds h) = readRecord ds ≡ h
 Holds (makesIn book h ds r after) = (outcomeNumber (makeRecordCall book h ds .outcome) ≡ r) × (makeRecordCall book h ds .buffer ≡ after)
 Holds (readsIn book ds r h) = (outcomeNumber (readRecordCall book ds .outcome) ≡ r) × (readRecordCall book ds .hook ≡ h)
-Holds (walks c steps) = stepsOf (load (c .book)) (c .L) (c .D) (c .values) ≡ steps
+Holds (walks c steps) = stepsOf (load (c .book)) (c .settings .visits) (c .settings .paths) (c .values) ≡ steps
 Holds (decodes c l s) = seen (plainCall c l) ≡ s
 Holds (refuses c l r) = outcomeNumber (plainCall c l .answer .outcome) ≡ r
 Holds (leaves c l after) = plainCall c l .lent ≡ after
 Holds (hooks c l s h) = seenHook (hookCall c l) ≡ record { seen = s; hook = h }
+Holds (answers k c l r) = outcomeNumber (callOf k c l .answer .outcome) ≡ r

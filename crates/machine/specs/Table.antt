@@ -13,10 +13,16 @@ use Rattle.codec.specs.declared.Status.{Status}
 use Rattle.codec.specs.declared.Status.the-variants.{Passed, HeldForLaboratory, Condemned}
 use Rattle.codec.specs.declared.HookRecord.{HookRecord}
 use Rattle.codec.specs.declared.Tested.the-variants.{InCode, NotInCode, Refused}
+use Rattle.machine.specs.declared.Reads.{Reads}
+use Rattle.machine.specs.declared.Reads.the-variants.{Data, Record}
+use Rattle.machine.specs.declared.Beside.{Beside}
+use Rattle.machine.specs.declared.Beside.the-variants.{Absent, Entries}
+use Rattle.machine.specs.declared.Manner.{Manner}
 use Rattle.machine.specs.declared.Counts.{Counts}
 use Rattle.queue.specs.Queue.{Step}
+use Rattle.settings.specs.Settings.{asked}
 use Rattle.machine.specs.Calls.{Input, Lent, given, noCounts}
-use Rattle.machine.specs.Rows.{Row, isQ, isP, transforms, loads, ranks, encodes, tests, readsData, makes, reads, makesIn, readsIn, walks, decodes, refuses, leaves, hooks, Seen, shape}
+use Rattle.machine.specs.Rows.{Row, isQ, isP, transforms, loads, ranks, encodes, tests, readsData, makes, reads, makesIn, readsIn, walks, decodes, refuses, leaves, hooks, answers, Seen, shape}
 
 -- ---- books, command by command, with small operands
 
@@ -110,6 +116,10 @@ wideTies = size 9 ++ (wide 0x02 1 1 ++ (wide 0x03 1 0 ++ (term 0 ++ (tie 0 ++ (w
 
 -- ---- inputs
 
+-- what a call is given, its settings L, D and T by their numbers
+abbrev pub asks : List ℕ → ℕ → ℕ → ℕ → List ℤ → Input
+asks book L D T ys = given book (asked L D T) ys
+
 -- 002's example in hundredths
 unfoldable pub hookValues : List ℤ
 hookValues =
@@ -161,7 +171,7 @@ flatWalk paths blocks scores =
 
 -- the (16,10) hook at these settings
 unfoldable pub hookRun : ℕ → ℕ → ℕ → Input
-hookRun L D T = given hookBook L D T hookValues
+hookRun L D T = asks hookBook L D T hookValues
 
 -- values that say a word plainly: 100 for a 0, -100 for a 1
 unfoldable pub plainly : List ℕ → List ℤ
@@ -241,27 +251,27 @@ markedRuns =
     (step 0 0 (pos 0) [] [] ∷ step 0 1 (pos 47) [] [] ∷ step 1 1 (negℤ (pos 9)) (0 ∷ []) [] ∷ step 1 2 (negℤ (pos 4)) (2 ∷ []) []
     ∷ step 1 3 (negℤ (pos 20)) [] [] ∷ [])
     -- M11
-    ∷ decodes (given hookBook 4 8 0 (replicate 16 (pos 0))) hookRoom (gave (counts 4 0 0 0) (replicate 16 0) (replicate 10 0))
+    ∷ decodes (asks hookBook 4 8 0 (replicate 16 (pos 0))) hookRoom (gave (counts 4 0 0 0) (replicate 16 0) (replicate 10 0))
     -- also run
-    ∷ decodes (given hookBook 4 8 0 (replicate 16 (pos 2047))) hookRoom (gave (counts 4 0 0 0) (replicate 16 0) (replicate 10 0))
-    ∷ decodes (given hookBook 4 8 0 (replicate 15 (pos 2047) ++ pos 2048 ∷ [])) hookRoom (keptBack 9 noCounts hookRoom)
+    ∷ decodes (asks hookBook 4 8 0 (replicate 16 (pos 2047))) hookRoom (gave (counts 4 0 0 0) (replicate 16 0) (replicate 10 0))
+    ∷ decodes (asks hookBook 4 8 0 (replicate 15 (pos 2047) ++ pos 2048 ∷ [])) hookRoom (keptBack 9 noCounts hookRoom)
     ∷ decodes (hookRun 4 1 100) hookRoom (keptBack 8 noCounts hookRoom)
-    ∷ decodes (given [] 4 8 100 hookValues) hookRoom (keptBack 1 noCounts hookRoom)
+    ∷ decodes (asks [] 4 8 100 hookValues) hookRoom (keptBack 1 noCounts hookRoom)
     ∷ []
 
 -- the order of equals, with every value 0: more blocks first, then the lower number; the last of two queued paths crowded out, and none where there is no next
 -- word; outrun with fewer blocks than b; ties over two blocks; the words of a block, equals by the smaller number
 unfoldable pub queueRows : List Row
 queueRows =
-    walks (given (flatBook 0 0 0 0) 2 8 0 (replicate 4 (pos 0)))
+    walks (asks (flatBook 0 0 0 0) 2 8 0 (replicate 4 (pos 0)))
     (step 0 0 (pos 0) [] [] ∷ step 0 1 (pos 0) [] [] ∷ step 0 2 (pos 0) [] [] ∷ step 0 3 (pos 0) [] [] ∷ step 0 4 (pos 0) [] [] ∷ [])
-    ∷ walks (given (flatBook 0 10 20 30) 2 8 0 (replicate 4 (pos 0)))
+    ∷ walks (asks (flatBook 0 10 20 30) 2 8 0 (replicate 4 (pos 0)))
     (step 0 0 (pos 0) [] [] ∷ step 0 1 (pos 0) [] [] ∷ step 1 1 (pos 0) [] [] ∷ step 0 2 (negℤ (pos 10)) [] []
     ∷ step 1 2 (negℤ (pos 10)) [] (2 ∷ 3 ∷ []) ∷ step 0 3 (negℤ (pos 20)) [] [] ∷ step 1 3 (negℤ (pos 20)) [] (4 ∷ 5 ∷ []) ∷ step 0 4 (negℤ (pos 30)) [] [] ∷ [])
-    ∷ walks (given (flatBook 5 2 0 5) 2 3 0 (negℤ (pos 2) ∷ negℤ (pos 3) ∷ negℤ (pos 1) ∷ pos 1 ∷ []))
+    ∷ walks (asks (flatBook 5 2 0 5) 2 3 0 (negℤ (pos 2) ∷ negℤ (pos 3) ∷ negℤ (pos 1) ∷ pos 1 ∷ []))
     (step 0 0 (pos 0) [] [] ∷ step 0 1 (negℤ (pos 5)) [] [] ∷ step 0 2 (negℤ (pos 2)) [] [] ∷ step 0 3 (pos 0) (1 ∷ []) []
     ∷ step 3 3 (negℤ (pos 3)) [] (2 ∷ []) ∷ step 0 4 (negℤ (pos 5)) [] [] ∷ [])
-    ∷ walks (given (sumBook 3 5) 2 3 0 (pos 1 ∷ negℤ (pos 2) ∷ negℤ (pos 4) ∷ pos 2 ∷ []))
+    ∷ walks (asks (sumBook 3 5) 2 3 0 (pos 1 ∷ negℤ (pos 2) ∷ negℤ (pos 4) ∷ pos 2 ∷ []))
     (step 0 0 (pos 0) [] [] ∷ step 0 1 (negℤ (pos 3)) [] [] ∷ step 1 1 (negℤ (pos 4)) [] (2 ∷ []) ∷ step 0 2 (negℤ (pos 5)) [] [] ∷ [])
     ∷ ranks oneBlock (replicate 4 (pos 0)) (0 ∷ 1 ∷ 2 ∷ 3 ∷ 4 ∷ [])
     ∷ ranks oneBlock (pos 1 ∷ pos 1 ∷ negℤ (pos 2) ∷ pos 1 ∷ []) (4 ∷ 5 ∷ 6 ∷ 12 ∷ 0 ∷ 7 ∷ 13 ∷ 14 ∷ 1 ∷ [])
@@ -272,18 +282,18 @@ queueRows =
 -- out and the word lost. With one value 0 it takes 8 instead of 5, and at L 1 the word is lost.
 unfoldable pub cleanRows : List Row
 cleanRows =
-    walks (given (flatBook 3 2 2 0) 2 8 0 cleanValues)
+    walks (asks (flatBook 3 2 2 0) 2 8 0 cleanValues)
     (step 0 0 (pos 0) [] [] ∷ step 0 1 (negℤ (pos 3)) [] [] ∷ step 0 2 (negℤ (pos 2)) [] [] ∷ step 0 3 (negℤ (pos 2)) [] [] ∷ step 0 4 (pos 0) [] [] ∷ [])
-    ∷ decodes (given (flatBook 3 2 2 0) 2 8 0 cleanValues) flatRoom (gave (counts 5 0 0 0) (toBits 4 0b1011) (toBits 4 0b1101))
-    ∷ decodes (given (flatBook 3 2 2 0) 1 8 0 cleanValues) flatRoom (gave (counts 5 0 3 0) (toBits 4 0b1011) (toBits 4 0b1101))
-    ∷ decodes (given (flatBook 3 2 2 0) 2 2 0 cleanValues) flatRoom (gave (counts 5 2 0 0) (toBits 4 0b1011) (toBits 4 0b1101))
-    ∷ decodes (given (pairBook 2 0) 2 2 0 cleanValues) flatRoom (gave (counts 3 0 0 0) (toBits 4 0b1011) (toBits 4 0b1101))
-    ∷ decodes (given (size 2 ++ (zeros 4 ++ (block 2 5 ++ end))) 1 2 0 (replicate 4 (pos 1))) (room 4 0 80 16 2) (gave (counts 2 0 0 0) (replicate 4 0) [])
-    ∷ decodes (given (flatBook 0 2 2 2) 2 8 0 cleanValues) flatRoom (gave (counts 6 0 0 0) (toBits 4 0b1011) (toBits 4 0b1101))
-    ∷ decodes (given (pairBook 0 2) 2 2 0 cleanValues) flatRoom (keptBack 10 (counts 4 1 1 1) flatRoom)
-    ∷ decodes (given lastZeroBook 2 8 0 (negℤ (pos 1) ∷ replicate 3 (pos 1))) (room 4 3 320 64 9) (gave (counts 5 0 0 0) (toBits 4 0b1000) (toBits 3 0b100))
-    ∷ decodes (given lastZeroBook 2 8 0 (negℤ (pos 1) ∷ pos 1 ∷ pos 1 ∷ pos 0 ∷ [])) (room 4 3 320 64 9) (gave (counts 8 0 4 0) (toBits 4 0b1000) (toBits 3 0b100))
-    ∷ decodes (given lastZeroBook 1 8 0 (negℤ (pos 1) ∷ pos 1 ∷ pos 1 ∷ pos 0 ∷ [])) (room 4 3 320 64 9) (keptBack 10 (counts 5 0 3 3) (room 4 3 320 64 9))
+    ∷ decodes (asks (flatBook 3 2 2 0) 2 8 0 cleanValues) flatRoom (gave (counts 5 0 0 0) (toBits 4 0b1011) (toBits 4 0b1101))
+    ∷ decodes (asks (flatBook 3 2 2 0) 1 8 0 cleanValues) flatRoom (gave (counts 5 0 3 0) (toBits 4 0b1011) (toBits 4 0b1101))
+    ∷ decodes (asks (flatBook 3 2 2 0) 2 2 0 cleanValues) flatRoom (gave (counts 5 2 0 0) (toBits 4 0b1011) (toBits 4 0b1101))
+    ∷ decodes (asks (pairBook 2 0) 2 2 0 cleanValues) flatRoom (gave (counts 3 0 0 0) (toBits 4 0b1011) (toBits 4 0b1101))
+    ∷ decodes (asks (size 2 ++ (zeros 4 ++ (block 2 5 ++ end))) 1 2 0 (replicate 4 (pos 1))) (room 4 0 80 16 2) (gave (counts 2 0 0 0) (replicate 4 0) [])
+    ∷ decodes (asks (flatBook 0 2 2 2) 2 8 0 cleanValues) flatRoom (gave (counts 6 0 0 0) (toBits 4 0b1011) (toBits 4 0b1101))
+    ∷ decodes (asks (pairBook 0 2) 2 2 0 cleanValues) flatRoom (keptBack 10 (counts 4 1 1 1) flatRoom)
+    ∷ decodes (asks lastZeroBook 2 8 0 (negℤ (pos 1) ∷ replicate 3 (pos 1))) (room 4 3 320 64 9) (gave (counts 5 0 0 0) (toBits 4 0b1000) (toBits 3 0b100))
+    ∷ decodes (asks lastZeroBook 2 8 0 (negℤ (pos 1) ∷ pos 1 ∷ pos 1 ∷ pos 0 ∷ [])) (room 4 3 320 64 9) (gave (counts 8 0 4 0) (toBits 4 0b1000) (toBits 3 0b100))
+    ∷ decodes (asks lastZeroBook 1 8 0 (negℤ (pos 1) ∷ pos 1 ∷ pos 1 ∷ pos 0 ∷ [])) (room 4 3 320 64 9) (keptBack 10 (counts 5 0 3 3) (room 4 3 320 64 9))
     ∷ []
 
 -- books that load, at the limits: bias, 8 free, 32 ties, a term after the tie that fills the last index; counts, ties and terms above 255
@@ -435,23 +445,23 @@ recordRows =
 -- 8 before 7 before 9; each lent length exact or at least as asked; what a run leaves in each buffer, past the stated size too
 unfoldable pub lentRows : List Row
 lentRows =
-    refuses (given (flatBook 0 0 0 0) 2 8 0 (replicate 4 (pos 0))) flatRoom 0
-    ∷ refuses (given (flatBook 0 0 0 0) 2 8 0 (replicate 4 (pos 0))) (room 5 4 320 64 9) 7
-    ∷ refuses (given (flatBook 0 0 0 0) 2 8 0 (replicate 4 (pos 0))) (room 4 3 320 64 9) 7
-    ∷ refuses (given (flatBook 0 0 0 0) 2 8 0 (replicate 4 (pos 0))) (room 4 4 319 64 9) 7
-    ∷ refuses (given (flatBook 0 0 0 0) 2 8 0 (replicate 4 (pos 0))) (room 4 4 320 63 9) 7
-    ∷ refuses (given (flatBook 0 0 0 0) 2 8 0 (replicate 4 (pos 0))) (flatWalk 8 9 9) 7
-    ∷ refuses (given (flatBook 0 0 0 0) 2 8 0 (replicate 4 (pos 0))) (flatWalk 9 8 9) 7
-    ∷ refuses (given (flatBook 0 0 0 0) 2 8 0 (replicate 4 (pos 0))) (flatWalk 9 9 8) 7
-    ∷ refuses (given (flatBook 0 0 0 0) 2 8 0 (replicate 5 (pos 0))) flatRoom 7
-    ∷ refuses (given (flatBook 0 0 0 0) 2 8 0 (replicate 4 (negℤ (pos 2048)))) flatRoom 9
-    ∷ refuses (given (flatBook 0 0 0 0) 2 8 0 (replicate 4 (negℤ (pos 2047)))) flatRoom 0
-    ∷ refuses (given (flatBook 0 0 0 0) 2 8 0 (replicate 4 (pos 2048))) (room 4 3 320 64 9) 7
-    ∷ refuses (given (flatBook 0 0 0 0) 33 8 0 (replicate 4 (pos 2048))) (room 4 3 320 64 9) 8
-    ∷ refuses (given (flatBook 0 0 0 0) 0 8 0 (replicate 4 (pos 0))) flatRoom 8
-    ∷ refuses (given (flatBook 0 0 0 0) 2 257 0 (replicate 4 (pos 0))) flatRoom 8
-    ∷ refuses (given (flatBook 0 0 0 0) 2 8 1048577 (replicate 4 (pos 0))) flatRoom 8
-    ∷ refuses (given (flatBook 0 0 0 0) 2 8 1048576 (replicate 4 (pos 0))) flatRoom 0
+    refuses (asks (flatBook 0 0 0 0) 2 8 0 (replicate 4 (pos 0))) flatRoom 0
+    ∷ refuses (asks (flatBook 0 0 0 0) 2 8 0 (replicate 4 (pos 0))) (room 5 4 320 64 9) 7
+    ∷ refuses (asks (flatBook 0 0 0 0) 2 8 0 (replicate 4 (pos 0))) (room 4 3 320 64 9) 7
+    ∷ refuses (asks (flatBook 0 0 0 0) 2 8 0 (replicate 4 (pos 0))) (room 4 4 319 64 9) 7
+    ∷ refuses (asks (flatBook 0 0 0 0) 2 8 0 (replicate 4 (pos 0))) (room 4 4 320 63 9) 7
+    ∷ refuses (asks (flatBook 0 0 0 0) 2 8 0 (replicate 4 (pos 0))) (flatWalk 8 9 9) 7
+    ∷ refuses (asks (flatBook 0 0 0 0) 2 8 0 (replicate 4 (pos 0))) (flatWalk 9 8 9) 7
+    ∷ refuses (asks (flatBook 0 0 0 0) 2 8 0 (replicate 4 (pos 0))) (flatWalk 9 9 8) 7
+    ∷ refuses (asks (flatBook 0 0 0 0) 2 8 0 (replicate 5 (pos 0))) flatRoom 7
+    ∷ refuses (asks (flatBook 0 0 0 0) 2 8 0 (replicate 4 (negℤ (pos 2048)))) flatRoom 9
+    ∷ refuses (asks (flatBook 0 0 0 0) 2 8 0 (replicate 4 (negℤ (pos 2047)))) flatRoom 0
+    ∷ refuses (asks (flatBook 0 0 0 0) 2 8 0 (replicate 4 (pos 2048))) (room 4 3 320 64 9) 7
+    ∷ refuses (asks (flatBook 0 0 0 0) 33 8 0 (replicate 4 (pos 2048))) (room 4 3 320 64 9) 8
+    ∷ refuses (asks (flatBook 0 0 0 0) 0 8 0 (replicate 4 (pos 0))) flatRoom 8
+    ∷ refuses (asks (flatBook 0 0 0 0) 2 257 0 (replicate 4 (pos 0))) flatRoom 8
+    ∷ refuses (asks (flatBook 0 0 0 0) 2 8 1048577 (replicate 4 (pos 0))) flatRoom 8
+    ∷ refuses (asks (flatBook 0 0 0 0) 2 8 1048576 (replicate 4 (pos 0))) flatRoom 0
     ∷ leaves (hookRun 1 8 401) (room 16 10 513 258 14)
     (record {
       word = replicate 16 7;
@@ -468,11 +478,31 @@ lentRows =
 -- the hook call: the record of the word; 10; 11 for status 5; k not 32 is 7, after 8
 unfoldable pub hookRows : List Row
 hookRows =
-    hooks (given recordBook 1 4 0 (plainly heldWord)) recordRoom (gave (counts 17 0 15 0) heldWord heldBits) held
-    ∷ hooks (given repeatBook 1 4 49 (pos 50 ∷ drop 1 (plainly heldWord) ++ plainly heldWord)) repeatRoom (keptBack 10 (counts 18 0 15 50) repeatRoom) blank
-    ∷ hooks (given recordBook 1 4 0 (plainly (toBits 32 0b0111_0000_1011_1100_1011_1100_1011_1100))) recordRoom (keptBack 11 (counts 17 0 15 0) recordRoom) blank
+    hooks (asks recordBook 1 4 0 (plainly heldWord)) recordRoom (gave (counts 17 0 15 0) heldWord heldBits) held
+    ∷ hooks (asks repeatBook 1 4 49 (pos 50 ∷ drop 1 (plainly heldWord) ++ plainly heldWord)) repeatRoom (keptBack 10 (counts 18 0 15 50) repeatRoom) blank
+    ∷ hooks (asks recordBook 1 4 0 (plainly (toBits 32 0b0111_0000_1011_1100_1011_1100_1011_1100))) recordRoom (keptBack 11 (counts 17 0 15 0) recordRoom) blank
     ∷ hooks (hookRun 4 8 100) hookRoom (keptBack 7 noCounts hookRoom) blank
     ∷ hooks (hookRun 4 1 100) hookRoom (keptBack 8 noCounts hookRoom) blank
+    ∷ []
+
+-- calls in other manners: step records too few, as many as asked, more; counts and record at a wrong size; 8 before that 7, and that 7 before 9
+unfoldable pub manner : Reads → Beside → Beside → Beside → Manner
+manner r s n h = record { reads = r; steps = s; counts = n; hook = h }
+
+unfoldable pub mannerRows : List Row
+mannerRows =
+    answers (manner Data (Entries 12) Absent Absent) (hookRun 4 8 100) hookRoom 7
+    ∷ answers (manner Data (Entries 13) Absent Absent) (hookRun 4 8 100) hookRoom 0
+    ∷ answers (manner Data (Entries 14) Absent Absent) (hookRun 4 8 100) hookRoom 0
+    ∷ answers (manner Data (Entries 12) Absent Absent) (hookRun 4 1 100) hookRoom 8
+    ∷ answers (manner Data (Entries 12) Absent Absent) (asks hookBook 4 8 0 (replicate 15 (pos 2047) ++ pos 2048 ∷ [])) hookRoom 7
+    ∷ answers (manner Data (Entries 13) Absent Absent) (asks hookBook 4 8 0 (replicate 15 (pos 2047) ++ pos 2048 ∷ [])) hookRoom 9
+    ∷ answers (manner Data Absent (Entries 3) Absent) (hookRun 4 8 100) hookRoom 7
+    ∷ answers (manner Data Absent (Entries 4) Absent) (hookRun 4 8 100) hookRoom 0
+    ∷ answers (manner Data Absent (Entries 5) Absent) (hookRun 4 8 100) hookRoom 7
+    ∷ answers (manner Record Absent (Entries 4) (Entries 3)) (asks recordBook 1 4 0 (plainly heldWord)) recordRoom 7
+    ∷ answers (manner Record Absent (Entries 4) (Entries 4)) (asks recordBook 1 4 0 (plainly heldWord)) recordRoom 0
+    ∷ answers (manner Record Absent (Entries 4) (Entries 5)) (asks recordBook 1 4 0 (plainly heldWord)) recordRoom 7
     ∷ []
 
 -- the whole table
@@ -493,4 +523,5 @@ table =
     ∷ recordRows
     ∷ lentRows
     ∷ hookRows
+    ∷ mannerRows
     ∷ []

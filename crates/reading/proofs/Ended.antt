@@ -4,7 +4,6 @@ use mathlib.Core.Path.{_≡_, ap, _∙_}
 use mathlib.Core.List.{List}
 use Prim.Native.Nat.{ℕ, _+_, _*_, _^_, _≤_}
 use native.Mathlib.Omega.{arith}
-use lib.ListN.{getD}
 use Rattle.laws.specs.Pairs.{Paired}
 use Rattle.polar.specs.Layers.{part}
 use Rattle.outer.proofs.Blocks.{Placed, placed}
@@ -16,13 +15,13 @@ use Rattle.order.specs.Entries.{slotAt}
 use Rattle.sharing.specs.Sharing.{idAt}
 use Rattle.heights.specs.Workspace.{spot, Id}
 use Rattle.standing.specs.Seen.{Memory, Seen, IdsOnly}
-use Rattle.standing.specs.Standing.{cell, InHand}
+use Rattle.standing.specs.Standing.{cell, spentAt, costAt, InHand}
 use Rattle.views.proofs.Seeing.{seen-some, seen-sums}
 use Rattle.words.specs.declared.Block.{Block}
 use Rattle.steps.specs.Steps.{committed}
 use Rattle.reading.specs.Ending.{Ending}
 
-module _ {m N : ℕ} {x : Memory} {e : ℕ} {es vs : List ℕ} {last : Block} (c : Ending m N x e es vs last) {s : ℕ} (is : s ≡ slotAt e) where
+module _ {m D N : ℕ} {x : Memory} {e : ℕ} {es vs : List ℕ} {last : Block} (c : Ending m D N x e es vs last) {s : ℕ} (is : s ≡ slotAt e) where
   -- the last word's height and place
   root-place : last .place ≡ m
   root-place = c .own .block .word ∙ place-last (c .hand .book) (c .valid) (c .b) (c .whole) ∙ c .hand .deep
@@ -35,7 +34,7 @@ module _ {m N : ℕ} {x : Memory} {e : ℕ} {es vs : List ℕ} {last : Block} (c
   -- the path has an array at the root
   root-has : 1 ≤ committed (c .hand) .ids m
   root-has =
-      let h : InHand m N x e es vs = c .hand in
+      let h : InHand m D N x e es vs = c .hand in
       let o : Placed (h .book) (c .b) = placed (h .book) (c .valid) (c .b) (c .own .block .within) in
       let l : 1 ≤ h .taken .ids m = c .own .fit .has m (omega (arith, o .small, h .deep)) (omega (arith, h .deep)) in
       commit-has (h .book) (idsOf (h .rest)) (h .taken) (h .taken .blocks) (viewOf (h .arrays) (h .taken)) m l
@@ -47,10 +46,10 @@ module _ {m N : ℕ} {x : Memory} {e : ℕ} {es vs : List ℕ} {last : Block} (c
 
   -- the row's spent and cost are as they were
   pub end-spent : m ≤ 9 → (rows : List ℕ) → IdsOnly m s (x .rows) rows →
-      (getD rows (s * 16 + 10) 0 ≡ c .hand .taken .spent) × (getD rows (s * 16 + 11) 0 ≡ c .hand .taken .cost)
+      (cell rows s spentAt ≡ c .hand .taken .spent) × (cell rows s costAt ≡ c .hand .taken .cost)
   unfolding Paired cell
   end-spent d rows only =
       let r = c .hand .stands .queue .0 .row in (
-        only .after (s * 16 + 10) (omega arith) ∙ ap (λ t. getD (x .rows) (t * 16 + 10) 0) is ∙ r .spent,
-        only .after (s * 16 + 11) (omega arith) ∙ ap (λ t. getD (x .rows) (t * 16 + 11) 0) is ∙ r .cost,
+        only .after (s * 16 + spentAt) (omega arith) ∙ ap (λ t. cell (x .rows) t spentAt) is ∙ r .spent,
+        only .after (s * 16 + costAt) (omega arith) ∙ ap (λ t. cell (x .rows) t costAt) is ∙ r .cost,
       )

@@ -1,5 +1,5 @@
--- A run's first memory stands for its first state: path 0 in slot 0 alone, the slots 1 to N - 1 vacant, and whatever arrays the workspace holds.
--- Field by field: row 0 holds 1 at the root and else zeros, and the vacant slots, from the last on, are N - 1 down to 1. Assumes nothing.
+-- A run's first memory stands for its first state: path 0 in slot 0 alone, the slots 1 to D - 1 vacant, and whatever arrays the workspace holds.
+-- Field by field: row 0 holds 1 at the root and else zeros, and the vacant slots, from the last on, are D - 1 down to 1. Assumes nothing.
 use mathlib.Core.Path.{_≡_, sym, ap, _∙_, subst}
 use mathlib.Core.Bool.{cond}
 use mathlib.Core.List.{List, [], _∷_}
@@ -27,8 +27,8 @@ use Rattle.order.specs.Entries.{Packed, queueOf}
 use Rattle.order.proofs.Queues.{queue-length}
 use Rattle.sharing.specs.Sharing.{idAt, heldAt, one, Rows, HasIds, Counted}
 use Rattle.heights.specs.Workspace.{spot, Parts}
-use Rattle.standing.specs.Seen.{memory}
-use Rattle.standing.specs.Standing.{cell, Row, Stands}
+use Rattle.standing.specs.Seen.{memory, Enough}
+use Rattle.standing.specs.Standing.{cell, spentAt, costAt, earlierAt, paritiesAt, Row, Stands}
 use Rattle.start.specs.Start.{firstHeld}
 use Rattle.reading.specs.Running.{arraysOf}
 use Rattle.start.proofs.Begun.{Zeros, id-root, id-below}
@@ -82,7 +82,7 @@ module _ (B : Book) where
         go (no n) = id-below old (B .m) none h n ∙ sym (first-none B h n)
 
     -- its other cells
-    first-cell : (f : ℕ) → 10 ≤ f → cell (set old (B .m) 1) 0 f ≡ 0
+    first-cell : (f : ℕ) → spentAt ≤ f → cell (set old (B .m) 1) 0 f ≡ 0
     unfolding cell
     first-cell f l = getD-set-other old (B .m) (0 * 16 + f) 1 0 (λ e. omega (arith, ok .high)) ∙ none (0 * 16 + f)
 
@@ -91,11 +91,11 @@ module _ (B : Book) where
     first-row =
         record {
           ids = first-ids;
-          spent = first-cell 10 (omega arith);
-          cost = first-cell 11 (omega arith);
+          spent = first-cell spentAt (omega arith);
+          cost = first-cell costAt (omega arith);
           word = λ b e. absurd (omega arith);
-          earlier = first-cell 13 (omega arith) ∙ sym (no-parities B);
-          parities = first-cell 14 (omega arith) ∙ sym (no-parities B);
+          earlier = first-cell earlierAt (omega arith) ∙ sym (no-parities B);
+          parities = first-cell paritiesAt (omega arith) ∙ sym (no-parities B);
         }
 
   -- path 0 is what is counted
@@ -114,28 +114,28 @@ module _ (B : Book) where
       go (yes e) = omega (arith, ap (firstPath B .ids) e, first-root B)
       go (no n) = omega (arith, first-none B h n)
 
-module _ (B : Book) (m N : ℕ) (ok : Valid B) (deep : B .m ≡ m) (some : 1 ≤ N) (most : N ≤ 256) (rows holders vacant : List ℕ) where
+module _ (B : Book) (m D N : ℕ) (ok : Valid B) (deep : B .m ≡ m) (some : 1 ≤ D) (enough : Enough D N) (most : N ≤ 256) (rows holders vacant : List ℕ) where
   -- row 0, once 1 was stored into zeros
   row-stored : (old : List ℕ) → Zeros old → Rows 1 old → rows ≡ set old m 1 → Row B rows 0 (firstPath B)
   row-stored old none size is =
       subst (λ (l : List ℕ). Row B l 0 (firstPath B)) (sym (is ∙ ap (λ k. set old k 1) (sym deep))) (first-row B ok old none (omega (arith, ok .high)))
 
   pub first-stands : (old : List ℕ) → Zeros old → Rows 1 old → rows ≡ set old m 1 → ((h i : ℕ) → h ≤ 9 → i ≤ 256 → heldAt holders h i ≡ firstHeld m h i) →
-      ((k : ℕ) → k + 1 < N → getD vacant k 0 ≡ k + 1) → (e : ℕ) → Packed e (keyOf B (firstPath B)) 0 → (numbers : List ℤ) (bytes : List ℕ) →
-      Stands B N (memory rows holders numbers bytes) (e ∷ []) (queueOf vacant (N - 1)) (arraysOf m numbers bytes) (firstPath B ∷ [])
+      ((k : ℕ) → k + 1 < D → getD vacant k 0 ≡ k + 1) → (e : ℕ) → Packed e (keyOf B (firstPath B)) 0 → (numbers : List ℤ) (bytes : List ℕ) →
+      Stands B D N (memory rows holders numbers bytes) (e ∷ []) (queueOf vacant (D - 1)) (arraysOf m numbers bytes) (firstPath B ∷ [])
   unfolding memory Paired All Distinct Counted Parts arraysOf
   first-stands old none size is held free e p numbers bytes =
-      let count : Counting vacant (N - 1) = λ k l. free k (omega arith) in
+      let count : Counting vacant (D - 1) = λ k l. free k (omega arith) in
       let row = row-stored old none size is in
-      let range = counting-range (N - 1) vacant count in
+      let range = counting-range (D - 1) vacant count in
       record {
         queue = (record { key = p .key; small = p .low; row = subst (λ (s : ℕ). Row B rows s (firstPath B)) (sym (p .slot)) row }, tt);
-        apart = (all-map (λ s b q. omega (arith, p .slot, b .0)) (queueOf vacant (N - 1)) range, counting-distinct (N - 1) vacant count);
+        apart = (all-map (λ s b q. omega (arith, p .slot, b .0)) (queueOf vacant (D - 1)) range, counting-distinct (D - 1) vacant count);
         slots = (omega (arith, p .slot), tt);
-        vacant = all-map (λ s b. omega (arith, b .1)) (queueOf vacant (N - 1)) range;
-        full = omega (arith, queue-length (N - 1) vacant);
+        vacant = all-map (λ s b. omega (arith, b .1)) (queueOf vacant (D - 1)) range;
+        full = omega (arith, queue-length (D - 1) vacant);
         counted = λ h i l k. held h i (omega (arith, ok .high)) (omega arith) ∙ ap (λ n. firstHeld n h i) (sym deep) ∙ first-counted B h i l;
-        housed = (λ h l. first-housed B N some h, tt);
+        housed = (λ h l. first-housed B N (omega arith) h, tt);
         vals = λ h i l d. ap (λ n. part (spot n i h) (2 ^ h) numbers) deep;
         sums = λ h i l d. ap (λ n. part (spot n i h) (2 ^ h) bytes) deep;
       }

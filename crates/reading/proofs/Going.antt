@@ -50,7 +50,7 @@ abbrev pub momentOf : Arrays → Path → List Path → ℕ → List ℕ → Mom
 momentOf A p ps n visits = record { path = p; state = record { arrays = A; queue = ps; next = n; visits = visits } }
 
 -- the rest of the run of B from the arrays A; `own` are the visits of the book's blocks
-pub record Going (B : Book) (values : List ℤ) (L N : ℕ) (A : Arrays) (x : Memory) (order vacant visits kept : List ℕ) (t : Tally) (e : ℕ)
+pub record Going (B : Book) (values : List ℤ) (L D N : ℕ) (A : Arrays) (x : Memory) (order vacant visits kept : List ℕ) (t : Tally) (e : ℕ)
     (path₀ blocks₀ score₀ path blocks score : List ℤ) : Type 0 where
   pub arrays : Arrays
   pub taken : Path
@@ -58,25 +58,25 @@ pub record Going (B : Book) (values : List ℤ) (L N : ℕ) (A : Arrays) (x : Me
   pub own : List ℕ
   pub fuel : ℕ
   pub done : List Moment
-  pub stands : Stands B N x (e ∷ queueOf order (t .queued)) (queueOf vacant (N - (t .queued + 1))) arrays (taken ∷ rest)
-  pub reached : Reached B values N arrays (taken ∷ rest)
+  pub stands : Stands B D N x (e ∷ queueOf order (t .queued)) (queueOf vacant (D - (t .queued + 1))) arrays (taken ∷ rest)
+  pub reached : Reached B values D arrays (taken ∷ rest)
   pub known : Kepts B arrays kept (e ∷ queueOf order (t .queued)) (taken ∷ rest)
   pub alike : Alike (length (B .blocks)) own visits
-  pub count : length done + suc fuel ≡ L * length (B .blocks) + 1
-  pub at : momentsOf B L N A ≡ done ++ trace (R.nextAt B L N) (suc fuel) (on (momentOf arrays taken rest (t .next) own)) .states
-  pub ends : R.runOf B L N A .end ≡ endIn (trace (R.nextAt B L N) (suc fuel) (on (momentOf arrays taken rest (t .next) own)) .end)
+  pub count : length done + suc fuel ≡ mostExtractions L (length (B .blocks))
+  pub at : momentsOf B L D A ≡ done ++ trace (R.nextAt B L D) (suc fuel) (on (momentOf arrays taken rest (t .next) own)) .states
+  pub ends : R.runOf B L D A .end ≡ endIn (trace (R.nextAt B L D) (suc fuel) (on (momentOf arrays taken rest (t .next) own)) .end)
   pub extractions : t .extractions ≡ length done
-  pub crowded : t .crowded ≡ sum (map crowdedCount (map (stepAt B L N) done))
-  pub outrun : t .outrun ≡ sum (map outrunCount (map (stepAt B L N) done))
+  pub crowded : t .crowded ≡ sum (map crowdedCount (map (stepAt B L D) done))
+  pub outrun : t .outrun ≡ sum (map outrunCount (map (stepAt B L D) done))
   pub next-few : t .next ≤ suc (length done)
   pub crowded-few : t .crowded ≤ length done
   pub outrun-few : t .outrun ≤ 256 * length done
   pub visits-few : (b : ℕ) → getD visits b 0 ≤ length done
-  pub walks : Walks (map (stepAt B L N) done) path₀ blocks₀ score₀ path blocks score
+  pub walks : Walks (map (stepAt B L D) done) path₀ blocks₀ score₀ path blocks score
 
 -- ---- the definition of the run, opened
 
-module _ (B : Book) (L N : ℕ) where
+module _ (B : Book) (L D : ℕ) where
   -- a run with a final word has fuel, and a path to take
   record Onward (fuel : ℕ) (ps : List Path) : Type 0 where
     less : ℕ
@@ -86,7 +86,7 @@ module _ (B : Book) (L N : ℕ) where
     queue-is : ps ≡ taken ∷ rest
 
   onward : (fuel : ℕ) (A : Arrays) (ps : List Path) (n : ℕ) (visits : List ℕ) (f : Final) →
-      endIn (trace (R.nextAt B L N) fuel (R.takingFrom A ps n visits) .end) ≡ found f → Onward fuel ps
+      endIn (trace (R.nextAt B L D) fuel (R.takingFrom A ps n visits) .end) ≡ found f → Onward fuel ps
   unfolding R.takingFrom trace ended endIn
   onward zero A [] n visits f e = let z : _≡_ {A = ℕ} 0 1 = cc in absurd (omega arith)
   onward zero A (p ∷ ps) n visits f e = let z : _≡_ {A = ℕ} 0 1 = cc in absurd (omega arith)
@@ -95,23 +95,23 @@ module _ (B : Book) (L N : ℕ) where
 
   module _ (A : Arrays) (p : Path) (ps : List Path) (n : ℕ) (visits : List ℕ) where
     -- a path with a next block
-    next-more : (p .blocks ≡ length (B .blocks) → ⊥) → R.nextAt B L N (momentOf A p ps n visits) ≡ R.taking (R.extract B L N A p ps n visits .state)
+    next-more : (p .blocks ≡ length (B .blocks) → ⊥) → R.nextAt B L D (momentOf A p ps n visits) ≡ R.taking (R.extract B L D A p ps n visits .state)
     unfolding R.nextAt extractAt
     next-more d = rw (ne-eqb (p .blocks) (length (B .blocks)) d)
 
     -- its step
-    step-is : (p .blocks ≡ length (B .blocks) → ⊥) → stepAt B L N (momentOf A p ps n visits) ≡ R.extract B L N A p ps n visits .step
+    step-is : (p .blocks ≡ length (B .blocks) → ⊥) → stepAt B L D (momentOf A p ps n visits) ≡ R.extract B L D A p ps n visits .step
     unfolding extractAt
-    step-is d = step-more B L N (momentOf A p ps n visits) d
+    step-is d = step-more B L D (momentOf A p ps n visits) d
 
 -- ---- at first
 
-pub going-first : (B : Book) (values : List ℤ) (L N : ℕ) (A : Arrays) (x : Memory) (order vacant kept : List ℕ) (e : ℕ) (path₀ blocks₀ score₀ : List ℤ) → Valid B →
-    1 ≤ N → A .vals (B .m) 1 ≡ values → Stands B N x (e ∷ []) (queueOf vacant (N - 1)) A (firstPath B ∷ []) →
-    Going B values L N A x order vacant (replicate 512 0) kept
+pub going-first : (B : Book) (values : List ℤ) (L D N : ℕ) (A : Arrays) (x : Memory) (order vacant kept : List ℕ) (e : ℕ) (path₀ blocks₀ score₀ : List ℤ) → Valid B →
+    1 ≤ D → A .vals (B .m) 1 ≡ values → Stands B D N x (e ∷ []) (queueOf vacant (D - 1)) A (firstPath B ∷ []) →
+    Going B values L D N A x order vacant (replicate 512 0) kept
     (record { queued = 0; next = 1; extractions = 0; crowded = 0; outrun = 0 }) e path₀ blocks₀ score₀ path₀ blocks₀ score₀
 unfolding queueOf sum Paired firstPath R.runOf runIn momentsOf R.traceOf mostExtractions R.firstState R.taking R.takingFrom
-going-first B values L N A x order vacant kept e path₀ blocks₀ score₀ ok some′ root st =
+going-first B values L D N A x order vacant kept e path₀ blocks₀ score₀ ok some′ root st =
     let V′ : ℕ = length (B .blocks) in
     record {
       arrays = A;
@@ -121,12 +121,12 @@ going-first B values L N A x order vacant kept e path₀ blocks₀ score₀ ok s
       fuel = L * V′;
       done = [];
       stands = st;
-      reached = first-reached B values N A root some′;
+      reached = first-reached B values D A root some′;
       known = (record { key = st .queue .0 .key; next = λ b q. absurd (omega arith) }, tt);
       alike = alike-zeros V′ 512 (blocks-few B ok);
       count = omega arith;
-      at = ap (λ n. trace (R.nextAt B L N) n (on (momentOf A (firstPath B) [] 1 (replicate V′ 0))) .states) (add-one (L * V′));
-      ends = ap (λ n. endIn (trace (R.nextAt B L N) n (on (momentOf A (firstPath B) [] 1 (replicate V′ 0))) .end)) (add-one (L * V′));
+      at = ap (λ n. trace (R.nextAt B L D) n (on (momentOf A (firstPath B) [] 1 (replicate V′ 0))) .states) (add-one (L * V′));
+      ends = ap (λ n. endIn (trace (R.nextAt B L D) n (on (momentOf A (firstPath B) [] 1 (replicate V′ 0))) .end)) (add-one (L * V′));
       extractions = refl;
       crowded = refl;
       outrun = refl;
@@ -139,8 +139,8 @@ going-first B values L N A x order vacant kept e path₀ blocks₀ score₀ ok s
 
 -- ---- under way
 
-module _ {B : Book} {values : List ℤ} {L N : ℕ} {A : Arrays} {x : Memory} {order vacant visits kept : List ℕ} {t : Tally} {e : ℕ}
-    {path₀ blocks₀ score₀ path blocks score : List ℤ} (g : Going B values L N A x order vacant visits kept t e path₀ blocks₀ score₀ path blocks score) where
+module _ {B : Book} {values : List ℤ} {L D N : ℕ} {A : Arrays} {x : Memory} {order vacant visits kept : List ℕ} {t : Tally} {e : ℕ}
+    {path₀ blocks₀ score₀ path blocks score : List ℤ} (g : Going B values L D N A x order vacant visits kept t e path₀ blocks₀ score₀ path blocks score) where
   -- the entry in hand is the path's
   pub going-small : e < 36028797018963968
   unfolding Paired
@@ -150,14 +150,15 @@ module _ {B : Book} {values : List ℤ} {L N : ℕ} {A : Arrays} {x : Memory} {o
   going-blocks = taken-blocks (g .stands)
 
   -- the queue has room
-  pub going-room : t .queued + 1 ≤ N
+  pub going-room : t .queued + 1 ≤ D
   going-room = omega (arith, stands-room (g .stands) .1, queue-length (t .queued) order)
 
   -- what stays to be done, and the counts' limits
-  pub going-fuel : t .extractions < L * length (B .blocks) + 1
+  pub going-fuel : t .extractions < mostExtractions L (length (B .blocks))
   going-fuel = omega (arith, g .count, g .extractions)
 
   pub going-limits : Valid B → L ≤ 32 → (t .extractions < 16385) × (t .next < 32768) × (t .crowded < 65536) × (t .outrun < 16777216) × ((b : ℕ) → getD visits b 0 < 65536)
+  unfolding mostExtractions
   going-limits ok l =
       let most : L * length (B .blocks) ≤ 32 * 512 = mul-le-mul l (blocks-few B ok) in
       let n : length (g .done) < 16385 = omega (arith, g .count) in (
@@ -170,49 +171,49 @@ module _ {B : Book} {values : List ℤ} {L N : ℕ} {A : Arrays} {x : Memory} {o
 
   -- a path without all blocks has a next one
   pub going-within : Valid B → g .taken .blocks ≤ length (B .blocks)
-  going-within ok = reached-within B values ok N (g .arrays) (g .taken) (g .rest) (g .reached)
+  going-within ok = reached-within B values ok D (g .arrays) (g .taken) (g .rest) (g .reached)
 
   -- ---- an extraction
 
-  module _ (ok : Valid B) (size : length values ≡ 2 ^ (B .m)) (two : 2 ≤ N) (most : N ≤ 256) (f : Final) (finds : R.runOf B L N A .end ≡ found f)
+  module _ (ok : Valid B) (size : length values ≡ 2 ^ (B .m)) (two : 2 ≤ D) (most : D ≤ 256) (f : Final) (finds : R.runOf B L D A .end ≡ found f)
       (more : g .taken .blocks < length (B .blocks)) where
     -- what it comes to, by the visits of the tables and by those of the book's blocks
     abbrev made : R.Extracted
-    made = R.extract B L N (g .arrays) (g .taken) (g .rest) (t .next) visits
+    made = R.extract B L D (g .arrays) (g .taken) (g .rest) (t .next) visits
 
     abbrev mine : R.Extracted
-    mine = R.extract B L N (g .arrays) (g .taken) (g .rest) (t .next) (g .own)
+    mine = R.extract B L D (g .arrays) (g .taken) (g .rest) (t .next) (g .own)
 
     alike : Same (length (B .blocks)) mine made
-    alike = extract-same B L N (g .arrays) (g .taken) (g .rest) (t .next) (length (B .blocks)) (g .own) visits more (g .alike)
+    alike = extract-same B L D (g .arrays) (g .taken) (g .rest) (t .next) (length (B .blocks)) (g .own) visits more (g .alike)
 
     -- the moment, and its step
     abbrev here : Moment
     here = momentOf (g .arrays) (g .taken) (g .rest) (t .next) (g .own)
 
-    here-step : stepAt B L N here ≡ mine .step
-    here-step = step-is B L N (g .arrays) (g .taken) (g .rest) (t .next) (g .own) (λ q. omega arith)
+    here-step : stepAt B L D here ≡ mine .step
+    here-step = step-is B L D (g .arrays) (g .taken) (g .rest) (t .next) (g .own) (λ q. omega arith)
 
-    opened : R.nextAt B L N here ≡ R.taking (mine .state)
-    opened = next-more B L N (g .arrays) (g .taken) (g .rest) (t .next) (g .own) (λ q. omega arith)
+    opened : R.nextAt B L D here ≡ R.taking (mine .state)
+    opened = next-more B L D (g .arrays) (g .taken) (g .rest) (t .next) (g .own) (λ q. omega arith)
 
-    later : Onward B L N (g .fuel) (mine .state .queue)
+    later : Onward B L D (g .fuel) (mine .state .queue)
     unfolding R.taking trace after
     later =
-        onward B L N (g .fuel) (mine .state .arrays) (mine .state .queue) (mine .state .next) (mine .state .visits) f
-        (ap (λ z. endIn (trace (R.nextAt B L N) (g .fuel) z .end)) (sym opened) ∙ sym (g .ends) ∙ finds)
+        onward B L D (g .fuel) (mine .state .arrays) (mine .state .queue) (mine .state .next) (mine .state .visits) f
+        (ap (λ z. endIn (trace (R.nextAt B L D) (g .fuel) z .end)) (sym opened) ∙ sym (g .ends) ∙ finds)
 
     -- the rest of the run from there
     rest-is : {n : ℕ} → n ≡ mine .state .next →
-        trace (R.nextAt B L N) (suc (g .fuel)) (on here)
-        ≡ after here (trace (R.nextAt B L N) (suc (later .less)) (on (momentOf (mine .state .arrays) (later .taken) (later .rest) n (mine .state .visits))))
+        trace (R.nextAt B L D) (suc (g .fuel)) (on here)
+        ≡ after here (trace (R.nextAt B L D) (suc (later .less)) (on (momentOf (mine .state .arrays) (later .taken) (later .rest) n (mine .state .visits))))
     unfolding R.taking R.takingFrom trace
     rest-is a =
-        ap (λ z. after here (trace (R.nextAt B L N) (g .fuel) z)) opened
-        ∙ ap₂ (λ k qs. after here (trace (R.nextAt B L N) k (R.takingFrom (mine .state .arrays) qs (mine .state .next) (mine .state .visits)))) (later .fuel-is) (later .queue-is)
-        ∙ ap (λ k. after here (trace (R.nextAt B L N) (suc (later .less)) (on (momentOf (mine .state .arrays) (later .taken) (later .rest) k (mine .state .visits))))) (sym a)
+        ap (λ z. after here (trace (R.nextAt B L D) (g .fuel) z)) opened
+        ∙ ap₂ (λ k qs. after here (trace (R.nextAt B L D) k (R.takingFrom (mine .state .arrays) qs (mine .state .next) (mine .state .visits)))) (later .fuel-is) (later .queue-is)
+        ∙ ap (λ k. after here (trace (R.nextAt B L D) (suc (later .less)) (on (momentOf (mine .state .arrays) (later .taken) (later .rest) k (mine .state .visits))))) (sym a)
 
-    few : length (g .rest) < N
+    few : length (g .rest) < D
     few = stands-room (g .stands) .0
 
     -- its entry of the walk
@@ -228,39 +229,39 @@ module _ {B : Book} {values : List ℤ} {L N : ℕ} {A : Arrays} {x : Memory} {o
       module _ (y : Memory) (order′ vacant′ visits′ kept′ : List ℕ) (next-is : r .next ≡ made .state .next) (visits-is : visits′ ≡ made .state .visits)
           (crowded-is : r .crowded ≡ t .crowded + length (made .step .crowded)) (outrun-is : r .outrun ≡ t .outrun + length (made .step .outrun))
           (extractions-is : r .extractions ≡ t .extractions + 1)
-          (st : Stands B N y (queueOf order′ (r .queued)) (queueOf vacant′ (N - r .queued)) (made .state .arrays) (made .state .queue))
+          (st : Stands B D N y (queueOf order′ (r .queued)) (queueOf vacant′ (D - r .queued)) (made .state .arrays) (made .state .queue))
           (words : Kepts B (made .state .arrays) kept′ (queueOf order′ (r .queued)) (made .state .queue)) where
-        mine-stands : Stands B N y (queueOf order′ (r .queued)) (queueOf vacant′ (N - r .queued)) (mine .state .arrays) (mine .state .queue)
+        mine-stands : Stands B D N y (queueOf order′ (r .queued)) (queueOf vacant′ (D - r .queued)) (mine .state .arrays) (mine .state .queue)
         mine-stands =
-            subst₂ (λ (F : Arrays) (qs : List Path). Stands B N y (queueOf order′ (r .queued)) (queueOf vacant′ (N - r .queued)) F qs) (sym (alike .arrays))
+            subst₂ (λ (F : Arrays) (qs : List Path). Stands B D N y (queueOf order′ (r .queued)) (queueOf vacant′ (D - r .queued)) F qs) (sym (alike .arrays))
             (sym (alike .queue)) st
 
         mine-words : Kepts B (mine .state .arrays) kept′ (queueOf order′ (r .queued)) (mine .state .queue)
         mine-words =
             subst₂ (λ (F : Arrays) (qs : List Path). Kepts B F kept′ (queueOf order′ (r .queued)) qs) (sym (alike .arrays)) (sym (alike .queue)) words
 
-        taken-stands : Stands B N y (getD order′ (r .queued - 1) 0 ∷ queueOf order′ (r .queued - 1)) (queueOf vacant′ (N - (r .queued - 1 + 1)))
+        taken-stands : Stands B D N y (getD order′ (r .queued - 1) 0 ∷ queueOf order′ (r .queued - 1)) (queueOf vacant′ (D - (r .queued - 1 + 1)))
             (mine .state .arrays) (later .taken ∷ later .rest)
         taken-stands =
             let q : r .queued - 1 + 1 ≡ r .queued = omega (arith, going-some) in
             rw q (rw (queue-first (r .queued) order′ going-some, later .queue-is) at mine-stands)
 
         -- the extractions done, and this one
-        steps-next : map (stepAt B L N) (g .done ++ here ∷ []) ≡ map (stepAt B L N) (g .done) ++ mine .step ∷ []
-        steps-next = map-append (stepAt B L N) (g .done) (here ∷ []) ∙ ap (λ s. map (stepAt B L N) (g .done) ++ s ∷ []) here-step
+        steps-next : map (stepAt B L D) (g .done ++ here ∷ []) ≡ map (stepAt B L D) (g .done) ++ mine .step ∷ []
+        steps-next = map-append (stepAt B L D) (g .done) (here ∷ []) ∙ ap (λ s. map (stepAt B L D) (g .done) ++ s ∷ []) here-step
 
-        pub going-next : {path′ blocks′ score′ : List ℤ} → Long (L * length (B .blocks) + 1) path₀ blocks₀ score₀ →
+        pub going-next : {path′ blocks′ score′ : List ℤ} → Long (mostExtractions L (length (B .blocks))) path₀ blocks₀ score₀ →
             Noted (t .extractions) (keyAt e) path blocks score path′ blocks′ score′ →
-            Going B values L N A y order′ vacant′ visits′ kept′
+            Going B values L D N A y order′ vacant′ visits′ kept′
             (record { queued = r .queued - 1; next = r .next; extractions = r .extractions; crowded = r .crowded; outrun = r .outrun })
             (getD order′ (r .queued - 1) 0) path₀ blocks₀ score₀ path′ blocks′ score′
         unfolding after
         going-next {path′} {blocks′} {score′} long noted =
             let s : Step = mine .step in
-            let before : List Step = map (stepAt B L N) (g .done) in
+            let before : List Step = map (stepAt B L D) (g .done) in
             let next : r .next ≡ mine .state .next = next-is ∙ sym (alike .next) in
             let l : length (g .done ++ here ∷ []) ≡ suc (length (g .done)) = length-snoc (g .done) here in
-            let counted : (f : Step → ℕ) → sum (map f (map (stepAt B L N) (g .done ++ here ∷ []))) ≡ sum (map f before) + f s = λ f.
+            let counted : (f : Step → ℕ) → sum (map f (map (stepAt B L D) (g .done ++ here ∷ []))) ≡ sum (map f before) + f s = λ f.
             ap (λ l. sum (map f l)) steps-next ∙ sum-next f before s in
             record {
               arrays = mine .state .arrays;
@@ -271,7 +272,7 @@ module _ {B : Book} {values : List ℤ} {L N : ℕ} {A : Arrays} {x : Memory} {o
               done = g .done ++ here ∷ [];
               stands = taken-stands;
               reached =
-                  rw (later .queue-is) at (extract-reached B values ok size L N two (g .arrays) (g .taken) (g .rest) (t .next) (g .own) (g .reached) more);
+                  rw (later .queue-is) at (extract-reached B values ok size L D two (g .arrays) (g .taken) (g .rest) (t .next) (g .own) (g .reached) more);
               known = rw (queue-first (r .queued) order′ going-some, later .queue-is) at mine-words;
               alike = subst (Alike (length (B .blocks)) (mine .state .visits)) (sym visits-is) (alike .visits);
               count = omega (arith, g .count, later .fuel-is);
@@ -283,17 +284,17 @@ module _ {B : Book} {values : List ℤ} {L N : ℕ} {A : Arrays} {x : Memory} {o
               outrun =
                   outrun-is ∙ ap₂ (λ n (z : Step). n + outrunCount z) (g .outrun) (sym (alike .step)) ∙ sym (counted outrunCount);
               next-few =
-                  omega (arith, next-is, next-most B L N two (g .arrays) (g .taken) (g .rest) (t .next) visits few, g .next-few);
+                  omega (arith, next-is, next-most B L D two (g .arrays) (g .taken) (g .rest) (t .next) visits few, g .next-few);
               crowded-few =
-                  omega (arith, crowded-is, crowded-most B L N two (g .arrays) (g .taken) (g .rest) (t .next) visits few, g .crowded-few);
+                  omega (arith, crowded-is, crowded-most B L D two (g .arrays) (g .taken) (g .rest) (t .next) visits few, g .crowded-few);
               outrun-few =
-                  omega (arith, outrun-is, outrun-most B L N two (g .arrays) (g .taken) (g .rest) (t .next) visits few, g .outrun-few);
+                  omega (arith, outrun-is, outrun-most B L D two (g .arrays) (g .taken) (g .rest) (t .next) visits few, g .outrun-few);
               visits-few = λ b.
-                  let v = visits-most B L N two (g .arrays) (g .taken) (g .rest) (t .next) visits few (length (g .done)) (g .visits-few) b in
+                  let v = visits-most B L D two (g .arrays) (g .taken) (g .rest) (t .next) visits few (length (g .done)) (g .visits-few) b in
                   omega (arith, ap (λ w. getD w b 0) visits-is);
               walks =
                   subst (λ l. Walks l path₀ blocks₀ score₀ path′ blocks′ score′) (sym steps-next)
-                  (walks-next s step-key (g .extractions ∙ sym (length-map (g .done) (stepAt B L N)))
+                  (walks-next s step-key (g .extractions ∙ sym (length-map (g .done) (stepAt B L D)))
                   (record {
                     path-long = omega (arith, long .path-long, going-fuel);
                     blocks-long = omega (arith, long .blocks-long, going-fuel);
@@ -304,12 +305,12 @@ module _ {B : Book} {values : List ℤ} {L N : ℕ} {A : Arrays} {x : Memory} {o
   -- ---- what the contract says of it
 
   -- the moment that it is at
-  pub going-moment : MomentOf B L N A (t .extractions) (momentOf (g .arrays) (g .taken) (g .rest) (t .next) (g .own))
+  pub going-moment : MomentOf B L D A (t .extractions) (momentOf (g .arrays) (g .taken) (g .rest) (t .next) (g .own))
   unfolding trace after
   going-moment = record { made = g .done; later = _; moments = g .at; extractions = g .extractions }
 
   pub going-before : Rising order (t .queued) → (most : ℕ) → t .extractions ≤ most → (t .extractions < most → g .taken .blocks ≡ length (B .blocks)) →
-      Before B L N A most x order vacant visits kept t e path₀ blocks₀ score₀ path blocks score
+      Before B L D N A most x order vacant visits kept t e path₀ blocks₀ score₀ path blocks score
   unfolding going-moment
   going-before up most l d =
       record {

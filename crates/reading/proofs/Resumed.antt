@@ -2,16 +2,18 @@
 -- that of what the reader then holds. By the law of a trace from a state on. Assumes nothing.
 use mathlib.Core.Path.{_≡_, sym, ap, _∙_, subst}
 use mathlib.Core.List.{List, [], _∷_, _++_}
-use Prim.Native.Nat.{ℕ, suc, _+_, _*_, _≤_, _<_}
+use Prim.Native.Nat.{ℕ, suc, _+_, _≤_, _<_}
 use native.Mathlib.Omega.{arith}
 use lib.IntN.{ℤ}
 use lib.ListN.{length, length-replicate}
 use Rattle.laws.specs.Lists.{All}
+use Rattle.codebook.specs.declared.Shape.{Shape}
 use Rattle.codebook.specs.Book.{Book}
 use Rattle.codebook.specs.Limits.{Valid}
 use Rattle.queue.specs.Run.{on, Trace, after, trace, mostExtractions}
 use Rattle.queue.specs.Queue.{Final, End, endIn, runIn}
 use Rattle.queue.proofs.Run.{Leads, LeftOf, trace-left}
+use Rattle.settings.specs.declared.Settings.{Settings}
 use Rattle.reader.specs.Arrays.{Arrays}
 use Rattle.reader.specs.Paths.{Path}
 use Rattle.reader.specs.Reader as R
@@ -22,7 +24,6 @@ use Rattle.reader.proofs.During.{among, during-reached}
 use Rattle.order.specs.Entries.{keyAt}
 use Rattle.standing.specs.Seen.{Memory}
 use Rattle.standing.proofs.Taken.{taken-blocks}
-use Rattle.steps.specs.declared.Setting.{Setting}
 use Rattle.steps.specs.declared.Tally.{Tally}
 use Rattle.extraction.proofs.Counts.{blocks-few}
 use Rattle.extraction.proofs.Extracts.{visit-length}
@@ -53,40 +54,39 @@ module _ (B : Book) (L D : ℕ) where
 
 -- ---- the run under way
 
-module _ {B : Book} {L N : ℕ} {A : Arrays} {most : ℕ} {x : Memory} {order vacant visits kept : List ℕ} {t : Tally} {e : ℕ} {path₀ blocks₀ score₀ path blocks score : List ℤ}
-    (g : Before B L N A most x order vacant visits kept t e path₀ blocks₀ score₀ path blocks score) where
-  pub left : LeftOf (R.nextAt B L N) (mostExtractions L (length (B .blocks))) (R.traceOf B L N A) (g .moment .made) (g .here) (g .moment .later)
+module _ {B : Book} {L D N : ℕ} {A : Arrays} {most : ℕ} {x : Memory} {order vacant visits kept : List ℕ} {t : Tally} {e : ℕ} {path₀ blocks₀ score₀ path blocks score : List ℤ}
+    (g : Before B L D N A most x order vacant visits kept t e path₀ blocks₀ score₀ path blocks score) where
+  pub left : LeftOf (R.nextAt B L D) (mostExtractions L (length (B .blocks))) (R.traceOf B L D A) (g .moment .made) (g .here) (g .moment .later)
   unfolding momentsOf R.traceOf
-  left = trace-left (R.nextAt B L N) _ _ (g .moment .made) (g .here) (g .moment .later) (g .moment .moments)
+  left = trace-left (R.nextAt B L D) _ _ (g .moment .made) (g .here) (g .moment .later) (g .moment .moments)
 
   -- its visits are those of the tables
   pub before-alike : Valid B → length visits ≡ 512 → Alike (length (B .blocks)) (g .here .state .visits) visits
   before-alike ok long =
       record {
-        long = omega (arith, among (Long B L N) (g .moment .made) (g .here) (g .moment .later) (subst (All (Long B L N)) (g .moment .moments) (visits-long B L N A)));
+        long = omega (arith, among (Long B L D) (g .moment .made) (g .here) (g .moment .later) (subst (All (Long B L D)) (g .moment .moments) (visits-long B L D A)));
         long′ = omega (arith, blocks-few B ok);
         same = λ i h. sym (g .visited i h);
       }
 
   -- the rest of the run from there
   abbrev rest : ℕ → Trace Moment (End Final)
-  rest k = trace (R.nextAt B L N) (suc (left .less)) (on (momentOf (g .here .state .arrays) (g .here .path) (g .here .state .queue) k (g .here .state .visits)))
+  rest k = trace (R.nextAt B L D) (suc (left .less)) (on (momentOf (g .here .state .arrays) (g .here .path) (g .here .state .queue) k (g .here .state .visits)))
 
-  pub before-at : momentsOf B L N A ≡ g .moment .made ++ rest (t .next) .states
+  pub before-at : momentsOf B L D A ≡ g .moment .made ++ rest (t .next) .states
   unfolding trace after
   before-at = g .moment .moments ∙ ap (λ ms. g .moment .made ++ g .here ∷ ms) (left .rest) ∙ ap (λ k. g .moment .made ++ rest k .states) (sym (g .next))
 
   -- it has the final word
-  pub before-ends : R.runOf B L N A .end ≡ endIn (rest (t .next) .end)
+  pub before-ends : R.runOf B L D A .end ≡ endIn (rest (t .next) .end)
   unfolding R.runOf runIn trace after
   before-ends = ap endIn (left .ends) ∙ ap (λ k. endIn (rest k .end)) (sym (g .next))
 
-  pub before-count : length (g .moment .made) + suc (left .less) ≡ L * length (B .blocks) + 1
-  unfolding mostExtractions
+  pub before-count : length (g .moment .made) + suc (left .less) ≡ mostExtractions L (length (B .blocks))
   before-count = sym (left .count)
 
-  abbrev pub before-going : (values : List ℤ) → Valid B → Reached B values N (g .here .state .arrays) (g .here .path ∷ g .here .state .queue) → length visits ≡ 512 →
-      Going B values L N A x order vacant visits kept t e path₀ blocks₀ score₀ path blocks score
+  abbrev pub before-going : (values : List ℤ) → Valid B → Reached B values D (g .here .state .arrays) (g .here .path ∷ g .here .state .queue) → length visits ≡ 512 →
+      Going B values L D N A x order vacant visits kept t e path₀ blocks₀ score₀ path blocks score
   before-going values ok reached long =
       let m : Moment = g .here in
       let s = m .state in
@@ -117,7 +117,7 @@ module _ {B : Book} {L N : ℕ} {A : Arrays} {most : ℕ} {x : Memory} {order va
 
   -- the same, within another bound
   pub before-most : (bound : ℕ) → t .extractions ≤ bound → (t .extractions < bound → keyAt e .blocks ≡ length (B .blocks)) →
-      Before B L N A bound x order vacant visits kept t e path₀ blocks₀ score₀ path blocks score
+      Before B L D N A bound x order vacant visits kept t e path₀ blocks₀ score₀ path blocks score
   before-most bound l d =
       record {
         here = g .here;
@@ -143,14 +143,14 @@ module _ {B : Book} {L N : ℕ} {A : Arrays} {most : ℕ} {x : Memory} {order va
 
 -- ---- on the tables
 
-module _ {s : Setting} {kinds terms heights starts : List ℕ} {biases : List ℤ} {x : Memory} {order vacant visits kept : List ℕ} {t : Tally} {e : ℕ} {path blocks score : List ℤ}
-    (c : Turning s kinds terms heights starts biases x order vacant visits kept t e path blocks score) where
+module _ {shape : Shape} {s : Settings} {N : ℕ} {kinds terms heights starts : List ℕ} {biases : List ℤ} {x : Memory} {order vacant visits kept : List ℕ} {t : Tally} {e : ℕ} {path blocks score : List ℤ}
+    (c : Turning shape s N kinds terms heights starts biases x order vacant visits kept t e path blocks score) where
   abbrev pub turning-going : 2 ≤ s .paths → length visits ≡ 512 →
-      Going (c .input .book) (c .values) (s .visits) (s .paths) (c .arrays) x order vacant visits kept t e (c .path₀) (c .blocks₀) (c .score₀) path blocks score
+      Going (c .input .book) (c .values) (s .visits) (s .paths) N (c .arrays) x order vacant visits kept t e (c .path₀) (c .blocks₀) (c .score₀) path blocks score
   turning-going two long =
       let ok = c .input .tables .booked .valid in
       before-going (c .at) (c .values) ok (during-reached ok (input-moment (c .input) (c .root) (c .at .moment)) two) long
 
   -- the path in hand has not all blocks
-  pub turning-more : keyAt e .blocks ≡ s .blocks → ⊥
+  pub turning-more : keyAt e .blocks ≡ shape .blocks → ⊥
   turning-more q = c .more (sym (taken-blocks (c .at .stands)) ∙ q ∙ sym (c .input .blocks))

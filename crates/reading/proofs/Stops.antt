@@ -3,7 +3,7 @@
 use mathlib.Core.Path.{_≡_, sym, ap, _∙_, subst}
 use mathlib.Core.List.{List, [], _∷_, _++_, map, map-append}
 use mathlib.Core.Option.{some}
-use Prim.Native.Nat.{ℕ, suc, _+_, _-_, _*_, _^_, _≤_, _<_}
+use Prim.Native.Nat.{ℕ, suc, _+_, _-_, _^_, _≤_, _<_}
 use native.Mathlib.Omega.{arith}
 use lib.IntN.{ℤ}
 use lib.ListN.{length, length-map}
@@ -12,12 +12,14 @@ use Rattle.laws.specs.Lists.{sum}
 use Rattle.laws.proofs.Lists.{length-snoc}
 use Rattle.laws.specs.Pairs.{Paired}
 use Rattle.polar.specs.Layers.{part}
+use Rattle.codebook.specs.declared.Shape.{Shape}
 use Rattle.codebook.specs.Book.{Book}
 use Rattle.codebook.specs.Limits.{Valid}
 use Rattle.codec.specs.Code.{readData}
-use Rattle.queue.specs.Run.{over, ended, trace}
+use Rattle.queue.specs.Run.{over, ended, trace, mostExtractions}
 use Rattle.queue.specs.Queue.{Step, Final, found, Run, endIn, runIn}
 use Rattle.queue.proofs.Run.{trace-over, trace-left}
+use Rattle.machine.specs.Calls.{countsOf}
 use Rattle.reader.specs.Arrays.{Arrays, sumsOf}
 use Rattle.reader.specs.Paths.{Path, scoreOf, keyOf, idsOf, viewOf}
 use Rattle.reader.specs.Fit.{Fit, FitFor}
@@ -31,7 +33,6 @@ use Rattle.standing.specs.Seen.{Memory}
 use Rattle.standing.specs.Standing.{InHand}
 use Rattle.standing.proofs.Taken.{taken-key}
 use Rattle.words.specs.declared.Block.{Block}
-use Rattle.steps.specs.declared.Setting.{Setting}
 use Rattle.steps.specs.declared.Tally.{Tally}
 use Rattle.steps.specs.Steps.{BlockIs, committed}
 use Rattle.reading.specs.declared.Ran.{Ran}
@@ -67,14 +68,14 @@ module _ (B : Book) (L D : ℕ) where
 
 -- ---- the end of a run on its tables
 
-module _ {s : Setting} {values : List ℤ} {kinds terms heights starts : List ℕ} {biases : List ℤ} (c : Running s values kinds terms heights starts biases)
-    {A : Arrays} {most : ℕ} {x : Memory} {order vacant visits kept : List ℕ} {t : Tally} {e : ℕ} {path₀ blocks₀ score₀ path blocks score : List ℤ}
-    (g : Before (c .book) (s .visits) (s .paths) A most x order vacant visits kept t e path₀ blocks₀ score₀ path blocks score) where
+module _ {shape : Shape} {values : List ℤ} {kinds terms heights starts : List ℕ} {biases : List ℤ} (c : Running shape values kinds terms heights starts biases)
+    {L D N : ℕ} {A : Arrays} {most : ℕ} {x : Memory} {order vacant visits kept : List ℕ} {t : Tally} {e : ℕ} {path₀ blocks₀ score₀ path blocks score : List ℤ}
+    (g : Before (c .book) L D N A most x order vacant visits kept t e path₀ blocks₀ score₀ path blocks score) where
   abbrev ok : Valid (c .book)
   ok = c .tables .booked .valid
 
   -- the path in hand
-  abbrev pub stop-hand : InHand (s .m) (s .paths) x e (queueOf order (t .queued)) (queueOf vacant (s .paths - (t .queued + 1)))
+  abbrev pub stop-hand : InHand (shape .m) D N x e (queueOf order (t .queued)) (queueOf vacant (D - (t .queued + 1)))
   stop-hand =
       record { book = c .book; arrays = g .here .state .arrays; taken = g .here .path; rest = g .here .state .queue; deep = c .deep; stands = g .stands }
 
@@ -83,8 +84,8 @@ module _ {s : Setting} {values : List ℤ} {kinds terms heights starts : List �
   stop-small = g .stands .queue .0 .small
 
   -- extractions still to come
-  pub stop-left : t .extractions < s .visits * s .blocks + 1
-  stop-left = omega (arith, g .few, ap (λ n. s .visits * n) (c .blocks))
+  pub stop-left : t .extractions < mostExtractions L (shape .blocks)
+  stop-left = omega (arith, g .few, ap (mostExtractions L) (c .blocks))
 
   module _ (more : t .extractions < most) where
     all : g .here .path .blocks ≡ length (c .book .blocks)
@@ -102,36 +103,36 @@ module _ {s : Setting} {values : List ℤ} {kinds terms heights starts : List �
         }
 
     abbrev whole : Run Final
-    whole = R.runOf (c .book) (s .visits) (s .paths) A
+    whole = R.runOf (c .book) L D A
 
     abbrev done : List Step
-    done = map (stepAt (c .book) (s .visits) (s .paths)) (g .moment .made)
+    done = map (stepAt (c .book) L D) (g .moment .made)
 
     last-of : (g .moment .later ≡ []) × (whole .end ≡ found (R.finalAt (c .book) (g .here)))
-    last-of = moments-last (c .book) (s .visits) (s .paths) A (g .moment .made) (g .here) (g .moment .later) (g .moment .moments) all
+    last-of = moments-last (c .book) L D A (g .moment .made) (g .here) (g .moment .later) (g .moment .moments) all
 
     last-steps : whole .steps ≡ done ++ lastStep ∷ []
     last-steps =
-        let step : Moment → Step = stepAt (c .book) (s .visits) (s .paths) in
-        run-steps-are (c .book) (s .visits) (s .paths) A ∙ ap (map step) (g .moment .moments ∙ ap (λ l. g .moment .made ++ g .here ∷ l) (last-of .0))
-        ∙ map-append step (g .moment .made) (g .here ∷ []) ∙ ap (λ y. done ++ y ∷ []) (last-step (c .book) (s .visits) (s .paths) (g .here) all)
+        let step : Moment → Step = stepAt (c .book) L D in
+        run-steps-are (c .book) L D A ∙ ap (map step) (g .moment .moments ∙ ap (λ l. g .moment .made ++ g .here ∷ l) (last-of .0))
+        ∙ map-append step (g .moment .made) (g .here ∷ []) ∙ ap (λ y. done ++ y ∷ []) (last-step (c .book) L D (g .here) all)
 
     -- the path has a last block
-    pub last-index : g .here .path .blocks ≡ suc (s .blocks - 1)
+    pub last-index : g .here .path .blocks ≡ suc (shape .blocks - 1)
     last-index = omega (arith, all, c .blocks, run-blocks c .0)
 
     -- and it is fit, as every path is when it is taken
-    pub last-fit : A .vals (s .m) 1 ≡ values → 2 ≤ s .paths → Fit (c .book) (g .here .state .arrays) (g .here .path) (s .blocks - 1)
+    pub last-fit : A .vals (shape .m) 1 ≡ values → 2 ≤ D → Fit (c .book) (g .here .state .arrays) (g .here .path) (shape .blocks - 1)
     unfolding FitFor
     last-fit root two = subst (FitFor (c .book) (g .here .state .arrays) (g .here .path)) last-index (during-fit ok (input-moment c root (g .moment)) two)
 
-    abbrev pub stop-ending : A .vals (s .m) 1 ≡ values → 2 ≤ s .paths → (last : Block) (i : ℕ) → i ≡ s .blocks - 1 → ReadAt heights starts biases i last →
-        Ending (s .m) (s .paths) x e (queueOf order (t .queued)) (queueOf vacant (s .paths - (t .queued + 1))) last
+    abbrev pub stop-ending : A .vals (shape .m) 1 ≡ values → 2 ≤ D → (last : Block) (i : ℕ) → i ≡ shape .blocks - 1 → ReadAt heights starts biases i last →
+        Ending (shape .m) D N x e (queueOf order (t .queued)) (queueOf vacant (D - (t .queued + 1))) last
     stop-ending root two last i q l =
         record {
           hand = stop-hand;
           valid = ok;
-          b = s .blocks - 1;
+          b = shape .blocks - 1;
           own =
               record {
                 blocks = last-index;
@@ -144,13 +145,13 @@ module _ {s : Setting} {values : List ℤ} {kinds terms heights starts : List �
 
     -- its walk
     pub stop-walks :
-        (s .visits * s .blocks + 1 ≤ length path₀) × (s .visits * s .blocks + 1 ≤ length blocks₀) × (s .visits * s .blocks + 1 ≤ length score₀) →
+        (mostExtractions L (shape .blocks) ≤ length path₀) × (mostExtractions L (shape .blocks) ≤ length blocks₀) × (mostExtractions L (shape .blocks) ≤ length score₀) →
         {path′ blocks′ score′ : List ℤ} → Noted (t .extractions) (keyAt e) path blocks score path′ blocks′ score′ →
         Walks (whole .steps) path₀ blocks₀ score₀ path′ blocks′ score′
     unfolding keyOf
     stop-walks long {path′} {blocks′} {score′} noted =
         subst (λ l. Walks l path₀ blocks₀ score₀ path′ blocks′ score′) (sym last-steps)
-        (walks-next lastStep (taken-key (g .stands)) (g .moment .extractions ∙ sym (length-map (g .moment .made) (stepAt (c .book) (s .visits) (s .paths))))
+        (walks-next lastStep (taken-key (g .stands)) (g .moment .extractions ∙ sym (length-map (g .moment .made) (stepAt (c .book) L D)))
         (record {
           path-long = omega (arith, long .0, stop-left);
           blocks-long = omega (arith, long .1, stop-left);
@@ -158,24 +159,22 @@ module _ {s : Setting} {values : List ℤ} {kinds terms heights starts : List �
         }) (record { path-is = g .path-is; blocks-is = g .blocks-is; score-is = g .score-is }) noted)
 
     -- what the run answers
-    pub stop-ran : (r : Ran) (bytes : List ℕ) → (r .extractions ≡ t .extractions + 1) × (r .crowded ≡ t .crowded) × (r .outrun ≡ t .outrun) →
-        (r .discrepancy ≡ g .here .path .spent + g .here .path .cost) × Id (s .paths) (r .id)
-        × (part (spot (s .m) (r .id) (s .m)) (2 ^ (s .m)) bytes ≡ sumsOf (committed stop-hand) (s .m)) → RanIs (s .m) (s .paths) whole r bytes
-    unfolding R.finalAt
-    stop-ran r bytes n w =
+    pub stop-ran : (r : Ran) (bytes : List ℕ) →
+        (r .counts ≡ record { extractions = t .extractions + 1; crowded = t .crowded; outrun = t .outrun; discrepancy = g .here .path .spent + g .here .path .cost })
+        × Id N (r .id) × (part (spot (shape .m) (r .id) (shape .m)) (2 ^ (shape .m)) bytes ≡ sumsOf (committed stop-hand) (shape .m)) → RanIs (shape .m) N whole r bytes
+    unfolding R.finalAt countsOf
+    stop-ran r bytes w =
         let B : Book = c .book in
         let p : Path = g .here .path in
         let word : List ℕ = sumsOf (R.commit B (idsOf (g .here .state .queue)) p (p .blocks) (viewOf (g .here .state .arrays) p)) (B .m) in
+        let extractions : t .extractions + 1 ≡ length (whole .steps) =
+        omega (arith, g .moment .extractions, ap length last-steps, length-snoc done lastStep, length-map (g .moment .made) (stepAt B L D)) in
+        let crowded : t .crowded ≡ sum (map crowdedCount (whole .steps)) = omega (arith, g .crowded, ap (λ l. sum (map crowdedCount l)) last-steps, sum-next crowdedCount done lastStep) in
+        let outrun : t .outrun ≡ sum (map outrunCount (whole .steps)) = omega (arith, g .outrun, ap (λ l. sum (map outrunCount l)) last-steps, sum-next outrunCount done lastStep) in
         record {
           final = record { word = word; bits = readData B word; discrepancy = p .spent + p .cost };
           ends = last-of .1;
-          extractions =
-              omega (arith, n .0, g .moment .extractions, ap length last-steps, length-snoc done lastStep, length-map (g .moment .made) (stepAt B (s .visits) (s .paths)));
-          crowded =
-              omega (arith, n .1, g .crowded, ap (λ l. sum (map crowdedCount l)) last-steps, sum-next crowdedCount done lastStep);
-          outrun =
-              omega (arith, n .2, g .outrun, ap (λ l. sum (map outrunCount l)) last-steps, sum-next outrunCount done lastStep);
-          discrepancy = w .0;
+          counts = w .0 ∙ (λ i. record { extractions = extractions i; crowded = crowded i; outrun = outrun i; discrepancy = p .spent + p .cost });
           id = w .1;
           word =
               w .2 ∙ ap (sumsOf (R.commit B (idsOf (g .here .state .queue)) p (p .blocks) (viewOf (g .here .state .arrays) p))) (sym (c .deep));

@@ -7,6 +7,7 @@ use lib.ListN.{length, getD}
 use lib.IntN.{ℤ, pos}
 use Rattle.laws.specs.Lists.{sum}
 use Rattle.codebook.specs.Book.{Book}
+use Rattle.queue.specs.Run.{mostExtractions}
 use Rattle.queue.specs.Queue.{Step}
 use Rattle.machine.specs.Calls.{walked}
 use Rattle.reader.specs.Arrays.{Arrays}
@@ -23,14 +24,14 @@ use Rattle.steps.specs.declared.Tally.{Tally}
 -- counts and the three walk buffers are those of the extractions done, and no count is beyond what so many extractions can make it. The words kept are those that a
 -- search would find, and the order's entries never fall, both of which the next extraction asks for; all else that it asks for (extraction/specs) holds at
 -- every moment of a run (reader/proofs/During).
-pub record Before (B : Book) (L D : ℕ) (A : Arrays) (most : ℕ) (x : Memory) (order vacant visits kept : List ℕ) (t : Tally) (e : ℕ)
+pub record Before (B : Book) (L D N : ℕ) (A : Arrays) (most : ℕ) (x : Memory) (order vacant visits kept : List ℕ) (t : Tally) (e : ℕ)
     (path₀ blocks₀ score₀ path blocks score : List ℤ) : Type 0 where
   pub here : Moment
   pub moment : MomentOf B L D A (t .extractions) here
   pub bound : t .extractions ≤ most
   pub stops : t .extractions < most → here .path .blocks ≡ length (B .blocks)
-  pub few : t .extractions < L * length (B .blocks) + 1
-  pub stands : Stands B D x (e ∷ queueOf order (t .queued)) (queueOf vacant (D - (t .queued + 1))) (here .state .arrays) (here .path ∷ here .state .queue)
+  pub few : t .extractions < mostExtractions L (length (B .blocks))
+  pub stands : Stands B D N x (e ∷ queueOf order (t .queued)) (queueOf vacant (D - (t .queued + 1))) (here .state .arrays) (here .path ∷ here .state .queue)
   pub next : t .next ≡ here .state .next
   pub visited : (b : ℕ) → b < length (B .blocks) → getD visits b 0 ≡ getD (here .state .visits) b 0
   pub crowded : t .crowded ≡ sum (map (λ (s : Step). length (s .crowded)) (map (stepAt B L D) (moment .made)))

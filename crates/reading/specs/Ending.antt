@@ -10,8 +10,8 @@ use Rattle.words.specs.declared.Block.{Block}
 use Rattle.steps.specs.Steps.{Last}
 
 -- a path in hand whose last block, b, is `last` and the book's last
-pub record Ending (m N : ℕ) (x : Memory) (e : ℕ) (es vs : List ℕ) (last : Block) : Type 0 where
-  pub hand : InHand m N x e es vs
+pub record Ending (m D N : ℕ) (x : Memory) (e : ℕ) (es vs : List ℕ) (last : Block) : Type 0 where
+  pub hand : InHand m D N x e es vs
   pub valid : Valid (hand .book)
   pub b : ℕ
   pub own : Last hand last b

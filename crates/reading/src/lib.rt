@@ -1,6 +1,7 @@
 // The reader's run: one extraction after another, from any contents of the workspace.
 pub mod run;
 
+use machine::Counts;
 use steps::Tally;
 
 // Where a run is before an extraction: its counts, and the entry of the path that is taken.
@@ -11,9 +12,6 @@ pub struct Stage {
 
 // What a run comes to: the counts, and the id of the root array whose sums are the final word.
 pub struct Ran {
-    pub extractions: u32,
-    pub crowded: u32,
-    pub outrun: u32,
-    pub discrepancy: u32,
+    pub counts: Counts,
     pub id: usize,
 }

@@ -10,51 +10,35 @@ use lib.ListN.{length}
 use borrow.Author.Tests.{ltb-true, ltb-false}
 use Rattle.machine.specs.declared.Decoded.{Decoded}
 use Rattle.queue.specs.Queue.{Step}
-use Rattle.machine.specs.Calls.{Input, Lent, plainCall}
-use Rattle.attempts.specs.Attempt.{fitsFor}
-use Rattle.attempts.specs.Reading.{readerRun}
-use Rattle.attempts.specs.WholeRun.{WholeRun}
+use Rattle.machine.specs.Calls.{Input, Lent, callOf, plain, unread}
+use Rattle.decoder.specs.Decodes.{Decodes}
+use Rattle.decoder.proofs.Walked.{extracted, left-long}
 use Rattle.steprecords.specs.declared.StepRecord.{StepRecord}
 use Rattle.steprecords.specs.Records.{blank, nthRecord, recordAt}
-use Rattle.screen.specs.Screen.{stepsOf, plainStep, WholeStep}
 use Rattle.steprecords.proofs.Copied.{past, record-at}
-use Rattle.screen.proofs.Extracted.{Extracted, plain-extracted, left-long}
-use Rattle.screen.proofs.Shown.{ran-steps}
+use Rattle.screen.specs.Screen.{ShowsOne}
+use Rattle.screen.proofs.Shown.{reader-steps}
 
 -- the call's answer and what it leaves
-module _ (c : Input) (l : Lent) (r : Decoded) (after : Lent) (p : r ≡ plainCall c l .answer) (q : after ≡ plainCall c l .lent) where
-  left : Extracted (stepsOf false c l) l (r .counts .extractions) after
-  left = rw (p, q) (plain-extracted c l)
+module _ (c : Input) (l : Lent) (r : Decoded) (after : Lent) (d : Decodes plain c l (unread r) after) where
+  pub step-fits : let n = r .counts .extractions in (n ≤ length (after .walkPath)) × (n ≤ length (after .walkBlocks)) × (n ≤ length (after .walkScore))
+  step-fits = left-long plain c l (unread r) after d
 
-  pub step-fits : (r .counts .extractions ≤ length (after .walkPath)) × (r .counts .extractions ≤ length (after .walkBlocks)) × (r .counts .extractions ≤ length (after .walkScore))
-  step-fits = left-long false c l (r .counts) after left
+  abbrev steps : List Step
+  steps = callOf plain c l .steps
 
   module _ (i : ℕ) (s : StepRecord) (e : s ≡ cond (ltb i (r .counts .extractions)) (recordAt (after .walkPath) (after .walkBlocks) (after .walkScore) i) blank) where
     -- the record is that of the machine's extraction i
-    stepped : s ≡ nthRecord (stepsOf false c l) i
+    stepped : s ≡ nthRecord steps i
     stepped = e ∙ go (ltb i (r .counts .extractions)) refl
       where
-        go : (b : Bool) → ltb i (r .counts .extractions) ≡ b → cond b (recordAt (after .walkPath) (after .walkBlocks) (after .walkScore) i) blank ≡ nthRecord (stepsOf false c l) i
+        go : (b : Bool) → ltb i (r .counts .extractions) ≡ b → cond b (recordAt (after .walkPath) (after .walkBlocks) (after .walkScore) i) blank ≡ nthRecord steps i
         go true t =
-            let a = left in
-            rw (a .paths, a .blocks, a .scores) (record-at (stepsOf false c l) (l .walkPath) (l .walkBlocks) (l .walkScore) i (omega (arith, ltb-true i (r .counts .extractions) t, a .counted)))
+            let a = extracted plain c l (unread r) after d in
+            rw (a .paths, a .blocks, a .scores) (record-at steps (l .walkPath) (l .walkBlocks) (l .walkScore) i (omega (arith, ltb-true i (r .counts .extractions) t, a .counted)))
         go false t =
-            let a = left in
-            past (stepsOf false c l) i (omega (arith, ltb-false i (r .counts .extractions) t, a .counted))
+            let a = extracted plain c l (unread r) after d in
+            past steps i (omega (arith, ltb-false i (r .counts .extractions) t, a .counted))
 
-    answered : record { outcome = r .outcome; counts = r .counts; step = s } ≡ plainStep c l i .answer
-    unfolding plainStep
-    answered = rw (p, stepped) refl
-
-    left-so : after ≡ plainStep c l i .lent
-    unfolding plainStep
-    left-so = q
-
-    -- demand 3
-    whole : WholeRun (fitsFor false) c l (r .counts) after → WholeStep c l i (r .counts) after s
-    unfolding WholeStep WholeRun readerRun
-    whole w B f b = let a = w B f b in (a, stepped ∙ ap (λ (steps : List Step). nthRecord steps i) (ran-steps false c l B f b ∙ sym (a .runs .steps)))
-
-    pub step-says : WholeRun (fitsFor false) c l (r .counts) after
-        → (record { outcome = r .outcome; counts = r .counts; step = s } ≡ plainStep c l i .answer) × (after ≡ plainStep c l i .lent) × WholeStep c l i (r .counts) after s
-    step-says w = (answered, left-so, whole w)
+    pub step-shows : ShowsOne c l i (record { outcome = r .outcome; counts = r .counts; step = s }) after
+    step-shows = record { decodes = d; shown = stepped; whole = λ B m. stepped ∙ ap (λ (ss : List Step). nthRecord ss i) (reader-steps plain c l B m) }

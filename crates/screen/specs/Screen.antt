@@ -1,55 +1,28 @@
 -- The screen's calls: the plain decoding call and the hook call with a slice of step records besides the walk's number buffers. Document 01: "the screen's
--- call takes the walk as a lent slice of step records". At least L x V + 1 records, else 7 in 7's place. And the plain call with one record of its walk, in
+-- call takes the walk as a lent slice of step records". With too few of them a call is refused with 7, in 7's place (machine/specs/Calls, besideOk). And the plain call with one record of its walk, in
 -- plain parameters. Assumes nothing.
 use mathlib.Core.Path.{_≡_}
-use mathlib.Core.Bool.{Bool, false, cond}
-use mathlib.Core.List.{List, []}
-use mathlib.Core.Option.{Option, none, some}
+use mathlib.Core.List.{List}
 use Prim.Native.Nat.{ℕ, _≤_}
 use lib.ListN.{length}
-use Rattle.codebook.specs.declared.Refusal.{Refusal}
-use Rattle.codebook.specs.declared.Refusal.the-variants.{Mismatch}
 use Rattle.codebook.specs.Book.{Book}
-use Rattle.codebook.specs.Loading.{Load, refused, loaded, load}
+use Rattle.codec.specs.Record.{noRecord}
+use Rattle.machine.specs.declared.Reads.{Reads}
+use Rattle.machine.specs.declared.Beside.the-variants.{Absent, Entries}
+use Rattle.machine.specs.declared.Manner.{Manner}
 use Rattle.machine.specs.declared.Counts.{Counts}
-use Rattle.machine.specs.declared.Decoded.{Decoded}
 use Rattle.machine.specs.declared.HookDecoded.{HookDecoded}
-use Rattle.queue.specs.Queue.{Step}
-use Rattle.machine.specs.Machine.{runOf}
-use Rattle.machine.specs.Calls.{Input, Lent, Called, barred, plainCall, plainRefused, hookCall, hookRefused}
-use Rattle.attempts.specs.Attempt.{fitsFor}
+use Rattle.machine.specs.Calls.{Input, Lent, readied, callOf, plain}
+use Rattle.runs.specs.Handed.{Made}
 use Rattle.attempts.specs.Reading.{readerRun}
-use Rattle.attempts.specs.WholeRun.{Agreed, WholeRun}
-use Rattle.room.specs.Room.{few}
+use Rattle.decoder.specs.Decodes.{Decodes}
 use Rattle.steprecords.specs.declared.StepRecord.{StepRecord}
 use Rattle.steprecords.specs.Records.{nthRecord, recorded}
 use Rattle.screen.specs.declared.step.StepDecoded.{StepDecoded}
 
--- ---- the records of a run
-
--- the machine's extractions with a good book, by what bars the call: none where something does
-unfoldable pub stepsUnbarred : Book → Input → Option Refusal → List Step
-stepsUnbarred B c (some r) = []
-stepsUnbarred B c none = runOf B (c .L) (c .D) (c .values) .steps
-
--- the same by what loading comes to
-unfoldable pub stepsWith : Bool → Load → Input → Lent → List Step
-stepsWith hook (refused r) c l = []
-stepsWith hook (loaded B) c l = stepsUnbarred B c (barred B c l (fitsFor hook B))
-
--- the machine's extractions in a call: none where it makes no run
-unfoldable pub stepsOf : Bool → Input → Lent → List Step
-stepsOf hook c l = stepsWith hook (load (c .book)) c l
-
--- ---- the calls
-
--- the plain call with room for so many records: 7 where they are too few, else the call
-unfoldable pub plainWithin : Input → Lent → ℕ → Called Decoded
-plainWithin c l room = cond (few c room) (plainRefused Mismatch l) (plainCall c l)
-
--- the hook call, likewise
-unfoldable pub hookWithin : Input → Lent → ℕ → Called HookDecoded
-hookWithin c l room = cond (few c room) (hookRefused Mismatch l) (hookCall c l)
+-- a call that reads r, with so many step records beside
+abbrev pub showing : Reads → ℕ → Manner
+showing r room = record { reads = r; steps = Entries room; counts = Absent; hook = Absent }
 
 -- the count of extractions is at most the room for records, and the walk's buffers hold as many entries
 unfoldable pub Fitting : Counts → ℕ → Lent → Type 0
@@ -57,34 +30,21 @@ Fitting counts room l =
     (counts .extractions ≤ room) × (counts .extractions ≤ length (l .walkPath)) × (counts .extractions ≤ length (l .walkBlocks))
     × (counts .extractions ≤ length (l .walkScore))
 
--- the records afterwards
-unfoldable pub recordsAfter : Bool → Input → Lent → List StepRecord → List StepRecord
-recordsAfter hook c l old = cond (few c (length old)) old (recorded (stepsOf hook c l) old)
-
--- Demand 3 of a call with room for so many records, as the decoding call promises it
-unfoldable pub WholeWithin : Bool → Input → Lent → ℕ → Counts → Lent → Type 0
-WholeWithin hook c l room counts after = few c room ≡ false → WholeRun (fitsFor hook) c l counts after
-
--- Demand 3 where the call makes a run: the reader's run is the machine's, the counts and the walk are the reader's (attempts/specs/WholeRun), and the records
--- are those of the reader's extractions.
-unfoldable pub WholeScreen : Bool → Input → Lent → List StepRecord → Counts → Lent → List StepRecord → Type 0
-WholeScreen hook c l old counts after steps =
-    (B : Book) → load (c .book) ≡ loaded B → barred B c l (fitsFor hook B) ≡ none → few c (length old) ≡ false
-    → Agreed B c l counts after × (steps ≡ recorded (readerRun B c l .steps) old)
+-- A call with step records, `old` before and `steps` after: it is a decoding call with so many of them beside; a record for each extraction of its run stands from entry 0 on, the rest as it was. And demand 3 of the records: where
+-- a run is made, they are those of the reader's extractions.
+pub record Shows (r : Reads) (c : Input) (l : Lent) (old : List StepRecord) (answer : HookDecoded) (after : Lent) (steps : List StepRecord) : Type 0 where
+  pub decodes : Decodes (showing r (length old)) c l answer after
+  pub shown : steps ≡ recorded (callOf (showing r (length old)) c l .steps) old
+  pub whole : (B : Book) → Made (showing r (length old)) c l B → steps ≡ recorded (readerRun B (c .settings) (readied (showing r (length old)) c) l .steps) old
 
 -- ---- the call with one record
 
--- the plain call, and the record of extraction i
-unfoldable pub plainStep : Input → Lent → ℕ → Called StepDecoded
-plainStep c l i =
-    let w = plainCall c l in
-    record {
-      answer = record { outcome = w .answer .outcome; counts = w .answer .counts; step = nthRecord (stepsOf false c l) i };
-      lent = w .lent;
-    }
+-- its answer as a decoding call's
+abbrev pub unstepped : StepDecoded → HookDecoded
+unstepped a = record { outcome = a .outcome; counts = a .counts; hook = noRecord }
 
--- Demand 3 where the call makes a run: as above, and the record is that of the reader's extraction i.
-unfoldable pub WholeStep : Input → Lent → ℕ → Counts → Lent → StepRecord → Type 0
-WholeStep c l i counts after step =
-    (B : Book) → load (c .book) ≡ loaded B → barred B c l (fitsFor false B) ≡ none
-    → Agreed B c l counts after × (step ≡ nthRecord (readerRun B c l .steps) i)
+-- the plain call, and the record of extraction i, zeros where there is none; where a run is made, that of the reader's extraction i
+pub record ShowsOne (c : Input) (l : Lent) (i : ℕ) (answer : StepDecoded) (after : Lent) : Type 0 where
+  pub decodes : Decodes plain c l (unstepped answer) after
+  pub shown : answer .step ≡ nthRecord (callOf plain c l .steps) i
+  pub whole : (B : Book) → Made plain c l B → answer .step ≡ nthRecord (readerRun B (c .settings) (readied plain c) l .steps) i

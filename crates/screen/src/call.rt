@@ -1,23 +1,20 @@
 // The screen's calls: the walk goes to the number buffers and to a lent slice of step records. Relies on within.rt and the crate steprecords; specs/Screen.antt
-// says what each call answers and leaves.
+// says what each call promises.
 use crate::within::decode_hook_within;
 use crate::within::decode_within;
 use machine::Decoded;
 use machine::HookDecoded;
+use settings::Settings;
 use steprecords::StepRecord;
 use steprecords::copy_steps;
-ghost use mathlib.Core.Path.{_≡_};
-ghost use mathlib.Core.Bool.{true, false};
-ghost use lib.ListN.{length};
-ghost use Rattle.machine.specs.Calls.{given, lent};
-ghost use Rattle.screen.specs.Screen.{plainWithin, hookWithin, recordsAfter, WholeScreen};
+ghost use Rattle.machine.specs.declared.Reads.the-variants.{Data, Record};
+ghost use Rattle.machine.specs.Calls.{given, lentBefore, lentAfter, unread};
+ghost use Rattle.screen.specs.Screen.{Shows};
 
 // The plain decoding call.
 pub fn decode_steps(
     book: &[u8],
-    visits: u32,
-    paths: u32,
-    limit: u32,
+    s: Settings,
     values: &[i16],
     word: &mut [u8],
     bits: &mut [u8],
@@ -28,19 +25,13 @@ pub fn decode_steps(
     walk_score: &mut [i32],
     steps: &mut [StepRecord],
 ) -> Decoded
-    ensures { λ r. ⌜ (let c = given (now (book .entry)) visits paths limit (now (values .entry)) in
-        let l = lent (now (word .entry)) (now (bits .entry)) (now (numbers .entry)) (now (bytes .entry)) (now («walk_path» .entry)) (now («walk_blocks» .entry)) (now («walk_score» .entry)) in
-        let after = lent (now (word .exit)) (now (bits .exit)) (now (numbers .exit)) (now (bytes .exit)) (now («walk_path» .exit)) (now («walk_blocks» .exit)) (now («walk_score» .exit)) in
-        let w = plainWithin c l (length (now (steps .entry))) in
-        (r ≡ w .answer) × (after ≡ w .lent) × (now (steps .exit) ≡ recordsAfter false c l (now (steps .entry)))
-        × WholeScreen false c l (now (steps .entry)) (r .counts) after (now (steps .exit))) ⌝ }
+    ensures { λ r. ⌜ Shows Data (given (now (book .entry)) s (now (values .entry))) (lentBefore word bits numbers bytes «walk_path» «walk_blocks» «walk_score») (now (steps .entry))
+        (unread r) (lentAfter word bits numbers bytes «walk_path» «walk_blocks» «walk_score») (now (steps .exit)) ⌝ }
 {
     let room = steps.len();
     let r = decode_within(
         book,
-        visits,
-        paths,
-        limit,
+        s,
         values,
         word,
         bits,
@@ -59,9 +50,7 @@ pub fn decode_steps(
 // The hook call.
 pub fn decode_hook_steps(
     book: &[u8],
-    visits: u32,
-    paths: u32,
-    limit: u32,
+    s: Settings,
     values: &[i16],
     word: &mut [u8],
     bits: &mut [u8],
@@ -72,19 +61,13 @@ pub fn decode_hook_steps(
     walk_score: &mut [i32],
     steps: &mut [StepRecord],
 ) -> HookDecoded
-    ensures { λ r. ⌜ (let c = given (now (book .entry)) visits paths limit (now (values .entry)) in
-        let l = lent (now (word .entry)) (now (bits .entry)) (now (numbers .entry)) (now (bytes .entry)) (now («walk_path» .entry)) (now («walk_blocks» .entry)) (now («walk_score» .entry)) in
-        let after = lent (now (word .exit)) (now (bits .exit)) (now (numbers .exit)) (now (bytes .exit)) (now («walk_path» .exit)) (now («walk_blocks» .exit)) (now («walk_score» .exit)) in
-        let w = hookWithin c l (length (now (steps .entry))) in
-        (r ≡ w .answer) × (after ≡ w .lent) × (now (steps .exit) ≡ recordsAfter true c l (now (steps .entry)))
-        × WholeScreen true c l (now (steps .entry)) (r .counts) after (now (steps .exit))) ⌝ }
+    ensures { λ r. ⌜ Shows Record (given (now (book .entry)) s (now (values .entry))) (lentBefore word bits numbers bytes «walk_path» «walk_blocks» «walk_score») (now (steps .entry))
+        r (lentAfter word bits numbers bytes «walk_path» «walk_blocks» «walk_score») (now (steps .exit)) ⌝ }
 {
     let room = steps.len();
     let r = decode_hook_within(
         book,
-        visits,
-        paths,
-        limit,
+        s,
         values,
         word,
         bits,

@@ -3,11 +3,11 @@
 use codebook::Outcome;
 use decoder::decode;
 use machine::Counts;
+use settings::Settings;
 use steprecords::StepRecord;
 use steprecords::record_at;
-ghost use mathlib.Core.Path.{_≡_};
-ghost use Rattle.machine.specs.Calls.{given, lent};
-ghost use Rattle.screen.specs.Screen.{plainStep, WholeStep};
+ghost use Rattle.machine.specs.Calls.{given, lentBefore, lentAfter};
+ghost use Rattle.screen.specs.Screen.{ShowsOne};
 
 // What the plain decoding call answers (machine's Decoded), and one record.
 pub struct StepDecoded {
@@ -19,9 +19,7 @@ pub struct StepDecoded {
 // The plain decoding call, and the record of extraction i, counted from 0: zeros where the call made no such extraction.
 pub fn decode_step(
     book: &[u8],
-    visits: u32,
-    paths: u32,
-    limit: u32,
+    s: Settings,
     values: &[i16],
     word: &mut [u8],
     bits: &mut [u8],
@@ -32,17 +30,12 @@ pub fn decode_step(
     walk_score: &mut [i32],
     i: usize,
 ) -> StepDecoded
-    ensures { λ r. ⌜ (let c = given (now (book .entry)) visits paths limit (now (values .entry)) in
-        let l = lent (now (word .entry)) (now (bits .entry)) (now (numbers .entry)) (now (bytes .entry)) (now («walk_path» .entry)) (now («walk_blocks» .entry)) (now («walk_score» .entry)) in
-        let after = lent (now (word .exit)) (now (bits .exit)) (now (numbers .exit)) (now (bytes .exit)) (now («walk_path» .exit)) (now («walk_blocks» .exit)) (now («walk_score» .exit)) in
-        let w = plainStep c l i in
-        (r ≡ w .answer) × (after ≡ w .lent) × WholeStep c l i (r .counts) after (r .step)) ⌝ }
+    ensures { λ r. ⌜ ShowsOne (given (now (book .entry)) s (now (values .entry))) (lentBefore word bits numbers bytes «walk_path» «walk_blocks» «walk_score») i
+        r (lentAfter word bits numbers bytes «walk_path» «walk_blocks» «walk_score») ⌝ }
 {
     let r = decode(
         book,
-        visits,
-        paths,
-        limit,
+        s,
         values,
         word,
         bits,

@@ -1,37 +1,20 @@
-// The decoding calls with room for so many step records: 7 in 7's place where they are too few. Relies on the crates codebook, codec, room and decoder.
-use codebook::Outcome;
-use codebook::Refusal;
-use codec::HookRecord;
-use codec::Status;
-use decoder::decode;
-use decoder::decode_hook;
-use machine::Counts;
+// The decoding calls with room for so many step records: 7 in 7's place where they are too few. Relies on the crate decoder.
+use decoder::decode_in;
+use machine::Beside;
 use machine::Decoded;
 use machine::HookDecoded;
-use room::few;
-ghost use mathlib.Core.Path.{_≡_};
-ghost use mathlib.Core.Bool.{true, false};
-ghost use Rattle.machine.specs.Calls.{given, lent, noCounts};
-ghost use Rattle.screen.specs.Screen.{plainWithin, hookWithin, Fitting, WholeWithin};
-
-// The counts of a call that makes no run.
-fn no_counts() -> Counts
-    ensures { λ r. ⌜ r ≡ noCounts ⌝ }
-{
-    Counts {
-        extractions: 0,
-        crowded: 0,
-        outrun: 0,
-        discrepancy: 0,
-    }
-}
+use machine::Manner;
+use machine::Reads;
+use settings::Settings;
+ghost use Rattle.machine.specs.declared.Reads.the-variants.{Data, Record};
+ghost use Rattle.machine.specs.Calls.{given, lentBefore, lentAfter, unread};
+ghost use Rattle.decoder.specs.Decodes.{Decodes};
+ghost use Rattle.screen.specs.Screen.{showing, Fitting};
 
 // The plain call; its count of extractions is at most the room.
 pub fn decode_within(
     book: &[u8],
-    visits: u32,
-    paths: u32,
-    limit: u32,
+    s: Settings,
     values: &[i16],
     word: &mut [u8],
     bits: &mut [u8],
@@ -42,23 +25,20 @@ pub fn decode_within(
     walk_score: &mut [i32],
     room: usize,
 ) -> Decoded
-    ensures { λ r. ⌜ (let c = given (now (book .entry)) visits paths limit (now (values .entry)) in
-        let l = lent (now (word .entry)) (now (bits .entry)) (now (numbers .entry)) (now (bytes .entry)) (now («walk_path» .entry)) (now («walk_blocks» .entry)) (now («walk_score» .entry)) in
-        let after = lent (now (word .exit)) (now (bits .exit)) (now (numbers .exit)) (now (bytes .exit)) (now («walk_path» .exit)) (now («walk_blocks» .exit)) (now («walk_score» .exit)) in
-        let w = plainWithin c l room in
-        (r ≡ w .answer) × (after ≡ w .lent) × Fitting (r .counts) room after × WholeWithin false c l room (r .counts) after) ⌝ }
+    ensures { λ r. ⌜ (let after = lentAfter word bits numbers bytes «walk_path» «walk_blocks» «walk_score» in
+        Decodes (showing Data room) (given (now (book .entry)) s (now (values .entry))) (lentBefore word bits numbers bytes «walk_path» «walk_blocks» «walk_score») (unread r) after
+        × Fitting (r .counts) room after) ⌝ }
 {
-    if few(book, visits, paths, limit, room) {
-        return Decoded {
-            outcome: Outcome::Refused(Refusal::Mismatch),
-            counts: no_counts(),
-        };
-    }
-    decode(
+    let k = Manner {
+        reads: Reads::Data,
+        steps: Beside::Entries(room),
+        counts: Beside::Absent,
+        hook: Beside::Absent,
+    };
+    let x = decode_in(
+        k,
         book,
-        visits,
-        paths,
-        limit,
+        s,
         values,
         word,
         bits,
@@ -67,15 +47,16 @@ pub fn decode_within(
         walk_path,
         walk_blocks,
         walk_score,
-    )
+    );
+    let outcome = x.outcome;
+    let counts = x.counts;
+    Decoded { outcome, counts }
 }
 
 // The hook call, likewise.
 pub fn decode_hook_within(
     book: &[u8],
-    visits: u32,
-    paths: u32,
-    limit: u32,
+    s: Settings,
     values: &[i16],
     word: &mut [u8],
     bits: &mut [u8],
@@ -86,29 +67,20 @@ pub fn decode_hook_within(
     walk_score: &mut [i32],
     room: usize,
 ) -> HookDecoded
-    ensures { λ r. ⌜ (let c = given (now (book .entry)) visits paths limit (now (values .entry)) in
-        let l = lent (now (word .entry)) (now (bits .entry)) (now (numbers .entry)) (now (bytes .entry)) (now («walk_path» .entry)) (now («walk_blocks» .entry)) (now («walk_score» .entry)) in
-        let after = lent (now (word .exit)) (now (bits .exit)) (now (numbers .exit)) (now (bytes .exit)) (now («walk_path» .exit)) (now («walk_blocks» .exit)) (now («walk_score» .exit)) in
-        let w = hookWithin c l room in
-        (r ≡ w .answer) × (after ≡ w .lent) × Fitting (r .counts) room after × WholeWithin true c l room (r .counts) after) ⌝ }
+    ensures { λ r. ⌜ (let after = lentAfter word bits numbers bytes «walk_path» «walk_blocks» «walk_score» in
+        Decodes (showing Record room) (given (now (book .entry)) s (now (values .entry))) (lentBefore word bits numbers bytes «walk_path» «walk_blocks» «walk_score») r after
+        × Fitting (r .counts) room after) ⌝ }
 {
-    if few(book, visits, paths, limit, room) {
-        return HookDecoded {
-            outcome: Outcome::Refused(Refusal::Mismatch),
-            counts: no_counts(),
-            hook: HookRecord {
-                plant: 0,
-                carcass: 0,
-                side: 0,
-                status: Status::Passed,
-            },
-        };
-    }
-    decode_hook(
+    let k = Manner {
+        reads: Reads::Record,
+        steps: Beside::Entries(room),
+        counts: Beside::Absent,
+        hook: Beside::Absent,
+    };
+    decode_in(
+        k,
         book,
-        visits,
-        paths,
-        limit,
+        s,
         values,
         word,
         bits,

@@ -1,10 +1,10 @@
 // The nearest word of a block, and the next after one: the least key, cost before number, among all settings. A block of 8 positions with all indices
 // free has a search of its own, and this or a single parity check (all free but the first) a pair of its own; all else goes by the pass. Relies on the
-// crates tables, passes and short; outer/specs/Words.antt says what the words are, outer/specs/Search.antt what a key is.
+// crates tables, passes, short and numerals; outer/specs/Words.antt says what the words are, outer/specs/Search.antt what a key is.
 ghost use mathlib.Core.Path.{_≡_};
 ghost use mathlib.Core.Bool.{true};
 ghost use mathlib.Core.Option.{some};
-ghost use Prim.Native.Nat.{ℕ, _+_, _^_, _≤_, _<_};
+ghost use Prim.Native.Nat.{ℕ, _+_, _^_, _<_};
 ghost use lib.ListN.{length};
 ghost use Rattle.polar.specs.Layers.{part};
 ghost use Rattle.codebook.specs.Book.{Book};
@@ -12,6 +12,7 @@ ghost use Rattle.codec.specs.Ties.{Parities};
 ghost use Rattle.outer.specs.Search.{keyOf, found, foundPair, Scratch, Searchable};
 ghost use Rattle.outer.specs.Words.{Word, nearest, nextAfter};
 ghost use Rattle.outer.specs.Blocks.{paritySet, Bits, BlockTabled, candidateOf, Nexts};
+use numerals::power;
 use outer::Next;
 use outer::Pair;
 use passes::least_two::key;
@@ -20,14 +21,6 @@ use short::bytes::search_bytes;
 use short::flips::pair_checked;
 use short::flips::pair_free;
 use tables::settings::walk;
-
-// 2 to the power j.
-fn power(j: u32) -> usize
-    requires { ⌜ j ≤ 8 ⌝ }
-    ensures { λ r. ⌜ r ≡ 2 ^ j ⌝ }
-{
-    1 << j
-}
 
 // The least bound above the key of a cost and a number.
 fn after(cost: u32, number: u32) -> u64
@@ -57,7 +50,7 @@ fn search(
     ensures { λ r. ⌜ (let from = found (now (kinds .entry)) (now (terms .entry)) start parities (2 ^ j) (part at (2 ^ j) (now (numbers .entry))) in
         (r .first ≡ from bound) × (r .known ≡ true → r .first .some ≡ true → r .second ≡ from (keyOf (r .first .cost) (r .first .number) + 1))) ⌝ }
 {
-    let n = power(j);
+    let n = power(j as usize);
     let mut steps: [u32; 9] = [0; 9];
     let mut ties: [u32; 9] = [0; 9];
     let free = walk(kinds, terms, start, n, parities, &mut steps, &mut ties);
@@ -98,7 +91,7 @@ fn search_pair(
     ensures { λ _. ⌜ (length (now (words .exit)) ≡ 256) × (length (now (sums .exit)) ≡ 128) ⌝ }
     ensures { λ r. ⌜ r ≡ foundPair (now (kinds .entry)) (now (terms .entry)) start parities (2 ^ j) (part at (2 ^ j) (now (numbers .entry))) ⌝ }
 {
-    let n = power(j);
+    let n = power(j as usize);
     let mut steps: [u32; 9] = [0; 9];
     let mut ties: [u32; 9] = [0; 9];
     let free = walk(kinds, terms, start, n, parities, &mut steps, &mut ties);

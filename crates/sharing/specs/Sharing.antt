@@ -32,15 +32,15 @@ pub record Held (holders : List ℕ) : Type 0 where
   pub size : length holders ≡ 2580
   pub below : (h k : ℕ) → h ≤ 9 → 1 ≤ k → k ≤ 256 → k < lowAt holders h → 1 ≤ heldAt holders h k
 
--- the table of rows has one for each of the first N slots
+-- the table of rows has one for each of the first D slots
 abbrev pub Rows : ℕ → List ℕ → Type 0
-Rows N rows = N * 16 ≤ length rows
+Rows D rows = D * 16 ≤ length rows
 
 -- it has one for slot s, which is one of the 256 that there may be
 abbrev pub HasRow : ℕ → List ℕ → Type 0
 HasRow s rows = (s < 256) × (s * 16 + 16 ≤ length rows)
 
--- a path holds id i at height h, other paths hold these, the holders of the ids up to N are counted, and N are more than the others
+-- a path holds id i at height h, other paths hold these, the holders of the N arrays are counted, and the arrays are more than the other paths
 pub record Shared (holders : List ℕ) (h N i : ℕ) : Type 0 where
   pub others : List ℕ
   pub low : i ≤ N

@@ -31,37 +31,37 @@ fn vacancies(holders: &[u16; 2580], at: usize) -> u32
     set
 }
 
-// A number from 1 to most + 1 that no id from 1 on lies below, unless it lies below `low` too.
-fn capped(low: u16, most: usize) -> usize
-    requires { ⌜ most ≤ 256 ⌝ }
-    ensures { λ r. ⌜ (1 ≤ r) × (r ≤ most + 1) × ((k : ℕ) → 1 ≤ k → k < r → k < low) ⌝ }
+// A number from 1 to `arrays` + 1 that no id from 1 on lies below, unless it lies below `low` too.
+fn capped(low: u16, arrays: usize) -> usize
+    requires { ⌜ arrays ≤ 256 ⌝ }
+    ensures { λ r. ⌜ (1 ≤ r) × (r ≤ arrays + 1) × ((k : ℕ) → 1 ≤ k → k < r → k < low) ⌝ }
 {
     let from = low as usize;
     if from == 0 {
         return 1;
     }
-    if most < from {
-        return most + 1;
+    if arrays < from {
+        return arrays + 1;
     }
     from
 }
 
 // Where the search for a free id begins: no id from 1 on and below it is free.
-fn lowest(holders: &[u16; 2580], height: usize, most: usize) -> usize
-    requires { ⌜ Held (now holders) × (height ≤ 9) × (most ≤ 256) ⌝ }
-    ensures { λ r. ⌜ (1 ≤ r) × (r ≤ most + 1) × ((k : ℕ) → 1 ≤ k → k < r → 1 ≤ heldAt (now (holders .entry)) height k) ⌝ }
+fn lowest(holders: &[u16; 2580], height: usize, arrays: usize) -> usize
+    requires { ⌜ Held (now holders) × (height ≤ 9) × (arrays ≤ 256) ⌝ }
+    ensures { λ r. ⌜ (1 ≤ r) × (r ≤ arrays + 1) × ((k : ℕ) → 1 ≤ k → k < r → 1 ≤ heldAt (now (holders .entry)) height k) ⌝ }
 {
-    capped(holders[2570 + height], most)
+    capped(holders[2570 + height], arrays)
 }
 
 // Looks for a free id in groups of 16, from `low` on: the first that is free, or the first of the fewer than 16 left. No id below it is free.
-fn skip(holders: &[u16; 2580], height: usize, most: usize, low: usize) -> usize
-    requires { ⌜ (height ≤ 9) × (most ≤ 256) ⌝ }
-    requires { ⌜ (1 ≤ low) × (low ≤ most + 1) × ((k : ℕ) → 1 ≤ k → k < low → 1 ≤ heldAt (now holders) height k) ⌝ }
-    ensures { λ r. ⌜ (1 ≤ r) × (r ≤ most + 1) × ((k : ℕ) → 1 ≤ k → k < r → 1 ≤ heldAt (now (holders .entry)) height k) ⌝ }
+fn skip(holders: &[u16; 2580], height: usize, arrays: usize, low: usize) -> usize
+    requires { ⌜ (height ≤ 9) × (arrays ≤ 256) ⌝ }
+    requires { ⌜ (1 ≤ low) × (low ≤ arrays + 1) × ((k : ℕ) → 1 ≤ k → k < low → 1 ≤ heldAt (now holders) height k) ⌝ }
+    ensures { λ r. ⌜ (1 ≤ r) × (r ≤ arrays + 1) × ((k : ℕ) → 1 ≤ k → k < r → 1 ≤ heldAt (now (holders .entry)) height k) ⌝ }
 {
     let mut id = low;
-    while id + 15 <= most {
+    while id + 15 <= arrays {
         let set = vacancies(holders, height * 257 + id);
         if set != 0 {
             return id + u32::trailing_zeros(set) as usize;
@@ -71,16 +71,16 @@ fn skip(holders: &[u16; 2580], height: usize, most: usize, low: usize) -> usize
     id
 }
 
-// The first free id from `low` on, below which none is free; most + 1 if none of the first `most` is.
-fn find_from(holders: &[u16; 2580], height: usize, most: usize, low: usize) -> usize
-    requires { ⌜ (height ≤ 9) × (most ≤ 256) ⌝ }
-    requires { ⌜ (1 ≤ low) × (low ≤ most + 1) × ((k : ℕ) → 1 ≤ k → k < low → 1 ≤ heldAt (now holders) height k) ⌝ }
-    ensures { λ r. ⌜ (1 ≤ r) × (r ≤ most + 1)
+// The first free id from `low` on, below which none is free; `arrays` + 1 if none up to `arrays` is.
+fn find_from(holders: &[u16; 2580], height: usize, arrays: usize, low: usize) -> usize
+    requires { ⌜ (height ≤ 9) × (arrays ≤ 256) ⌝ }
+    requires { ⌜ (1 ≤ low) × (low ≤ arrays + 1) × ((k : ℕ) → 1 ≤ k → k < low → 1 ≤ heldAt (now holders) height k) ⌝ }
+    ensures { λ r. ⌜ (1 ≤ r) × (r ≤ arrays + 1)
         × ((k : ℕ) → 1 ≤ k → k < r → 1 ≤ heldAt (now (holders .entry)) height k)
-        × (r ≤ most → heldAt (now (holders .entry)) height r ≡ 0) ⌝ }
+        × (r ≤ arrays → heldAt (now (holders .entry)) height r ≡ 0) ⌝ }
 {
-    let mut id = skip(holders, height, most, low);
-    while id <= most {
+    let mut id = skip(holders, height, arrays, low);
+    while id <= arrays {
         if holders[height * 257 + id] == 0 {
             return id;
         }
@@ -89,19 +89,19 @@ fn find_from(holders: &[u16; 2580], height: usize, most: usize, low: usize) -> u
     id
 }
 
-// The first id from 1 on that no path holds at a height; most + 1 if none of the first `most` is free.
-fn first_free(holders: &[u16; 2580], height: usize, most: usize) -> usize
-    requires { ⌜ Held (now holders) × (height ≤ 9) × (most ≤ 256) ⌝ }
-    ensures { λ r. ⌜ (1 ≤ r) × (r ≤ most + 1)
+// The first id from 1 on that no path holds at a height; `arrays` + 1 if none up to `arrays` is free.
+fn first_free(holders: &[u16; 2580], height: usize, arrays: usize) -> usize
+    requires { ⌜ Held (now holders) × (height ≤ 9) × (arrays ≤ 256) ⌝ }
+    ensures { λ r. ⌜ (1 ≤ r) × (r ≤ arrays + 1)
         × ((k : ℕ) → 1 ≤ k → k < r → 1 ≤ heldAt (now (holders .entry)) height k)
-        × (r ≤ most → heldAt (now (holders .entry)) height r ≡ 0) ⌝ }
+        × (r ≤ arrays → heldAt (now (holders .entry)) height r ≡ 0) ⌝ }
 {
-    let low = lowest(holders, height, most);
+    let low = lowest(holders, height, arrays);
     // mostly this one is free
     if holders[height * 257 + low] == 0 {
         return low;
     }
-    find_from(holders, height, most, low)
+    find_from(holders, height, arrays, low)
 }
 
 // Whether a path that holds an id may write to it: it is some array, and no other path holds it.
@@ -117,14 +117,14 @@ pub fn take(
     holders: &mut [u16; 2580],
     slot: usize,
     height: usize,
-    most: usize,
+    arrays: usize,
 ) -> usize
-    requires { ⌜ Held (now holders) × HasRow slot (now rows) × (height ≤ 9) × (most ≤ 256) ⌝ }
-    requires { ⌜ Shared (now holders) height most (idAt (now rows) slot height) ⌝ }
-    ensures { λ r. ⌜ Held (now (holders .exit)) × (1 ≤ r) × (r ≤ most) ⌝ }
+    requires { ⌜ Held (now holders) × HasRow slot (now rows) × (height ≤ 9) × (arrays ≤ 256) ⌝ }
+    requires { ⌜ Shared (now holders) height arrays (idAt (now rows) slot height) ⌝ }
+    ensures { λ r. ⌜ Held (now (holders .exit)) × (1 ≤ r) × (r ≤ arrays) ⌝ }
     ensures { λ r. ⌜ now (rows .exit) ≡ set (now (rows .entry)) (slot * 16 + height) r ⌝ }
     ensures { λ r. ⌜ Exchanged height (idAt (now (rows .entry)) slot height) r (now (holders .entry)) (now (holders .exit)) ⌝ }
-    ensures { λ r. ⌜ ((x : Shared (now (holders .entry)) height most (idAt (now (rows .entry)) slot height))
+    ensures { λ r. ⌜ ((x : Shared (now (holders .entry)) height arrays (idAt (now (rows .entry)) slot height))
         → r ≡ ownOf (idAt (now (rows .entry)) slot height) (x .others)) ⌝ }
 {
     let at = slot * 16 + height;
@@ -133,7 +133,7 @@ pub fn take(
     if alone(id, held) {
         return id;
     }
-    let free = first_free(holders, height, most);
+    let free = first_free(holders, height, arrays);
     holders[height * 257 + id] = held - 1;
     holders[height * 257 + free] = 1;
     holders[2570 + height] = (free + 1) as u16;

@@ -1,3 +1,4 @@
+pub mod Cells
 pub mod Slots
 pub mod Rows
 pub mod Sizes

@@ -42,24 +42,24 @@ queued : (B : Book) (rows : List ℕ) (e : ℕ) (es : List ℕ) (p : Path) (ps :
     Paired (EntryOf B rows) (insert keyAt e es) (insert (keyOf B) p ps)
 queued B rows e es p ps h k = insert-paired keyAt (keyOf B) (EntryOf B rows) (λ d q r. r .key) e p es ps h k
 
--- each id of a path is one of the N, or none
+-- each id of a path is one of the N arrays, or none
 abbrev Low : Book → ℕ → Path → Type 0
 Low B N p = (h : ℕ) → h ≤ B .m → p .ids h ≤ N
 
--- the slot of an entry is one of the first N
+-- the slot of an entry is one of the first D
 abbrev Placed : ℕ → ℕ → Type 0
-Placed N e = slotAt e < N
+Placed D e = slotAt e < D
 
-module _ {B : Book} {N : ℕ} {x : Memory} {vs : List ℕ} {A : Arrays} where
+module _ {B : Book} {D N : ℕ} {x : Memory} {vs : List ℕ} {A : Arrays} where
   -- the path in hand
-  pub stands-insert : {e : ℕ} {es : List ℕ} {p : Path} {ps : List Path} → Stands B N x (e ∷ es) vs A (p ∷ ps) →
-      Stands B N x (insert keyAt e es) vs A (insert (keyOf B) p ps)
+  pub stands-insert : {e : ℕ} {es : List ℕ} {p : Path} {ps : List Path} → Stands B D N x (e ∷ es) vs A (p ∷ ps) →
+      Stands B D N x (insert keyAt e es) vs A (insert (keyOf B) p ps)
   unfolding Paired All
   stands-insert {e} {es} {p} {ps} st =
       record {
         queue = queued B (x .rows) e es p ps (st .queue .0) (st .queue .1);
         apart = distinct-insert keyAt slotAt e es vs (st .apart);
-        slots = all-insert keyAt (Placed N) e es (st .slots .0) (st .slots .1);
+        slots = all-insert keyAt (Placed D) e es (st .slots .0) (st .slots .1);
         vacant = st .vacant;
         full = omega (arith, insert-length keyAt e es);
         counted = counted-insert (B .m) N (x .holders) (keyOf B) (λ (o : Path). o .ids) p ps (st .counted);
@@ -69,8 +69,8 @@ module _ {B : Book} {N : ℕ} {x : Memory} {vs : List ℕ} {A : Arrays} where
       }
 
   -- the path before that in hand
-  pub stands-insert-second : {d e : ℕ} {es : List ℕ} {q p : Path} {ps : List Path} → Stands B N x (d ∷ e ∷ es) vs A (q ∷ p ∷ ps) →
-      Stands B N x (e ∷ insert keyAt d es) vs A (p ∷ insert (keyOf B) q ps)
+  pub stands-insert-second : {d e : ℕ} {es : List ℕ} {q p : Path} {ps : List Path} → Stands B D N x (d ∷ e ∷ es) vs A (q ∷ p ∷ ps) →
+      Stands B D N x (e ∷ insert keyAt d es) vs A (p ∷ insert (keyOf B) q ps)
   unfolding Paired All Distinct Counted
   stands-insert-second {d} {e} {es} {q} {p} {ps} st =
       let slots : List ℕ = map slotAt es ++ vs in
@@ -81,7 +81,7 @@ module _ {B : Book} {N : ℕ} {x : Memory} {vs : List ℕ} {A : Arrays} where
           all-inserted keyAt slotAt d (λ (s : ℕ). slotAt e ≢ s) es vs (apart .0 .0) (apart .0 .1),
           distinct-insert keyAt slotAt d es vs (apart .1),
         );
-        slots = (st .slots .1 .0, all-insert keyAt (Placed N) d es (st .slots .0) (st .slots .1 .1));
+        slots = (st .slots .1 .0, all-insert keyAt (Placed D) d es (st .slots .0) (st .slots .1 .1));
         vacant = st .vacant;
         full = omega (arith, insert-length keyAt d es);
         counted = λ h i l k. st .counted h i l k ∙ times-second (keyOf B) (λ (o : Path). o .ids) i h q p ps;
@@ -102,8 +102,8 @@ paired-forward R (a ∷ xs) x zs (b ∷ ys) y ws l h =
     let k : Paired R (x ∷ xs ++ zs) (y ∷ ys ++ ws) = paired-forward R xs x zs ys y ws (omega arith) (h .1) in
     (k .0, (h .0, k .1))
 
-module _ {B : Book} {N : ℕ} {x : Memory} {vs : List ℕ} {A : Arrays} (xs : List ℕ) (e : ℕ) (es : List ℕ) (qs : List Path) (p : Path) (ps : List Path) where
-  pub stands-forward : length xs ≡ length qs → Stands B N x (xs ++ e ∷ es) vs A (qs ++ p ∷ ps) → Stands B N x (e ∷ xs ++ es) vs A (p ∷ qs ++ ps)
+module _ {B : Book} {D N : ℕ} {x : Memory} {vs : List ℕ} {A : Arrays} (xs : List ℕ) (e : ℕ) (es : List ℕ) (qs : List Path) (p : Path) (ps : List Path) where
+  pub stands-forward : length xs ≡ length qs → Stands B D N x (xs ++ e ∷ es) vs A (qs ++ p ∷ ps) → Stands B D N x (e ∷ xs ++ es) vs A (p ∷ qs ++ ps)
   stands-forward l st =
       let slots : Distinct (map slotAt xs ++ slotAt e ∷ (map slotAt es ++ vs)) =
       rw (map-append slotAt xs (e ∷ es), append-assoc (map slotAt xs) (slotAt e ∷ map slotAt es) vs) at (st .apart) in
@@ -111,7 +111,7 @@ module _ {B : Book} {N : ℕ} {x : Memory} {vs : List ℕ} {A : Arrays} (xs : Li
       record {
         queue = paired-forward (EntryOf B (x .rows)) xs e es qs p ps l (st .queue);
         apart = rw (map-append slotAt xs es, append-assoc (map slotAt xs) (map slotAt es) vs) (distinct-forward (map slotAt xs) (slotAt e) (map slotAt es ++ vs) slots);
-        slots = all-forward (Placed N) xs e es (st .slots);
+        slots = all-forward (Placed D) xs e es (st .slots);
         vacant = st .vacant;
         full = omega (arith, length-append xs (e ∷ es), length-append xs es);
         counted = rw (map-append (λ (o : Path). o .ids) qs ps) (counted-forward (B .m) N (x .holders) (idsOf qs) (p .ids) (idsOf ps) ids);

@@ -14,7 +14,7 @@ use Rattle.reader.specs.Paths.{Path}
 use Rattle.order.specs.Entries.{slotAt}
 use Rattle.sharing.specs.Sharing.{idAt, HasIds, Copied}
 use Rattle.standing.specs.Seen.{IdsOnly}
-use Rattle.standing.specs.Standing.{cell, Row, EntryOf, PutRow, Made}
+use Rattle.standing.specs.Standing.{cell, spentAt, costAt, wordAt, earlierAt, paritiesAt, Row, EntryOf, PutRow, Made}
 
 -- ---- the other slots
 
@@ -51,11 +51,11 @@ module _ (B : Book) (deep : B .m ≤ 9) (s : ℕ) (old new : List ℕ) (same : O
   row-other t p n r =
       record {
         ids = λ h l. same t h n (omega arith) ∙ r .ids h l;
-        spent = same t 10 n (omega arith) ∙ r .spent;
-        cost = same t 11 n (omega arith) ∙ r .cost;
-        word = λ b e. same t 12 n (omega arith) ∙ r .word b e;
-        earlier = same t 13 n (omega arith) ∙ r .earlier;
-        parities = same t 14 n (omega arith) ∙ r .parities;
+        spent = same t spentAt n (omega arith) ∙ r .spent;
+        cost = same t costAt n (omega arith) ∙ r .cost;
+        word = λ b e. same t wordAt n (omega arith) ∙ r .word b e;
+        earlier = same t earlierAt n (omega arith) ∙ r .earlier;
+        parities = same t paritiesAt n (omega arith) ∙ r .parities;
       }
 
   pub queue-other : (es : List ℕ) (ps : List Path) → All (λ (t : ℕ). s ≢ t) (map slotAt es) → Paired (EntryOf B old) es ps → Paired (EntryOf B new) es ps

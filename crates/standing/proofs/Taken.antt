@@ -11,7 +11,7 @@ use Rattle.order.specs.Entries.{keyAt, slotAt}
 use Rattle.standing.specs.Seen.{Memory}
 use Rattle.standing.specs.Standing.{Row, Stands}
 
-module _ {B : Book} {N : ℕ} {x : Memory} {e : ℕ} {es vs : List ℕ} {A : Arrays} {p : Path} {ps : List Path} (st : Stands B N x (e ∷ es) vs A (p ∷ ps)) where
+module _ {B : Book} {D N : ℕ} {x : Memory} {e : ℕ} {es vs : List ℕ} {A : Arrays} {p : Path} {ps : List Path} (st : Stands B D N x (e ∷ es) vs A (p ∷ ps)) where
   pub taken-row : Row B (x .rows) (slotAt e) p
   unfolding Paired
   taken-row = st .queue .0 .row

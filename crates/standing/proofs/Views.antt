@@ -13,16 +13,16 @@ use Rattle.codebook.specs.Book.{Book}
 use Rattle.reader.specs.Arrays.{Arrays, View}
 use Rattle.reader.specs.Paths.{Path, scoreOf, keyOf, lastWord, idsOf, viewOf}
 use Rattle.order.specs.Entries.{slotAt}
-use Rattle.standing.specs.Seen.{Memory, Seen, IdsOnly}
-use Rattle.standing.specs.Standing.{cell, EntryOf, Stands, withIds}
+use Rattle.standing.specs.Seen.{Memory, Enough, Seen, IdsOnly}
+use Rattle.standing.specs.Standing.{cell, spentAt, costAt, wordAt, earlierAt, paritiesAt, EntryOf, Stands, withIds}
 use Rattle.standing.proofs.Rows.{ids-others, queue-other}
 use Rattle.standing.proofs.Sizes.{stands-room}
 
-module _ {B : Book} {N : ℕ} {x : Memory} {e : ℕ} {es vs : List ℕ} {A : Arrays} {p : Path} {ps : List Path} (st : Stands B N x (e ∷ es) vs A (p ∷ ps)) where
-  -- what the path in hand sees
-  pub stands-seen : Seen (B .m) N (slotAt e) x (idsOf ps) (viewOf A p)
+module _ {B : Book} {D N : ℕ} {x : Memory} {e : ℕ} {es vs : List ℕ} {A : Arrays} {p : Path} {ps : List Path} (st : Stands B D N x (e ∷ es) vs A (p ∷ ps)) where
+  -- what the path in hand sees, where the arrays are enough
+  pub stands-seen : Enough D N → Seen (B .m) N (slotAt e) x (idsOf ps) (viewOf A p)
   unfolding Paired All
-  stands-seen =
+  stands-seen enough =
       record {
         ids = st .queue .0 .row .ids;
         low = st .housed .0;
@@ -42,10 +42,10 @@ key-ids : (B : Book) (p : Path) (ids : ℕ → ℕ) → keyOf B p ≡ keyOf B (w
 unfolding keyOf withIds
 key-ids B p ids = λ i. record { score = score-ids B p ids (p .blocks) i; blocks = p .blocks; number = p .number }
 
-module _ {B : Book} {N : ℕ} {x y : Memory} {e : ℕ} {es vs : List ℕ} {A : Arrays} {p : Path} {ps : List Path} {w : View} where
+module _ {B : Book} {D N : ℕ} {x y : Memory} {e : ℕ} {es vs : List ℕ} {A : Arrays} {p : Path} {ps : List Path} {w : View} where
   -- what it sees after a step that changed no more than its ids and its arrays
-  pub stands-view : Stands B N x (e ∷ es) vs A (p ∷ ps) → B .m ≤ 9 → Seen (B .m) N (slotAt e) y (idsOf ps) w →
-      IdsOnly (B .m) (slotAt e) (x .rows) (y .rows) → Stands B N y (e ∷ es) vs (w .arrays) (withIds p (w .ids) ∷ ps)
+  pub stands-view : Stands B D N x (e ∷ es) vs A (p ∷ ps) → B .m ≤ 9 → Seen (B .m) N (slotAt e) y (idsOf ps) w →
+      IdsOnly (B .m) (slotAt e) (x .rows) (y .rows) → Stands B D N y (e ∷ es) vs (w .arrays) (withIds p (w .ids) ∷ ps)
   unfolding Paired All Distinct withIds cell lastWord
   stands-view st deep see only =
       let s : ℕ = slotAt e in
@@ -55,11 +55,11 @@ module _ {B : Book} {N : ℕ} {x y : Memory} {e : ℕ} {es vs : List ℕ} {A : A
         small = old .small;
         row = record {
           ids = see .ids;
-          spent = only .after (s * 16 + 10) (omega arith) ∙ old .row .spent;
-          cost = only .after (s * 16 + 11) (omega arith) ∙ old .row .cost;
-          word = λ b q. only .after (s * 16 + 12) (omega arith) ∙ old .row .word b q;
-          earlier = only .after (s * 16 + 13) (omega arith) ∙ old .row .earlier;
-          parities = only .after (s * 16 + 14) (omega arith) ∙ old .row .parities;
+          spent = only .after (s * 16 + spentAt) (omega arith) ∙ old .row .spent;
+          cost = only .after (s * 16 + costAt) (omega arith) ∙ old .row .cost;
+          word = λ b q. only .after (s * 16 + wordAt) (omega arith) ∙ old .row .word b q;
+          earlier = only .after (s * 16 + earlierAt) (omega arith) ∙ old .row .earlier;
+          parities = only .after (s * 16 + paritiesAt) (omega arith) ∙ old .row .parities;
         };
       } in
       let apart : All (λ (t : ℕ). s ≢ t) (map slotAt es) = all-front (λ (t : ℕ). s ≢ t) (map slotAt es) vs (st .apart .0) in

@@ -19,11 +19,11 @@ use Rattle.standing.specs.Standing.{EntryOf, Stands, PutRow, Made}
 use Rattle.standing.proofs.Slots.{distinct-forward}
 use Rattle.standing.proofs.Rows.{copied-others, put-others, queue-other, row-made}
 
-module _ {B : Book} {N : ℕ} {x : Memory} {e : ℕ} {es vs : List ℕ} {A : Arrays} {p q : Path} {ps : List Path} {d spent cost word earlier parities : ℕ} where
+module _ {B : Book} {D N : ℕ} {x : Memory} {e : ℕ} {es vs : List ℕ} {A : Arrays} {p q : Path} {ps : List Path} {d spent cost word earlier parities : ℕ} where
   -- the path in hand, written anew
-  pub stands-put : {rows′ : List ℕ} → Stands B N x (e ∷ es) vs A (p ∷ ps) → B .m ≤ 9 →
+  pub stands-put : {rows′ : List ℕ} → Stands B D N x (e ∷ es) vs A (p ∷ ps) → B .m ≤ 9 →
       PutRow (slotAt e) (x .rows) rows′ spent cost word earlier parities → Made B q d (slotAt e) spent cost word earlier parities → q .ids ≡ p .ids →
-      Stands B N (memory rows′ (x .holders) (x .numbers) (x .bytes)) (d ∷ es) vs A (q ∷ ps)
+      Stands B D N (memory rows′ (x .holders) (x .numbers) (x .bytes)) (d ∷ es) vs A (q ∷ ps)
   unfolding Paired All Distinct memory
   stands-put {rows′} st deep put made same =
       let s : ℕ = slotAt e in
@@ -42,10 +42,10 @@ module _ {B : Book} {N : ℕ} {x : Memory} {e : ℕ} {es vs : List ℕ} {A : Arr
       }
 
   -- a copy of the path in hand, in a vacant slot, before it in the queue
-  pub stands-share : {t : ℕ} {rows₁ rows₂ : List ℕ} (holders′ : List ℕ) → Stands B N x (e ∷ es) (t ∷ vs) A (p ∷ ps) → B .m ≤ 9 → N ≤ 256 →
+  pub stands-share : {t : ℕ} {rows₁ rows₂ : List ℕ} (holders′ : List ℕ) → Stands B D N x (e ∷ es) (t ∷ vs) A (p ∷ ps) → B .m ≤ 9 → N ≤ 256 →
       Copied (B .m) (slotAt e) t (x .rows) rows₁ → MoreBy (B .m + 1) (x .rows) (slotAt e) (x .holders) holders′ →
       PutRow t rows₁ rows₂ spent cost word earlier parities → Made B q d t spent cost word earlier parities → q .ids ≡ p .ids →
-      Stands B N (memory rows₂ holders′ (x .numbers) (x .bytes)) (d ∷ e ∷ es) vs A (q ∷ p ∷ ps)
+      Stands B D N (memory rows₂ holders′ (x .numbers) (x .bytes)) (d ∷ e ∷ es) vs A (q ∷ p ∷ ps)
   unfolding Paired All Distinct memory HasIds Copied
   stands-share {t} {rows₁} {rows₂} holders′ st deep top copied more put made same =
       let s : ℕ = slotAt e in

@@ -20,16 +20,26 @@ pub record Memory : Type 0 where
 unfoldable pub memory : List ℕ → List ℕ → List ℤ → List ℕ → Memory
 memory rows holders numbers bytes = record { rows = rows; holders = holders; numbers = numbers; bytes = bytes }
 
--- the tables and the workspace are large enough for N paths, and N arrays of each height up to m
-pub record Lent (m N : ℕ) (x : Memory) : Type 0 where
+-- the table of holders and the workspace have N arrays of each height up to m
+pub record HasArrays (m N : ℕ) (x : Memory) : Type 0 where
   pub deep : m ≤ 9
   pub many : N ≤ 256
-  pub rows : Rows N (x .rows)
   pub held : Held (x .holders)
   pub numbers : Room m N (x .numbers)
   pub bytes : Room m N (x .bytes)
 
--- the path in slot s sees v, and the other paths alive, fewer than N, have these ids
+-- so many arrays of each height are enough for so many slots: a path always finds one that no other holds. (Today the two numbers are equal.)
+abbrev pub Enough : ℕ → ℕ → Type 0
+Enough D N = D ≤ N
+
+-- memory has the rows of D slots, and N arrays of each height up to m, which are enough
+pub record Lent (m D N : ℕ) (x : Memory) : Type 0 where
+  pub few : D ≤ 256
+  pub rows : Rows D (x .rows)
+  pub has : HasArrays m N x
+  pub enough : Enough D N
+
+-- the path in slot s sees v of the N arrays, and the other paths alive, fewer than N, have these ids
 pub record Seen (m N s : ℕ) (x : Memory) (others : List (ℕ → ℕ)) (v : View) : Type 0 where
   pub ids : HasIds m (x .rows) s (v .ids)
   pub low : (h : ℕ) → h ≤ m → v .ids h ≤ N
@@ -51,5 +61,6 @@ StepSeen m N s x y needs step = (others : List (ℕ → ℕ)) (v : View) → See
 
 -- of the rows, the ids of slot s at the heights up to m alone may have changed
 pub record IdsOnly (m s : ℕ) (old new : List ℕ) : Type 0 where
+  pub size : length new ≡ length old
   pub before : (k : ℕ) → k < s * 16 → getD new k 0 ≡ getD old k 0
   pub after : (k : ℕ) → s * 16 + m < k → getD new k 0 ≡ getD old k 0

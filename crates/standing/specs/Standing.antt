@@ -20,15 +20,30 @@ use Rattle.standing.specs.Seen.{Memory}
 unfoldable pub cell : List ℕ → ℕ → ℕ → ℕ
 cell rows s f = getD rows (s * 16 + f) 0
 
--- The row of slot s holds p, but for what the queue goes by: its ids by height, then what it spent before its last block, the cost of that block,
--- the number of its word, and the sets of the parities before and after it. The setting itself is not kept.
+-- the cells behind the ids: what the path spent before its last block, the cost of that block, the number of its word, and the sets of the parities before and after it
+abbrev pub spentAt : ℕ
+spentAt = 10
+
+abbrev pub costAt : ℕ
+costAt = 11
+
+abbrev pub wordAt : ℕ
+wordAt = 12
+
+abbrev pub earlierAt : ℕ
+earlierAt = 13
+
+abbrev pub paritiesAt : ℕ
+paritiesAt = 14
+
+-- The row of slot s holds p, but for what the queue goes by: its ids by height, and the cells above. The setting itself is not kept.
 pub record Row (B : Book) (rows : List ℕ) (s : ℕ) (p : Path) : Type 0 where
   pub ids : HasIds (B .m) rows s (p .ids)
-  pub spent : cell rows s 10 ≡ p .spent
-  pub cost : cell rows s 11 ≡ p .cost
-  pub word : (b : ℕ) → p .blocks ≡ suc b → cell rows s 12 ≡ number (lastWord B p b)
-  pub earlier : cell rows s 13 ≡ paritySet B (p .earlier)
-  pub parities : cell rows s 14 ≡ paritySet B (p .parities)
+  pub spent : cell rows s spentAt ≡ p .spent
+  pub cost : cell rows s costAt ≡ p .cost
+  pub word : (b : ℕ) → p .blocks ≡ suc b → cell rows s wordAt ≡ number (lastWord B p b)
+  pub earlier : cell rows s earlierAt ≡ paritySet B (p .earlier)
+  pub parities : cell rows s paritiesAt ≡ paritySet B (p .parities)
 
 -- an entry of the order is p's: its key is p's, and the row of its slot holds the rest
 pub record EntryOf (B : Book) (rows : List ℕ) (e : ℕ) (p : Path) : Type 0 where
@@ -36,14 +51,14 @@ pub record EntryOf (B : Book) (rows : List ℕ) (e : ℕ) (p : Path) : Type 0 wh
   pub small : e < 36028797018963968
   pub row : Row B rows (slotAt e) p
 
--- Memory stands for the reader's arrays A and paths ps, each with its entry in es; the slots vs are vacant. There are N slots in all, each below N. (A path that
--- was taken from the queue is the first of ps while its extraction lasts.)
-pub record Stands (B : Book) (N : ℕ) (x : Memory) (es vs : List ℕ) (A : Arrays) (ps : List Path) : Type 0 where
+-- Memory stands for the reader's arrays A and paths ps, each with its entry in es; the slots vs are vacant. There are D slots in all, each below D, and N arrays of each
+-- height. (A path that was taken from the queue is the first of ps while its extraction lasts.)
+pub record Stands (B : Book) (D N : ℕ) (x : Memory) (es vs : List ℕ) (A : Arrays) (ps : List Path) : Type 0 where
   pub queue : Paired (EntryOf B (x .rows)) es ps
   pub apart : Distinct (map slotAt es ++ vs)
-  pub slots : All (λ (e : ℕ). slotAt e < N) es
-  pub vacant : All (λ (s : ℕ). s < N) vs
-  pub full : length es + length vs ≡ N
+  pub slots : All (λ (e : ℕ). slotAt e < D) es
+  pub vacant : All (λ (s : ℕ). s < D) vs
+  pub full : length es + length vs ≡ D
   pub counted : Counted (B .m) N (x .holders) (idsOf ps)
   pub housed : All (λ (p : Path). (h : ℕ) → h ≤ B .m → p .ids h ≤ N) ps
   pub vals : Parts (B .m) N (x .numbers) (A .vals)
@@ -66,22 +81,22 @@ withIds p ids =
 -- five cells of the row of slot s are written, all else is as it was
 pub record PutRow (s : ℕ) (old new : List ℕ) (spent′ cost′ word′ earlier′ parities′ : ℕ) : Type 0 where
   pub size : length new ≡ length old
-  pub spent : cell new s 10 ≡ spent′
-  pub cost : cell new s 11 ≡ cost′
-  pub word : cell new s 12 ≡ word′
-  pub earlier : cell new s 13 ≡ earlier′
-  pub parities : cell new s 14 ≡ parities′
-  pub before : (k : ℕ) → k < s * 16 + 10 → getD new k 0 ≡ getD old k 0
-  pub after : (k : ℕ) → s * 16 + 15 ≤ k → getD new k 0 ≡ getD old k 0
+  pub spent : cell new s spentAt ≡ spent′
+  pub cost : cell new s costAt ≡ cost′
+  pub word : cell new s wordAt ≡ word′
+  pub earlier : cell new s earlierAt ≡ earlier′
+  pub parities : cell new s paritiesAt ≡ parities′
+  pub before : (k : ℕ) → k < s * 16 + spentAt → getD new k 0 ≡ getD old k 0
+  pub after : (k : ℕ) → s * 16 + paritiesAt < k → getD new k 0 ≡ getD old k 0
 
 -- a path with entry e is in hand, es are queued and vs vacant: for some book of depth m, arrays, and paths
-pub record InHand (m N : ℕ) (x : Memory) (e : ℕ) (es vs : List ℕ) : Type 0 where
+pub record InHand (m D N : ℕ) (x : Memory) (e : ℕ) (es vs : List ℕ) : Type 0 where
   pub book : Book
   pub arrays : Arrays
   pub taken : Path
   pub rest : List Path
   pub deep : book .m ≡ m
-  pub stands : Stands book N x (e ∷ es) vs arrays (taken ∷ rest)
+  pub stands : Stands book D N x (e ∷ es) vs arrays (taken ∷ rest)
 
 -- entry d is that of path q in slot t, and these numbers are what the row of q holds besides its ids
 pub record Made (B : Book) (q : Path) (d t spent′ cost′ word′ earlier′ parities′ : ℕ) : Type 0 where

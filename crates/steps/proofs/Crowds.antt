@@ -31,8 +31,8 @@ room-cut D k xs e = let f : D - 2 ≡ k = omega arith in ap (λ n. take n xs) f
 
 -- ---- the last path
 
-module _ {B : Book} {N : ℕ} {x : Memory} {e : ℕ} {vs : List ℕ} {A : Arrays} {p : Path} {ps : List Path} (order : List ℕ) (n k : ℕ)
-    (q : n ≡ suc k) (st : Stands B N x (e ∷ queueOf order n) vs A (p ∷ ps)) where
+module _ {B : Book} {D N : ℕ} {x : Memory} {e : ℕ} {vs : List ℕ} {A : Arrays} {p : Path} {ps : List Path} (order : List ℕ) (n k : ℕ)
+    (q : n ≡ suc k) (st : Stands B D N x (e ∷ queueOf order n) vs A (p ∷ ps)) where
   tail : queueOf order n ≡ topOf order 1 k ++ getD order 0 0 ∷ []
   tail = ap (queueOf order) q ∙ queue-last order k
 
@@ -42,21 +42,21 @@ module _ {B : Book} {N : ℕ} {x : Memory} {e : ℕ} {vs : List ℕ} {A : Arrays
   level : length (e ∷ topOf order 1 k) ≡ length (p ∷ last .before)
   level = omega (arith, top-length order 1 k, last .place)
 
-  apart : Stands B N x ((e ∷ topOf order 1 k) ++ getD order 0 0 ∷ []) vs A ((p ∷ last .before) ++ last .one ∷ [])
+  apart : Stands B D N x ((e ∷ topOf order 1 k) ++ getD order 0 0 ∷ []) vs A ((p ∷ last .before) ++ last .one ∷ [])
   apart = rw (tail, last .whole) at st
 
-  -- its slot is one of the first N
-  pub last-slot : slotAt (getD order 0 0) < N
+  -- its slot is one of the first D
+  pub last-slot : slotAt (getD order 0 0) < D
   last-slot = stands-slot (e ∷ topOf order 1 k) (getD order 0 0) [] (p ∷ last .before) (last .one) [] level apart
 
-  -- each id of its row is one of the N, or none, and held
+  -- each id of its row is one of the N arrays, or none, and held
   pub last-held : (h : ℕ) → h ≤ B .m →
       (idAt (x .rows) (slotAt (getD order 0 0)) h ≤ N) × (1 ≤ heldAt (x .holders) h (idAt (x .rows) (slotAt (getD order 0 0)) h))
   last-held = stands-held (e ∷ topOf order 1 k) (getD order 0 0) [] (p ∷ last .before) (last .one) [] level apart
 
   -- without it
   pub last-remove : (holders′ : List ℕ) → N ≤ 256 → LessBy (B .m + 1) (x .rows) (slotAt (getD order 0 0)) (x .holders) holders′ →
-      Stands B N (memory (x .rows) holders′ (x .numbers) (x .bytes)) (e ∷ take k (queueOf order n)) (slotAt (getD order 0 0) ∷ vs) A (p ∷ take k ps)
+      Stands B D N (memory (x .rows) holders′ (x .numbers) (x .bytes)) (e ∷ take k (queueOf order n)) (slotAt (getD order 0 0) ∷ vs) A (p ∷ take k ps)
   last-remove holders′ top less =
       let cutOrder : topOf order 1 k ++ [] ≡ take k (queueOf order n) =
       append-nil (topOf order 1 k) ∙ sym (take-at (topOf order 1 k) (getD order 0 0 ∷ []) k (top-length order 1 k)) ∙ ap (take k) (sym tail) in

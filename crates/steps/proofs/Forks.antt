@@ -32,8 +32,8 @@ use Rattle.reader.proofs.Arrays.{Kept, claim-kept, claim-own}
 use Rattle.reader.proofs.Descent.{place-most}
 use Rattle.order.specs.Entries.{keyAt, slotAt, Packed}
 use Rattle.sharing.specs.Sharing.{idAt, heldAt, Copied, MoreBy}
-use Rattle.standing.specs.Seen.{Memory, memory, Lent, Seen, Viewed, StepSeen, IdsOnly}
-use Rattle.standing.specs.Standing.{cell, Row, Stands, withIds, PutRow, Made}
+use Rattle.standing.specs.Seen.{Memory, memory, Enough, Lent, Seen, Viewed, StepSeen, IdsOnly}
+use Rattle.standing.specs.Standing.{cell, spentAt, earlierAt, Row, Stands, withIds, PutRow, Made}
 use Rattle.standing.proofs.Slots.{distinct-forward}
 use Rattle.standing.proofs.Sizes.{slot-low, slots-apart}
 use Rattle.standing.proofs.Taken.{taken-row}
@@ -54,8 +54,8 @@ start-count bs zero h = omega arith
 start-count [] (suc b) h = absurd (omega arith)
 start-count (x ∷ bs) (suc b) h = omega (arith, start-count bs b (omega arith), pow-pos (x .j))
 
-module _ {m N : ℕ} {x : Memory} {e t : ℕ} {es vs : List ℕ} {last : Block} {found : Next} {b : ℕ}
-    (c : Forking m N x e t es vs last found b) where
+module _ {m D N : ℕ} {x : Memory} {e t : ℕ} {es vs : List ℕ} {last : Block} {found : Next} {b : ℕ}
+    (c : Forking m D N x e t es vs last found b) where
   -- the book, the path in hand, and the row of its slot
   abbrev book : Book
   book = c .hand .book
@@ -94,7 +94,7 @@ module _ {m N : ℕ} {x : Memory} {e t : ℕ} {es vs : List ℕ} {last : Block} 
   unfolding candidateOf
   cost-is = ap (λ (y : Candidate). y .cost) (c .is .first)
 
-  pub fork-total : cell (x .rows) (slotAt e) 10 + found .first .cost ≤ 1048064
+  pub fork-total : cell (x .rows) (slotAt e) spentAt + found .first .cost ≤ 1048064
   fork-total = omega (arith, row .spent, cost-is, c .total)
 
   pub fork-bias : Within 1048576 (last .bias)
@@ -116,19 +116,19 @@ module _ {m N : ℕ} {x : Memory} {e t : ℕ} {es vs : List ℕ} {last : Block} 
 
   -- the code's score is the copy's, so that the entry is
   pub fork-entry : {n d : ℕ} {s : ℤ} → Packed d (record { score = s; blocks = suc b; number = n }) t →
-      s ≡ negℤ (pos (cell (x .rows) (slotAt e) 10 + found .first .cost)) -ℤ last .bias → Packed d (keyOf book (made n)) t
+      s ≡ negℤ (pos (cell (x .rows) (slotAt e) spentAt + found .first .cost)) -ℤ last .bias → Packed d (keyOf book (made n)) t
   unfolding keyOf scoreOf
   fork-entry {n} {d} {s} p q =
-      let total : cell (x .rows) (slotAt e) 10 + found .first .cost ≡ path .spent + c .word .cost = omega (arith, row .spent, cost-is) in
+      let total : cell (x .rows) (slotAt e) spentAt + found .first .cost ≡ path .spent + c .word .cost = omega (arith, row .spent, cost-is) in
       let score : s ≡ scoreOf book (made n) (suc b) = q ∙ ap₂ (λ (k : ℕ) (z : ℤ). negℤ (pos k) -ℤ z) total (c .own .block .bias) in
       subst (λ (z : ℤ). Packed d (record { score = z; blocks = suc b; number = n }) t) score p
 
   -- memory stands for the copy in front, once its row is written
   abbrev pub Written : ℕ → ℕ → Memory → Type 0
-  Written n d y = Stands book N y (d ∷ e ∷ es) vs (c .hand .arrays) (made n ∷ path ∷ c .hand .rest)
+  Written n d y = Stands book D N y (d ∷ e ∷ es) vs (c .hand .arrays) (made n ∷ path ∷ c .hand .rest)
 
-  -- the copy is number n, and its entry d
-  module _ (n : ℕ) {d : ℕ} (packed : Packed d (keyOf book (made n)) t) where
+  -- the copy is number n, and its entry d; the arrays are enough
+  module _ (enough : Enough D N) (n : ℕ) {d : ℕ} (packed : Packed d (keyOf book (made n)) t) where
     word-is : (k : ℕ) → suc b ≡ suc k → found .first .number ≡ number (lastWord book (made n) k)
     unfolding candidateOf lastWord
     word-is k q =
@@ -136,7 +136,7 @@ module _ {m N : ℕ} {x : Memory} {e t : ℕ} {es vs : List ℕ} {last : Block} 
         ap (λ (y : Candidate). y .number) (c .is .first) ∙ c .made ∙ ap (λ (i : ℕ). number (lastWord book (made n) i)) same
 
     -- what its entry and its row hold
-    fork-made : Made book (made n) d t (cell (x .rows) (slotAt e) 10) (found .first .cost) (found .first .number) (cell (x .rows) (slotAt e) 13) (found .first .parities)
+    fork-made : Made book (made n) d t (cell (x .rows) (slotAt e) spentAt) (found .first .cost) (found .first .number) (cell (x .rows) (slotAt e) earlierAt) (found .first .parities)
     unfolding candidateOf
     fork-made =
         record {
@@ -150,22 +150,22 @@ module _ {m N : ℕ} {x : Memory} {e t : ℕ} {es vs : List ℕ} {last : Block} 
 
     -- ---- the row written
 
-    pub fork-written : {rows₁ rows₂ : List ℕ} (holders′ : List ℕ) → Lent m N x → Copied m (slotAt e) t (x .rows) rows₁ →
+    pub fork-written : {rows₁ rows₂ : List ℕ} (holders′ : List ℕ) → Lent m D N x → Copied m (slotAt e) t (x .rows) rows₁ →
         MoreBy (m + 1) (x .rows) (slotAt e) (x .holders) holders′ →
-        PutRow t rows₁ rows₂ (cell (x .rows) (slotAt e) 10) (found .first .cost) (found .first .number) (cell (x .rows) (slotAt e) 13) (found .first .parities) →
+        PutRow t rows₁ rows₂ (cell (x .rows) (slotAt e) spentAt) (found .first .cost) (found .first .number) (cell (x .rows) (slotAt e) earlierAt) (found .first .parities) →
         Written n d (memory rows₂ holders′ (x .numbers) (x .bytes))
     fork-written {rows₁} holders′ l copied more put =
         let copied′ : Copied (book .m) (slotAt e) t (x .rows) rows₁ = subst (λ (k : ℕ). Copied k (slotAt e) t (x .rows) rows₁) (sym (c .hand .deep)) copied in
         let more′ : MoreBy (book .m + 1) (x .rows) (slotAt e) (x .holders) holders′ =
         subst (λ (k : ℕ). MoreBy (k + 1) (x .rows) (slotAt e) (x .holders) holders′) (sym (c .hand .deep)) more in
-        stands-share holders′ (c .hand .stands) (c .valid .high) (l .many) copied′ more′ put fork-made refl
+        stands-share holders′ (c .hand .stands) (c .valid .high) (l .has .many) copied′ more′ put fork-made refl
 
     -- what the copy sees, in slot s of a memory for books of depth k
     abbrev Sees : ℕ → ℕ → Memory → Type 0
     Sees k s y = Seen k N s y (path .ids ∷ idsOf (c .hand .rest)) (viewOf (c .hand .arrays) path)
 
     fork-seen : {y : Memory} → Written n d y → Sees m t y
-    fork-seen {y} st = subst (λ (k : ℕ). Sees k t y) (c .hand .deep) (subst (λ (s : ℕ). Sees (book .m) s y) (packed .slot) (stands-seen st))
+    fork-seen {y} st = subst (λ (k : ℕ). Sees k t y) (c .hand .deep) (subst (λ (s : ℕ). Sees (book .m) s y) (packed .slot) (stands-seen st enough))
 
     -- the block's own values are there
     fork-claimable : Claimable (last .height) (last .place) (viewOf (c .hand .arrays) path)
@@ -186,7 +186,7 @@ module _ {m N : ℕ} {x : Memory} {e t : ℕ} {es vs : List ℕ} {last : Block} 
     abbrev Taken : Memory → List Path → ℕ → ℕ → Type 0
     Taken z qs j h =
         let v = claimed qs j h in
-        Stands book N z (e ∷ insert keyAt d es) vs (v .arrays) (path ∷ insert (keyOf book) (withIds (made n) (v .ids)) qs)
+        Stands book D N z (e ∷ insert keyAt d es) vs (v .arrays) (path ∷ insert (keyOf book) (withIds (made n) (v .ids)) qs)
 
     taken : {y z : Memory} → Written n d y → IdsOnly m t (y .rows) (z .rows) →
         StepSeen m N t y z (Claimable (last .height) (last .place)) (λ others v. claim others (last .height) (last .place) v) →
@@ -203,12 +203,12 @@ module _ {m N : ℕ} {x : Memory} {e t : ℕ} {es vs : List ℕ} {last : Block} 
 
     pub fork-queued : {y z : Memory} → Written n d y → IdsOnly m t (y .rows) (z .rows) →
         StepSeen m N t y z (Claimable (last .height) (last .place)) (λ others v. claim others (last .height) (last .place) v) →
-        let k = copyWith book N (c .hand .arrays) path b (c .hand .rest) n (some (c .word)) in
-        Stands book N z (e ∷ insert keyAt d es) vs (k .arrays) (path ∷ k .queue)
+        let k = copyWith book D (c .hand .arrays) path b (c .hand .rest) n (some (c .word)) in
+        Stands book D N z (e ∷ insert keyAt d es) vs (k .arrays) (path ∷ k .queue)
     unfolding copyWith withIds roomFor
     fork-queued {z} st only turned =
         let o = c .own .block in
-        let room : c .hand .rest ≡ roomFor N (c .hand .rest) = sym (take-all (N - 2) (c .hand .rest) (omega (arith, c .room))) in
+        let room : c .hand .rest ≡ roomFor D (c .hand .rest) = sym (take-all (D - 2) (c .hand .rest) (omega (arith, c .room))) in
         subst (λ (qs : List Path). Taken z qs (blockAt book b .j) (place book b)) room
         (subst (λ (j : ℕ). Taken z (c .hand .rest) j (place book b)) (o .height)
         (subst (λ (h : ℕ). Taken z (c .hand .rest) (last .height) h) (o .word) (taken st only turned)))
@@ -229,13 +229,13 @@ module _ {m N : ℕ} {x : Memory} {e t : ℕ} {es vs : List ℕ} {last : Block} 
 
     -- the word that is kept for it, if one is, is its next; those of the others are as they were
     pub fork-kepts : {old new : List ℕ} → OneKept t old new → Keeps new t (candidateOf book after) → Kepts book (c .hand .arrays) old es (c .hand .rest) →
-        let k = copyWith book N (c .hand .arrays) path b (c .hand .rest) n (some (c .word)) in
+        let k = copyWith book D (c .hand .arrays) path b (c .hand .rest) n (some (c .word)) in
         Kepts book (k .arrays) new (insert keyAt d es) (k .queue)
     unfolding copyWith roomFor keyOf scoreOf All Distinct withIds
     fork-kepts {old} {new} one keeps kept =
         let A : Arrays = c .hand .arrays in
         let qs : List Path = c .hand .rest in
-        let room : qs ≡ roomFor N qs = sym (take-all (N - 2) qs (omega (arith, c .room))) in
+        let room : qs ≡ roomFor D qs = sym (take-all (D - 2) qs (omega (arith, c .room))) in
         let slots : List ℕ = map slotAt (e ∷ es) in
         let apart : All (λ (s : ℕ). t ≢ s) slots = all-front (λ (s : ℕ). t ≢ s) slots vs (distinct-forward slots t vs (c .hand .stands .apart) .0) in
         let v : View = claimed qs (blockAt book b .j) (place book b) in
@@ -253,18 +253,18 @@ module _ {m N : ℕ} {x : Memory} {e t : ℕ} {es vs : List ℕ} {last : Block} 
 
   -- ---- what sharing needs
 
-  pub fork-shareable : Lent m N x → (h : ℕ) → h ≤ m →
+  pub fork-shareable : Lent m D N x → (h : ℕ) → h ≤ m →
       let id = idAt (x .rows) (slotAt e) h in (id ≤ 256) × (heldAt (x .holders) h id < 65535)
   fork-shareable l h k =
       let low : h ≤ book .m = omega (arith, c .hand .deep) in
       let held = stands-held [] e es [] path (c .hand .rest) refl (c .hand .stands) h low in
       let few = stands-few [] e es [] path (c .hand .rest) refl (c .hand .stands) h low in
-      (omega (arith, held .0, l .many), omega (arith, few, l .many))
+      (omega (arith, held .0, l .has .many), omega (arith, few, l .few))
 
-  pub fork-slot : slotAt e < N
+  pub fork-slot : slotAt e < D
   fork-slot = slot-low (c .hand .stands)
 
-  pub fork-apart : (slotAt e ≡ t → ⊥) × (t < N)
+  pub fork-apart : (slotAt e ≡ t → ⊥) × (t < D)
   fork-apart = slots-apart (c .hand .stands)
 
   pub fork-place : last .place ≤ m

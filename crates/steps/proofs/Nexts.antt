@@ -33,7 +33,7 @@ use Rattle.sharing.specs.Sharing.{idAt, HasIds}
 use Rattle.heights.specs.Workspace.{spot, Id, Parts}
 use Rattle.heights.proofs.Spots.{spot-room}
 use Rattle.standing.specs.Seen.{Memory, Lent}
-use Rattle.standing.specs.Standing.{cell, Row, Stands}
+use Rattle.standing.specs.Standing.{cell, costAt, Row, Stands}
 use Rattle.standing.proofs.Sizes.{stands-length}
 use Rattle.standing.proofs.Taken.{taken-row}
 use Rattle.words.specs.declared.Block.{Block}
@@ -52,8 +52,8 @@ unfolding candidateOf
 none-word B none r e t = refl
 none-word B (some y) r e t = let z : _≡_ {A = ℕ} 0 1 = cc in absurd (omega arith)
 
-module _ {m N : ℕ} {x : Memory} {e : ℕ} {es vs kinds terms : List ℕ} {last : Block} {kept : List ℕ} {b : ℕ}
-    (c : Copying m N x e es vs kinds terms last kept b) where
+module _ {m D N : ℕ} {x : Memory} {e : ℕ} {es vs kinds terms : List ℕ} {last : Block} {kept : List ℕ} {b : ℕ}
+    (c : Copying m D N x e es vs kinds terms last kept b) where
   -- the book, the path in hand, and the paths queued
   abbrev book : Book
   book = c .hand .book
@@ -110,16 +110,16 @@ module _ {m N : ℕ} {x : Memory} {e : ℕ} {es vs kinds terms : List ℕ} {last
       ∙ c .hand .stands .vals h (path .ids h) low id-ok
       ∙ ap (λ (k : ℕ). valsOf (viewOf (c .hand .arrays) path) k) (c .own .block .height)
 
-  pub copy-searchable : Lent m N x → Searchable (x .numbers) (spot m (idAt (x .rows) (slotAt e) (last .height)) (last .height)) kinds (last .start) (last .height)
+  pub copy-searchable : Lent m D N x → Searchable (x .numbers) (spot m (idAt (x .rows) (slotAt e) (last .height)) (last .height)) kinds (last .start) (last .height)
   copy-searchable l =
       record {
         low = block-low book b kinds terms (last .start) (last .height) copy-tabled;
         walk = block-walkable book b kinds terms (last .start) (last .height) copy-tabled;
-        within = subst (λ (i : ℕ). spot m i (last .height) + 2 ^ last .height ≤ length (x .numbers)) (sym id-is) (spot-room copy-low id-ok (x .numbers) (l .numbers));
+        within = subst (λ (i : ℕ). spot m i (last .height) + 2 ^ last .height ≤ length (x .numbers)) (sym id-is) (spot-room copy-low id-ok (x .numbers) (l .has .numbers));
         small = subst (All (Within 1048064)) (sym values-are) (c .own .fit .own);
       }
 
-  pub copy-cost : cell (x .rows) (slotAt e) 11 < 4294967295
+  pub copy-cost : cell (x .rows) (slotAt e) costAt < 4294967295
   copy-cost = omega (arith, row .cost, c .own .fit .total)
 
   -- ---- what it answers
@@ -140,9 +140,9 @@ module _ {m N : ℕ} {x : Memory} {e : ℕ} {es vs kinds terms : List ℕ} {last
   -- ---- the words kept, of the paths queued
 
   -- where the queue is cut
-  pub copy-kept : Kepts book (c .hand .arrays) kept (roomFor N es) (roomFor N rest)
+  pub copy-kept : Kepts book (c .hand .arrays) kept (roomFor D es) (roomFor D rest)
   unfolding Paired roomFor
-  copy-kept = paired-take _ (N - 2) es rest (c .known .1)
+  copy-kept = paired-take _ (D - 2) es rest (c .known .1)
 
   -- as many are queued as there are entries
   rest-length : length es ≡ length rest
@@ -150,18 +150,18 @@ module _ {m N : ℕ} {x : Memory} {e : ℕ} {es vs kinds terms : List ℕ} {last
 
   -- no next word: nothing changes
   pub copy-none : {found : Candidate} (n crowded : ℕ) → found ≡ candidateOf book next → found .some ≡ false →
-      CopiedTo book N e path (copy book N (c .hand .arrays) path rest n (suc b)) crowded (length es) n crowded x es vs kept
+      CopiedTo book D N e path (copy book D (c .hand .arrays) path rest n (suc b)) crowded (length es) n crowded x es vs kept
   unfolding copy copyWith Paired
   copy-none n crowded is not-one =
-      subst (λ (o : Option Word). CopiedTo book N e path (copyWith book N (c .hand .arrays) path b rest n o) crowded (length es) n crowded x es vs kept) (sym (none-word book next _ is not-one))
+      subst (λ (o : Option Word). CopiedTo book D N e path (copyWith book D (c .hand .arrays) path b rest n o) crowded (length es) n crowded x es vs kept) (sym (none-word book next _ is not-one))
       (rest-length, refl, omega arith, c .hand .stands, c .known .1)
 
   -- ---- a next word, the queue cut
 
   -- so many are left, and t is the first vacant slot
   module _ {found : Next} (is : Answers found seen) (there : found .first .some ≡ true) {y : Memory} {left t : ℕ} {qs ws : List ℕ}
-      (count : left ≡ length (roomFor N rest)) (room : left + 2 ≤ N)
-      (st : Stands book N y (e ∷ qs) (t ∷ ws) (c .hand .arrays) (path ∷ roomFor N rest)) where
+      (count : left ≡ length (roomFor D rest)) (room : left + 2 ≤ D)
+      (st : Stands book D N y (e ∷ qs) (t ∷ ws) (c .hand .arrays) (path ∷ roomFor D rest)) where
     word : Word
     word = some-word book next (found .first) (is .first) there .0
 
@@ -170,10 +170,10 @@ module _ {m N : ℕ} {x : Memory} {e : ℕ} {es vs kinds terms : List ℕ} {last
     word-is = some-word book next (found .first) (is .first) there .1
 
     -- what the copy needs
-    pub copy-fork : Forking m N y e t qs ws last found b
+    pub copy-fork : Forking m D N y e t qs ws last found b
     copy-fork =
         record {
-          hand = record { book = book; arrays = c .hand .arrays; taken = path; rest = roomFor N rest; deep = c .hand .deep; stands = st };
+          hand = record { book = book; arrays = c .hand .arrays; taken = path; rest = roomFor D rest; deep = c .hand .deep; stands = st };
           valid = c .booked .valid;
           own = record { blocks = c .own .blocks; block = c .own .block; fit = c .own .fit };
           word = word;
@@ -184,28 +184,28 @@ module _ {m N : ℕ} {x : Memory} {e : ℕ} {es vs kinds terms : List ℕ} {last
         }
 
     -- the paths crowded out
-    crowded-is : length es - left ≡ length (numbers (keyOf book) (crowdedOut N rest))
+    crowded-is : length es - left ≡ length (numbers (keyOf book) (crowdedOut D rest))
     unfolding numbers roomFor crowdedOut
     crowded-is =
         omega (
           arith,
           rest-length,
           count,
-          length-map (drop (N - 2) rest) (λ (p : Path). keyOf book p .number),
-          ap length (take-append-drop (N - 2) rest),
-          length-append (take (N - 2) rest) (drop (N - 2) rest),
+          length-map (drop (D - 2) rest) (λ (p : Path). keyOf book p .number),
+          ap length (take-append-drop (D - 2) rest),
+          length-append (take (D - 2) rest) (drop (D - 2) rest),
         )
 
     -- the copy, as made among those left, is the reader's
-    pub copy-done : (n crowded : ℕ) (kept′ : List ℕ) {z : Memory} {qs′ : List ℕ} → qs ≡ roomFor N es →
+    pub copy-done : (n crowded : ℕ) (kept′ : List ℕ) {z : Memory} {qs′ : List ℕ} → qs ≡ roomFor D es →
         (let o = copy-fork in
-        let k = copyWith (o .hand .book) N (o .hand .arrays) (o .hand .taken) b (o .hand .rest) n (some (o .word)) in
-        Stands (o .hand .book) N z (e ∷ qs′) ws (k .arrays) (o .hand .taken ∷ k .queue)
+        let k = copyWith (o .hand .book) D (o .hand .arrays) (o .hand .taken) b (o .hand .rest) n (some (o .word)) in
+        Stands (o .hand .book) D N z (e ∷ qs′) ws (k .arrays) (o .hand .taken ∷ k .queue)
         × (Kepts (o .hand .book) (o .hand .arrays) kept qs (o .hand .rest) → Kepts (o .hand .book) (k .arrays) kept′ qs′ (k .queue))) →
-        CopiedTo book N e path (copy book N (c .hand .arrays) path rest n (suc b)) crowded (suc left) (suc n) (crowded + (length es - left)) z qs′ ws kept′
+        CopiedTo book D N e path (copy book D (c .hand .arrays) path rest n (suc b)) crowded (suc left) (suc n) (crowded + (length es - left)) z qs′ ws kept′
     unfolding copy copyWith roomFor copy-fork
     copy-done n crowded kept′ {z} {qs′} cut h =
-        let twice : roomFor N (roomFor N rest) ≡ roomFor N rest = take-take (N - 2) (N - 2) rest (omega arith) in
-        let words = h .1 (subst (λ (l : List ℕ). Kepts book (c .hand .arrays) kept l (roomFor N rest)) (sym cut) copy-kept) in
-        subst (λ (o : Option Word). CopiedTo book N e path (copyWith book N (c .hand .arrays) path b rest n o) crowded (suc left) (suc n) (crowded + (length es - left)) z qs′ ws kept′) (sym word-is)
-        (ap suc count ∙ sym (insert-length (keyOf book) _ (roomFor N rest)), refl, omega (arith, crowded-is), rw twice at (h .0), rw twice at words)
+        let twice : roomFor D (roomFor D rest) ≡ roomFor D rest = take-take (D - 2) (D - 2) rest (omega arith) in
+        let words = h .1 (subst (λ (l : List ℕ). Kepts book (c .hand .arrays) kept l (roomFor D rest)) (sym cut) copy-kept) in
+        subst (λ (o : Option Word). CopiedTo book D N e path (copyWith book D (c .hand .arrays) path b rest n o) crowded (suc left) (suc n) (crowded + (length es - left)) z qs′ ws kept′) (sym word-is)
+        (ap suc count ∙ sym (insert-length (keyOf book) _ (roomFor D rest)), refl, omega (arith, crowded-is), rw twice at (h .0), rw twice at words)

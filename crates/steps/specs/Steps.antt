@@ -37,31 +37,31 @@ pub record Booked (B : Book) (kinds terms : List ℕ) : Type 0 where
   pub tabled : Tabled (B .kinds) kinds terms
 
 -- the path in hand has b + 1 blocks, the last of which is `last`, and is fit
-pub record Last {m N : ℕ} {x : Memory} {e : ℕ} {es vs : List ℕ} (c : InHand m N x e es vs) (last : Block) (b : ℕ) : Type 0 where
+pub record Last {m D N : ℕ} {x : Memory} {e : ℕ} {es vs : List ℕ} (c : InHand m D N x e es vs) (last : Block) (b : ℕ) : Type 0 where
   pub blocks : c .taken .blocks ≡ suc b
   pub block : BlockIs (c .book) b last
   pub fit : Fit (c .book) (c .arrays) (c .taken) b
 
 -- what the path in hand sees once its last word is in the sums
-abbrev pub committed : {m N : ℕ} {x : Memory} {e : ℕ} {es vs : List ℕ} → InHand m N x e es vs → View
+abbrev pub committed : {m D N : ℕ} {x : Memory} {e : ℕ} {es vs : List ℕ} → InHand m D N x e es vs → View
 committed h = commit (h .book) (idsOf (h .rest)) (h .taken) (h .taken .blocks) (viewOf (h .arrays) (h .taken))
 
 -- ---- the copy
 
 -- another word of the last block, for a copy in the vacant slot t, and where it is known the next after it; there is room for the copy
-pub record Forking (m N : ℕ) (x : Memory) (e t : ℕ) (es vs : List ℕ) (last : Block) (found : Next) (b : ℕ) : Type 0 where
-  pub hand : InHand m N x e es (t ∷ vs)
+pub record Forking (m D N : ℕ) (x : Memory) (e t : ℕ) (es vs : List ℕ) (last : Block) (found : Next) (b : ℕ) : Type 0 where
+  pub hand : InHand m D N x e es (t ∷ vs)
   pub valid : Valid (hand .book)
   pub own : Last hand last b
   pub word : Word
   pub is : Nexts (hand .book) (valsOf (viewOf (hand .arrays) (hand .taken)) (blockAt (hand .book) b .j)) (hand .taken .earlier) b (some word) found
   pub made : word .number ≡ number (transform (blockAt (hand .book) b .j) (fillBlock (hand .book) (hand .taken .earlier) b (word .setting) .bits))
   pub total : hand .taken .spent + word .cost ≤ 1048064
-  pub room : length (hand .rest) + 2 ≤ N
+  pub room : length (hand .rest) + 2 ≤ D
 
 -- a path in hand whose last block may have a next word, and the words kept; no next word costs too much
-pub record Copying (m N : ℕ) (x : Memory) (e : ℕ) (es vs : List ℕ) (kinds terms : List ℕ) (last : Block) (kept : List ℕ) (b : ℕ) : Type 0 where
-  pub hand : InHand m N x e es vs
+pub record Copying (m D N : ℕ) (x : Memory) (e : ℕ) (es vs : List ℕ) (kinds terms : List ℕ) (last : Block) (kept : List ℕ) (b : ℕ) : Type 0 where
+  pub hand : InHand m D N x e es vs
   pub booked : Booked (hand .book) kinds terms
   pub own : Last hand last b
   pub known : Kepts (hand .book) (hand .arrays) kept (e ∷ es) (hand .taken ∷ hand .rest)
@@ -69,16 +69,16 @@ pub record Copying (m N : ℕ) (x : Memory) (e : ℕ) (es vs : List ℕ) (kinds 
       → hand .taken .spent + y .cost ≤ 1048064
 
 -- what the step has come to, from so many crowded out before: so many queued, the next number, the count, memory, and the words kept
-abbrev pub CopiedTo : Book → ℕ → ℕ → Path → Cut → ℕ → ℕ → ℕ → ℕ → Memory → List ℕ → List ℕ → List ℕ → Type 0
-CopiedTo B N e p k before queued next crowded x es vs kept =
+abbrev pub CopiedTo : Book → ℕ → ℕ → ℕ → Path → Cut → ℕ → ℕ → ℕ → ℕ → Memory → List ℕ → List ℕ → List ℕ → Type 0
+CopiedTo B D N e p k before queued next crowded x es vs kept =
     (queued ≡ length (k .queue)) × (next ≡ k .next) × (crowded ≡ before + length (k .crowded))
-    × Stands B N x (e ∷ es) vs (k .arrays) (p ∷ k .queue) × Kepts B (k .arrays) kept es (k .queue)
+    × Stands B D N x (e ∷ es) vs (k .arrays) (p ∷ k .queue) × Kepts B (k .arrays) kept es (k .queue)
 
 -- ---- the next block
 
 -- a path in hand that has a next block, `at`; where it has a last one, that is `last`
-pub record Moving (m N : ℕ) (x : Memory) (e : ℕ) (es vs : List ℕ) (last at : Block) : Type 0 where
-  pub hand : InHand m N x e es vs
+pub record Moving (m D N : ℕ) (x : Memory) (e : ℕ) (es vs : List ℕ) (last at : Block) : Type 0 where
+  pub hand : InHand m D N x e es vs
   pub valid : Valid (hand .book)
   pub next : BlockIs (hand .book) (hand .taken .blocks) at
   pub last-is : (b : ℕ) → hand .taken .blocks ≡ suc b → BlockIs (hand .book) b last
@@ -87,9 +87,9 @@ pub record Moving (m N : ℕ) (x : Memory) (e : ℕ) (es vs : List ℕ) (last at
 -- ---- the visit
 
 -- no path is in hand: es are queued and vs vacant, for some book of depth m, arrays, and paths
-pub record Queued (m N : ℕ) (x : Memory) (es vs : List ℕ) : Type 0 where
+pub record Queued (m D N : ℕ) (x : Memory) (es vs : List ℕ) : Type 0 where
   pub book : Book
   pub arrays : Arrays
   pub paths : List Path
   pub deep : book .m ≡ m
-  pub stands : Stands book N x es vs arrays paths
+  pub stands : Stands book D N x es vs arrays paths

@@ -11,19 +11,21 @@ ghost use Rattle.standing.specs.Seen.{memory, Lent};
 ghost use Rattle.standing.specs.Standing.{Stands};
 ghost use Rattle.words.specs.Kept.{Cells, Kepts};
 ghost use Rattle.steps.specs.Steps.{Forking, Copying, CopiedTo};
-use crate::Setting;
 use crate::Tally;
 use crate::crowding::crowd;
 use order::entries::entry;
 use order::entries::slot_of;
 use order::moves::insert;
 use outer::Next;
+use settings::Settings;
 use sharing::holders::share;
+use standing::row::earlier_of;
+use standing::row::put;
+use standing::row::spent_of;
 use views::view::claim;
 use words::Block;
 use words::kept::keep_known;
 use words::other_word;
-use words::put;
 use words::score;
 
 // A copy of the path of entry e, with the word found, in the slot `to`; it is inserted. The next word after that one is kept for it, where it is known.
@@ -36,6 +38,7 @@ fn fork(
     kept: &mut [u32],
     m: usize,
     paths: usize,
+    arrays: usize,
     e: u64,
     to: usize,
     last: Block,
@@ -44,13 +47,13 @@ fn fork(
     blocks: u32,
     number: u32,
 )
-    requires { ⌜ Lent m paths (memory (now rows) (now holders) (now numbers) (now bytes)) × (length (now order) ≡ 256) × (queued + 2 ≤ paths) × (number < 32768) × Cells paths (now kept) ⌝ }
-    requires { ⌜ ((b : ℕ) × (blocks ≡ suc b) × (vs : List ℕ) × Forking m paths (memory (now rows) (now holders) (now numbers) (now bytes)) e to (queueOf (now order) queued) vs last found b) ⌝ }
+    requires { ⌜ Lent m paths arrays (memory (now rows) (now holders) (now numbers) (now bytes)) × (length (now order) ≡ 256) × (queued + 2 ≤ paths) × (number < 32768) × Cells paths (now kept) ⌝ }
+    requires { ⌜ ((b : ℕ) × (blocks ≡ suc b) × (vs : List ℕ) × Forking m paths arrays (memory (now rows) (now holders) (now numbers) (now bytes)) e to (queueOf (now order) queued) vs last found b) ⌝ }
     requires { ⌜ Rising (now order) queued ⌝ }
-    ensures { λ _. ⌜ Lent m paths (memory (now (rows .exit)) (now (holders .exit)) (now (numbers .exit)) (now (bytes .entry))) × (length (now (order .exit)) ≡ 256) × Cells paths (now (kept .exit)) ⌝ }
-    ensures { λ _. ⌜ ((b : ℕ) (vs : List ℕ) (c : Forking m paths (memory (now (rows .entry)) (now (holders .entry)) (now (numbers .entry)) (now (bytes .entry))) e to (queueOf (now (order .entry)) queued) vs last found b)
+    ensures { λ _. ⌜ Lent m paths arrays (memory (now (rows .exit)) (now (holders .exit)) (now (numbers .exit)) (now (bytes .entry))) × (length (now (order .exit)) ≡ 256) × Cells paths (now (kept .exit)) ⌝ }
+    ensures { λ _. ⌜ ((b : ℕ) (vs : List ℕ) (c : Forking m paths arrays (memory (now (rows .entry)) (now (holders .entry)) (now (numbers .entry)) (now (bytes .entry))) e to (queueOf (now (order .entry)) queued) vs last found b)
         → blocks ≡ suc b → (let k = R.copyWith (c .hand .book) paths (c .hand .arrays) (c .hand .taken) b (c .hand .rest) number (some (c .word)) in
-        Stands (c .hand .book) paths (memory (now (rows .exit)) (now (holders .exit)) (now (numbers .exit)) (now (bytes .entry))) (e ∷ queueOf (now (order .exit)) (suc queued)) vs
+        Stands (c .hand .book) paths arrays (memory (now (rows .exit)) (now (holders .exit)) (now (numbers .exit)) (now (bytes .entry))) (e ∷ queueOf (now (order .exit)) (suc queued)) vs
         (k .arrays) (c .hand .taken ∷ k .queue)
         × (Kepts (c .hand .book) (c .hand .arrays) (now (kept .entry)) (queueOf (now (order .entry)) queued) (c .hand .rest)
         → Kepts (c .hand .book) (k .arrays) (now (kept .exit)) (queueOf (now (order .exit)) (suc queued)) (k .queue)))) ⌝ }
@@ -59,8 +62,8 @@ fn fork(
     let slot = slot_of(e);
     let cost = found.first.cost;
     let bias = last.bias;
-    let spent = rows[slot * 16 + 10];
-    let earlier = rows[slot * 16 + 13];
+    let spent = spent_of(rows, slot);
+    let earlier = earlier_of(rows, slot);
     let d = entry(score(spent, cost, bias), blocks, number, to);
     share(rows, holders, m, slot, to);
     put(
@@ -78,7 +81,7 @@ fn fork(
         numbers,
         bytes,
         m,
-        paths,
+        arrays,
         to,
         last.height,
         last.place,
@@ -113,7 +116,9 @@ pub fn copy(
     bytes: &[u8],
     kinds: &[u8; 512],
     terms: &[u32; 512],
-    s: Setting,
+    m: usize,
+    s: Settings,
+    arrays: usize,
     t: Tally,
     e: u64,
     blocks: u32,
@@ -123,23 +128,22 @@ pub fn copy(
     sets: &mut [u32; 256],
     sums: &mut [u32; 128],
 ) -> Tally
-    requires { ⌜ Lent (s .m) (s .paths) (memory (now rows) (now holders) (now numbers) (now bytes)) × (length (now order) ≡ 256) × (length (now vacant) ≡ 256) × Cells (s .paths) (now kept) ⌝ }
+    requires { ⌜ Lent m (s .paths) arrays (memory (now rows) (now holders) (now numbers) (now bytes)) × (length (now order) ≡ 256) × (length (now vacant) ≡ 256) × Cells (s .paths) (now kept) ⌝ }
     requires { ⌜ Scratch (now words) (now sets) (now sums) × (2 ≤ s .paths) × (t .queued + 1 ≤ s .paths) × (t .next < 32768) × (t .crowded < 65536) ⌝ }
-    requires { ⌜ ((b : ℕ) × (blocks ≡ suc b) × Copying (s .m) (s .paths) (memory (now rows) (now holders) (now numbers) (now bytes)) e (queueOf (now order) (t .queued))
+    requires { ⌜ ((b : ℕ) × (blocks ≡ suc b) × Copying m (s .paths) arrays (memory (now rows) (now holders) (now numbers) (now bytes)) e (queueOf (now order) (t .queued))
         (queueOf (now vacant) (s .paths - (t .queued + 1))) (now kinds) (now terms) last (now kept) b) ⌝ }
     requires { ⌜ Rising (now order) (t .queued) ⌝ }
-    ensures { λ _. ⌜ Lent (s .m) (s .paths) (memory (now (rows .exit)) (now (holders .exit)) (now (numbers .exit)) (now (bytes .entry)))
+    ensures { λ _. ⌜ Lent m (s .paths) arrays (memory (now (rows .exit)) (now (holders .exit)) (now (numbers .exit)) (now (bytes .entry)))
         × (length (now (order .exit)) ≡ 256) × (length (now (vacant .exit)) ≡ 256) × Cells (s .paths) (now (kept .exit)) × Scratch (now (words .exit)) (now (sets .exit)) (now (sums .exit)) ⌝ }
     ensures { λ r. ⌜ (r .extractions ≡ t .extractions) × (r .outrun ≡ t .outrun) × (r .queued + 1 ≤ s .paths) ⌝ }
-    ensures { λ r. ⌜ ((b : ℕ) (c : Copying (s .m) (s .paths) (memory (now (rows .entry)) (now (holders .entry)) (now (numbers .entry)) (now (bytes .entry))) e (queueOf (now (order .entry)) (t .queued))
+    ensures { λ r. ⌜ ((b : ℕ) (c : Copying m (s .paths) arrays (memory (now (rows .entry)) (now (holders .entry)) (now (numbers .entry)) (now (bytes .entry))) e (queueOf (now (order .entry)) (t .queued))
         (queueOf (now (vacant .entry)) (s .paths - (t .queued + 1))) (now (kinds .entry)) (now (terms .entry)) last (now (kept .entry)) b)
         → blocks ≡ suc b → (let k = R.copy (c .hand .book) (s .paths) (c .hand .arrays) (c .hand .taken) (c .hand .rest) (t .next) (suc b) in
-        CopiedTo (c .hand .book) (s .paths) e (c .hand .taken) k (t .crowded) (r .queued) (r .next) (r .crowded) (memory (now (rows .exit)) (now (holders .exit)) (now (numbers .exit)) (now (bytes .entry)))
+        CopiedTo (c .hand .book) (s .paths) arrays e (c .hand .taken) k (t .crowded) (r .queued) (r .next) (r .crowded) (memory (now (rows .exit)) (now (holders .exit)) (now (numbers .exit)) (now (bytes .entry)))
         (queueOf (now (order .exit)) (r .queued)) (queueOf (now (vacant .exit)) (s .paths - (r .queued + 1))) (now (kept .exit)))) ⌝ }
     ensures { λ r. ⌜ Rising (now (order .exit)) (r .queued) ⌝ }
 {
-    let m = s.m;
-    let paths = s.paths;
+    let paths = s.paths as usize;
     let queued = t.queued;
     let found = other_word(
         rows,
@@ -168,6 +172,7 @@ pub fn copy(
         kept,
         m,
         paths,
+        arrays,
         e,
         to,
         last,

@@ -25,14 +25,14 @@ pub fn crowd(
 ) -> usize
     requires { ⌜ Rows paths (now rows) × Held (now holders) × (length (now order) ≡ 256) × (length (now vacant) ≡ 256) × (m ≤ 9) ⌝ }
     requires { ⌜ (2 ≤ paths) × (paths ≤ 256) × (queued + 1 ≤ paths) ⌝ }
-    requires { ⌜ ((e : ℕ) × (numbers : List ℤ) × (bytes : List ℕ) × InHand m paths (memory (now rows) (now holders) numbers bytes) e (queueOf (now order) queued) (queueOf (now vacant) (paths - (queued + 1)))) ⌝ }
+    requires { ⌜ ((arrays : ℕ) × (arrays ≤ 256) × (e : ℕ) × (numbers : List ℤ) × (bytes : List ℕ) × InHand m paths arrays (memory (now rows) (now holders) numbers bytes) e (queueOf (now order) queued) (queueOf (now vacant) (paths - (queued + 1)))) ⌝ }
     requires { ⌜ Rising (now order) queued ⌝ }
     ensures { λ r. ⌜ Held (now (holders .exit)) × (length (now (order .exit)) ≡ 256) × (length (now (vacant .exit)) ≡ 256)
         × (r ≤ queued) × (r + 2 ≤ paths) × (queueOf (now (order .exit)) r ≡ roomFor paths (queueOf (now (order .entry)) queued)) ⌝ }
-    ensures { λ r. ⌜ ((e : ℕ) (numbers : List ℤ) (bytes : List ℕ)
-        (c : InHand m paths (memory (now (rows .entry)) (now (holders .entry)) numbers bytes) e (queueOf (now (order .entry)) queued) (queueOf (now (vacant .entry)) (paths - (queued + 1))))
-        → (r ≡ length (roomFor paths (c .rest)))
-        × Stands (c .book) paths (memory (now (rows .entry)) (now (holders .exit)) numbers bytes) (e ∷ queueOf (now (order .exit)) r) (queueOf (now (vacant .exit)) (paths - (r + 1)))
+    ensures { λ r. ⌜ ((arrays e : ℕ) (numbers : List ℤ) (bytes : List ℕ)
+        (c : InHand m paths arrays (memory (now (rows .entry)) (now (holders .entry)) numbers bytes) e (queueOf (now (order .entry)) queued) (queueOf (now (vacant .entry)) (paths - (queued + 1))))
+        → arrays ≤ 256 → (r ≡ length (roomFor paths (c .rest)))
+        × Stands (c .book) paths arrays (memory (now (rows .entry)) (now (holders .exit)) numbers bytes) (e ∷ queueOf (now (order .exit)) r) (queueOf (now (vacant .exit)) (paths - (r + 1)))
         (c .arrays) (c .taken ∷ roomFor paths (c .rest))) ⌝ }
     ensures { λ r. ⌜ Rising (now (order .exit)) r ⌝ }
 {

@@ -3,14 +3,6 @@
 pub mod copies;
 pub mod crowding;
 
-// What a run goes by: the book's m and number of blocks, L and D.
-pub struct Setting {
-    pub m: usize,
-    pub blocks: usize,
-    pub visits: u32,
-    pub paths: usize,
-}
-
 // The number of queued paths, the next path's number, and the counts so far.
 pub struct Tally {
     pub queued: usize,

@@ -1,10 +1,11 @@
 // The words and the parities of all settings of a block's free bits. The entry of setting 0 and one direction for each free index are walked
-// through the indices; they are doubled to a table of all settings at the end. Relies on no other file; outer/specs/Search.antt says what an entry is.
+// through the indices; they are doubled to a table of all settings at the end. Relies on numerals::wide; outer/specs/Search.antt says what an entry is.
 ghost use mathlib.Core.Path.{_≡_};
 ghost use Prim.Native.Nat.{ℕ, _+_, _*_, _/_, _%_, _^_, _≤_, _<_};
 ghost use lib.Bits.{bitXor};
 ghost use lib.ListN.{length, getD};
 ghost use Rattle.outer.specs.Search.{rowOf, Entry, later, grown, settings, entry, spread, Spans, Walkable};
+use numerals::wide;
 
 // The rows of the matrix A as numbers: the words that one bit alone makes.
 fn rows() -> [u32; 32]
@@ -72,13 +73,6 @@ fn follow(words: &mut [u32; 9], sets: &mut [u32; 9], count: usize, t: u32, row: 
         sets[k] = set ^ where_set(ties, bit);
         k += 1;
     }
-}
-
-// A byte, widened.
-fn wide(x: u8) -> u32
-    ensures { λ r. ⌜ r ≡ x ⌝ }
-{
-    x as u32
 }
 
 // The entry of setting 0 and the directions one index later, by its code, and the number of directions.

@@ -1,7 +1,5 @@
-// What the programs read and print: numbers in an input (bytes.rt); on standard output words, numbers, bytes, bits. No contract can speak of output; what
-// is proved of printing is that every index is in range and every call returns. Relies on crate io and polar::values::magnitude.
-pub mod bytes;
-
+// What the programs print on standard output: words, numbers, bytes, bits. No contract can speak of output; what is proved is that every index is in
+// range and every call returns. Relies on crate io and polar::values::magnitude.
 use libc::STDOUT_FILENO;
 use polar::values::magnitude;
 ghost use Prim.Native.Nat.{_+_, _≤_};

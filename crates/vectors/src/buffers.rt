@@ -1,6 +1,7 @@
 // Buffers: the part that a case uses, what it holds before the call, and its checksum after (reference/README.md, "Recorded cases").
-// Relies on stream.rt.
+// Relies on stream.rt and numerals::wide.
 use crate::stream::least;
+use numerals::wide;
 ghost use Prim.Native.Nat.{_<_};
 
 // The start of a buffer: `count` entries, or all that there are.
@@ -17,10 +18,6 @@ pub fn lend_numbers(buffer: &mut [i32], count: usize) -> &mut [i32] {
 pub fn lend_values(buffer: &mut [i16], count: usize) -> &mut [i16] {
     let n = least(count, buffer.len());
     &mut buffer[0..n]
-}
-
-fn wide(x: u8) -> u64 {
-    x as u64
 }
 
 fn wider(x: i16) -> i32 {
@@ -70,7 +67,7 @@ pub fn sum_bytes(buffer: &[u8]) -> u64 {
     let mut sum: u64 = 0;
     let mut i: usize = 0;
     while i < buffer.len() {
-        sum = added(sum, wide(buffer[i]));
+        sum = added(sum, wide(buffer[i]) as u64);
         i += 1;
     }
     sum

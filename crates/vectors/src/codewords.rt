@@ -1,4 +1,4 @@
-// The cases of encode, test and read data. Each reads its fields from the stream. Relies on stream.rt, buffers.rt, lines.rt and the crate coding.
+// The cases of encode, test and read data. Each reads its fields from the stream. Relies on stream.rt, buffers.rt, lines.rt and the crates coding and numerals.
 use crate::buffers::fill_bytes;
 use crate::buffers::lend_bytes;
 use crate::buffers::sum_bytes;
@@ -7,11 +7,11 @@ use crate::lines::end_line;
 use crate::lines::print_bits;
 use crate::lines::print_number;
 use crate::stream::next;
-use crate::stream::two;
 use codebook::outcome_number;
 use codebook::refusal_number;
 use codec::Tested;
 use libc::STDOUT_FILENO;
+use numerals::two;
 
 // N encode A WORD, the checksums of data and word
 fn encode_into(case: u64, book: &[u8], data: &[u8], word: &mut [u8]) {

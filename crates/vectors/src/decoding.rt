@@ -1,4 +1,4 @@
-// The cases of the decoding calls. Each reads its fields from the stream. Relies on stream.rt, buffers.rt, answers.rt and the crate decoder.
+// The cases of the decoding calls. Each reads its fields from the stream. Relies on stream.rt, buffers.rt, answers.rt and the crates decoder and numerals.
 use crate::answers::print_answer;
 use crate::answers::print_sums;
 use crate::answers::print_walk;
@@ -8,14 +8,15 @@ use crate::buffers::fill_numbers;
 use crate::buffers::lend_bytes;
 use crate::buffers::lend_numbers;
 use crate::buffers::lend_values;
-use crate::stream::four;
 use crate::stream::next;
 use crate::stream::next_values;
-use crate::stream::two;
 use codebook::outcome_number;
 use codec::HookRecord;
 use codec::Status;
 use machine::HookDecoded;
+use numerals::four;
+use numerals::two;
+use settings::Settings;
 
 // Which call it is, and L, D and T.
 pub struct Call {
@@ -74,15 +75,15 @@ fn decode(
     blocks: &mut [i32],
     score: &mut [i32],
 ) -> HookDecoded {
-    let visits = c.visits;
-    let paths = c.paths;
-    let limit = c.limit;
+    let settings = Settings {
+        visits: c.visits,
+        paths: c.paths,
+        limit: c.limit,
+    };
     if c.hook {
         return decoder::decode_hook(
             book,
-            visits,
-            paths,
-            limit,
+            settings,
             values,
             word,
             data,
@@ -95,9 +96,7 @@ fn decode(
     }
     let r = decoder::decode(
         book,
-        visits,
-        paths,
-        limit,
+        settings,
         values,
         word,
         data,

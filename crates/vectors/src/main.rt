@@ -1,6 +1,6 @@
 // Replays recorded cases of every call but load: reads a stream of operations on standard input (reference/README.md has its format) and prints what
-// each case answers and leaves in the lent buffers. The output is held to what the independent reference printed. Relies on the crates coding, decoder
-// and text.
+// each case answers and leaves in the lent buffers. The output is held to what the independent reference printed. Relies on the crates coding, decoder,
+// text and numerals.
 mod answers;
 mod buffers;
 mod codewords;
@@ -16,11 +16,10 @@ use crate::codewords::test_case;
 use crate::decoding::decode_case;
 use crate::records::make_case;
 use crate::records::record_case;
-use crate::stream::byte_at;
 use crate::stream::least;
 use crate::stream::next;
 use crate::stream::next_operation;
-use crate::stream::two;
+use numerals::two;
 ghost use mathlib.Core.Path.{_≡_};
 ghost use lib.ListN.{length};
 
@@ -39,7 +38,7 @@ fn patch(book: &mut [u8]) {
     next(&mut fields);
     let at = two(&fields, 0) as usize;
     if at < book.len() {
-        book[at] = byte_at(&fields, 2);
+        book[at] = fields[2];
     }
 }
 

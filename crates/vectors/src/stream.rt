@@ -1,6 +1,7 @@
 // The recorded stream on standard input: bytes, numbers and soft values. All numbers are big-endian. What lies past the stream's end is not
-// read, so that a buffer keeps its zeros there. Relies on the crate io.
+// read, so that a buffer keeps its zeros there. Relies on the crates io and numerals.
 use libc::STDIN_FILENO;
+use numerals::two;
 ghost use Prim.Native.Nat.{_<_, _≤_};
 
 // The lesser of two.
@@ -20,37 +21,6 @@ pub fn next_operation() -> u8 {
     let mut byte = [0u8; 1];
     next(&mut byte);
     byte[0]
-}
-
-// A byte of a slice; 0 past its end.
-pub fn byte_at(s: &[u8], at: usize) -> u8 {
-    if at < s.len() { s[at] } else { 0 }
-}
-
-fn wide(x: u8) -> u32
-    ensures { λ r. ⌜ r < 256 ⌝ }
-{
-    x as u32
-}
-
-// The number that one, two or four bytes make.
-pub fn one(s: &[u8], at: usize) -> u32
-    ensures { λ r. ⌜ r < 256 ⌝ }
-{
-    wide(byte_at(s, at))
-}
-
-pub fn two(s: &[u8], at: usize) -> u32
-    requires { ⌜ at < 4096 ⌝ }
-    ensures { λ r. ⌜ r < 65536 ⌝ }
-{
-    256 * one(s, at) + one(s, at + 1)
-}
-
-pub fn four(s: &[u8], at: usize) -> u32
-    requires { ⌜ at < 64 ⌝ }
-{
-    65536 * two(s, at) + two(s, at + 2)
 }
 
 // A number of 16 bits as two's complement.

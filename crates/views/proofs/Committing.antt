@@ -10,12 +10,12 @@ use Rattle.laws.specs.Lists.{All}
 use Rattle.polar.specs.Bits.{Bit}
 use Rattle.polar.specs.Layers.{part, overAt}
 use Rattle.reader.specs.Arrays.{View, sumsOf, putSums, joined}
-use Rattle.sharing.specs.Sharing.{idAt}
+use Rattle.sharing.specs.Sharing.{idAt, HasRow}
 use Rattle.heights.specs.Workspace.{spot, Room, Id, bitsOf}
 use Rattle.heights.proofs.Over.{part-over}
 use Rattle.heights.proofs.Spots.{spot-room}
 use Rattle.heights.proofs.Words.{bits-length}
-use Rattle.standing.specs.Seen.{Memory, memory, Lent, Seen}
+use Rattle.standing.specs.Seen.{Memory, memory, HasArrays, Seen}
 use Rattle.views.specs.Steps.{Joinable, Joined}
 use Rattle.views.proofs.Seeing.{Took, took-other, seen-some, seen-sums, seen-put-sums}
 use Rattle.views.proofs.Inside.{joined-on, over-joined, joined-apart, joined-parts}
@@ -44,7 +44,7 @@ module _ {m N h i j : ℕ} (g : h ≤ m) (d : Id N i) (a : j ≤ h) (old : List 
 
 -- ---- what the path sees
 
-module _ {m N s h j r : ℕ} {x : Memory} {rows′ holders′ : List ℕ} {others : List (ℕ → ℕ)} {v : View} (lent : Lent m N x) (l : h ≤ m)
+module _ {m N s h j r : ℕ} {x : Memory} {rows′ holders′ : List ℕ} {others : List (ℕ → ℕ)} {v : View} (has : HasArrays m N x) (l : h ≤ m)
     (t : Took N s h (x .rows) (x .holders) rows′ holders′ r) (new : List ℕ) (p : Joined m h r (x .bytes) new)
     (seen : Seen m N s x others v) (met : Joinable j h v) where
   -- the arrays of the lower heights
@@ -55,7 +55,7 @@ module _ {m N s h j r : ℕ} {x : Memory} {rows′ holders′ : List ℕ} {other
   lower-sums : (k : ℕ) → j ≤ k → k < h → part (spot m (idAt rows′ s k) k) (2 ^ k) new ≡ sumsOf v k
   unfolding Joinable
   lower-sums k a b =
-      joined-apart l (t .id) (x .bytes) new (lent .bytes) p (omega arith) (lower-id k a b) (λ e. omega arith)
+      joined-apart l (t .id) (x .bytes) new (has .bytes) p (omega arith) (lower-id k a b) (λ e. omega arith)
       ∙ ap (λ i. part (spot m i k) (2 ^ k) (x .bytes)) (took-other t (λ e. omega arith))
       ∙ seen-sums seen (omega arith) (met k a b .0)
 
@@ -64,12 +64,12 @@ module _ {m N s h j r : ℕ} {x : Memory} {rows′ holders′ : List ℕ} {other
   lower-bits k a b = subst (All Bit) (sym (lower-sums k a b)) (met k a b .1)
 
   -- the joined word in the array taken
-  pub seen-commit : s < N → j ≤ h → (w : List ℕ) {w′ : List ℕ} (last : List ℕ) → Joined m h r new last →
+  pub seen-commit : HasRow s (x .rows) → j ≤ h → (w : List ℕ) {w′ : List ℕ} (last : List ℕ) → Joined m h r new last →
       part (spot m r h) (2 ^ h) last ≡ joined (λ k. part (spot m (idAt rows′ s k) k) (2 ^ k) new) j (h - j) w′ → w′ ≡ w →
       Seen m N s (memory rows′ holders′ (x .numbers) last) others (putSums others h (joined (sumsOf v) j (h - j) w) v)
   seen-commit b a w {w′} last q e f =
-      seen-put-sums seen lent b l t last (joined (sumsOf v) j (h - j) w)
-      (joined-parts l (t .id) (x .bytes) last (lent .bytes) (joined-on (x .bytes) new p q) (v .arrays .sums) (seen .sums)
+      seen-put-sums seen has b l t last (joined (sumsOf v) j (h - j) w)
+      (joined-parts l (t .id) (x .bytes) last (has .bytes) (joined-on (x .bytes) new p q) (v .arrays .sums) (seen .sums)
       (e
       ∙ joined-same (λ k. part (spot m (idAt rows′ s k) k) (2 ^ k) new) (sumsOf v) j (h - j) w′ (λ k c d. lower-sums k c (omega arith))
       ∙ ap (joined (sumsOf v) j (h - j)) f))

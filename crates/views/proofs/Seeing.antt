@@ -3,7 +3,7 @@
 use mathlib.Core.Path.{_≡_, refl, sym, ap, _∙_, subst, subst₂, fun-ext}
 use mathlib.Core.Bool.{Bool, true, false, cond}
 use mathlib.Core.List.{List, _∷_}
-use Prim.Native.Nat.{ℕ, _+_, _*_, _^_, _≤_, _<_}
+use Prim.Native.Nat.{ℕ, _+_, _*_, _^_, _≤_}
 use native.Mathlib.Omega.{arith}
 use lib.ListN.{length, getD, set, length-map, length-set}
 use lib.IntN.{ℤ}
@@ -14,10 +14,10 @@ use Rattle.codec.specs.Ties.{times}
 use Rattle.polar.specs.Layers.{part}
 use Rattle.reader.specs.Arrays.{View, valsOf, sumsOf, upd, store, ownOf, writes, putVals, putSums, takeArray}
 use Rattle.reader.proofs.Upd.{upd-self}
-use Rattle.sharing.specs.Sharing.{idAt, heldAt, Held, Shared, Exchanged, HasIds}
+use Rattle.sharing.specs.Sharing.{idAt, heldAt, Held, HasRow, Shared, Exchanged, HasIds}
 use Rattle.sharing.proofs.Counting.{idsAt, counted-first, counted-take, has-take}
 use Rattle.heights.specs.Workspace.{spot, Room, Id, Parts}
-use Rattle.standing.specs.Seen.{Memory, memory, Lent, Seen, IdsOnly}
+use Rattle.standing.specs.Seen.{Memory, memory, HasArrays, Seen, IdsOnly}
 
 -- what `take` did: the slot's id of height h is r now, and the holders are counted so
 pub record Took (N s h : ℕ) (rows holders rows′ holders′ : List ℕ) (r : ℕ) : Type 0 where
@@ -43,24 +43,25 @@ took-other {s = s} {h} {r} {rows} t {k} n = ap (λ l. getD l (s * 16 + k) 0) (t 
 
 -- ---- memory
 
--- it is as large after a step
-pub lent-on : {m N s h r : ℕ} {x : Memory} {rows′ holders′ : List ℕ} (numbers′ : List ℤ) (bytes′ : List ℕ) → Lent m N x →
-    Took N s h (x .rows) (x .holders) rows′ holders′ r → length numbers′ ≡ length (x .numbers) → length bytes′ ≡ length (x .bytes) → Lent m N (memory rows′ holders′ numbers′ bytes′)
+-- it has as many arrays after a step
+pub has-on : {m N s h r : ℕ} {x : Memory} {rows′ holders′ : List ℕ} (numbers′ : List ℤ) (bytes′ : List ℕ) → HasArrays m N x →
+    Took N s h (x .rows) (x .holders) rows′ holders′ r → length numbers′ ≡ length (x .numbers) → length bytes′ ≡ length (x .bytes) → HasArrays m N (memory rows′ holders′ numbers′ bytes′)
 unfolding memory Room
-lent-on {s = s} {h} {r} {x} numbers′ bytes′ lent t a b =
-    record { deep = lent .deep; many = lent .many; rows = omega (arith, lent .rows, ap length (t .stored), length-set (x .rows) (s * 16 + h) r); held = t .held; numbers = omega (arith, lent .numbers); bytes = omega (arith, lent .bytes) }
+has-on numbers′ bytes′ has t a b =
+    record { deep = has .deep; many = has .many; held = t .held; numbers = omega (arith, has .numbers); bytes = omega (arith, has .bytes) }
 
 -- a store at one height
 pub ids-only : {m s h : ℕ} (r : ℕ) (rows : List ℕ) {rows′ : List ℕ} → h ≤ m → rows′ ≡ set rows (s * 16 + h) r → IdsOnly m s rows rows′
 ids-only {m} {s} {h} r rows l e =
     record {
+      size = ap length e ∙ length-set rows (s * 16 + h) r;
       before = λ k b. rw e (getD-set-other rows (s * 16 + h) k r 0 (λ q. omega arith));
       after = λ k b. rw e (getD-set-other rows (s * 16 + h) k r 0 (λ q. omega arith));
     }
 
 -- two steps
 pub ids-on : {m s : ℕ} (a b : List ℕ) {d : List ℕ} → IdsOnly m s a b → IdsOnly m s b d → IdsOnly m s a d
-ids-on a b p q = record { before = λ k l. q .before k l ∙ p .before k l; after = λ k l. q .after k l ∙ p .after k l }
+ids-on a b p q = record { size = q .size ∙ p .size; before = λ k l. q .before k l ∙ p .before k l; after = λ k l. q .after k l ∙ p .after k l }
 
 -- an array stored as it is
 pub store-self : {A : Type 0} (f : ℕ → ℕ → A) (h i : ℕ) → store f h i (f h i) ≡ f
@@ -107,7 +108,7 @@ module _ {m N s : ℕ} {x : Memory} {others : List (ℕ → ℕ)} {v : View} (se
 
   -- ---- after it
 
-  module _ {h r : ℕ} {rows′ holders′ : List ℕ} (lent : Lent m N x) (b : s < N) (l : h ≤ m) (t : Took N s h (x .rows) (x .holders) rows′ holders′ r) where
+  module _ {h r : ℕ} {rows′ holders′ : List ℕ} (has : HasArrays m N x) (b : HasRow s (x .rows)) (l : h ≤ m) (t : Took N s h (x .rows) (x .holders) rows′ holders′ r) where
     -- the array is the one that the definition chooses
     take-writes : r ≡ writes others h v
     unfolding writes
@@ -129,10 +130,10 @@ module _ {m N s : ℕ} {x : Memory} {others : List (ℕ → ℕ)} {v : View} (se
         record {
           ids =
               subst (λ w. HasIds m w s (upd (v .ids) h (writes others h v))) (sym (t .stored ∙ ap (set (x .rows) (s * 16 + h)) e))
-              (has-take m (x .rows) s (v .ids) h (writes others h v) (seen .ids) l (lent .deep) (omega (arith, lent .rows)));
+              (has-take m (x .rows) s (v .ids) h (writes others h v) (seen .ids) l (has .deep) (b .1));
           low = subst (λ i. (g : ℕ) → g ≤ m → upd (v .ids) h i g ≤ N) e still-low;
           counted =
-              counted-take m N (x .holders) holders′ (v .ids) others h (writes others h v) (seen .counted) l (lent .deep) (lent .many)
+              counted-take m N (x .holders) holders′ (v .ids) others h (writes others h v) (seen .counted) l (has .deep) (has .many)
               (subst₂ (λ i k. Exchanged h i k (x .holders) holders′) (seen-id l) e (t .exchanged));
           few = seen .few;
           vals = seen .vals;

@@ -1,8 +1,8 @@
 // Replays recorded inputs of program `walk`: reads a stream of operations on standard input (reference/README.md has its format), and prints for each case
-// the listing that `walk` prints. The output is held to what the independent reference printed. Relies on crates listing and text.
+// the listing that `walk` prints. The output is held to what the independent reference printed. Relies on crates listing, text and numerals.
 use libc::STDIN_FILENO;
 use listing::list;
-use text::bytes::four;
+use numerals::four;
 use text::print_number;
 use text::print_words;
 ghost use Prim.Native.Nat.{_+_, _<_, _≤_};

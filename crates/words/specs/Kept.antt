@@ -18,9 +18,9 @@ use Rattle.order.specs.Entries.{keyAt, slotAt}
 
 -- ---- the table
 
--- the table has four cells for each of the first N slots
+-- the table has four cells for each of the first D slots
 abbrev pub Cells : ℕ → List ℕ → Type 0
-Cells N kept = N * 4 ≤ length kept
+Cells D kept = D * 4 ≤ length kept
 
 -- it has them for slot s, which is one of the 256 that there may be
 abbrev pub HasCells : ℕ → List ℕ → Type 0

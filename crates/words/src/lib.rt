@@ -1,4 +1,4 @@
-// The words of a path's block, found from what its row and the workspace hold; its score; and its row written.
+// The words of a path's block, found from what its row and the workspace hold; and its score.
 ghost use mathlib.Core.Path.{_≡_};
 ghost use mathlib.Core.Option.{some};
 ghost use Prim.Native.Nat.{ℕ, suc, _+_, _^_, _≤_, _<_};
@@ -15,7 +15,7 @@ ghost use Rattle.reader.specs.Paths.{Path, ownWord};
 ghost use Rattle.order.specs.Entries.{slotAt};
 ghost use Rattle.sharing.specs.Sharing.{idAt, HasRow};
 ghost use Rattle.heights.specs.Workspace.{spot, Id};
-ghost use Rattle.standing.specs.Standing.{cell, Row, PutRow};
+ghost use Rattle.standing.specs.Standing.{cell, costAt, paritiesAt, Row};
 ghost use Rattle.words.specs.Kept.{HasCells, Keeps};
 use crate::kept::recall;
 use heights::arrays::spot_of;
@@ -24,6 +24,11 @@ use outer::Next;
 use outer::Pair;
 use search::find::nearest_pair;
 use search::find::next_after;
+use standing::row::cost_of;
+use standing::row::earlier_of;
+use standing::row::id_of;
+use standing::row::parities_of;
+use standing::row::word_of;
 
 pub mod kept;
 
@@ -43,27 +48,6 @@ pub fn score(spent: u32, cost: u32, bias: i32) -> i32
     0 - (spent + cost) as i32 - bias
 }
 
-// Writes what a path spent, the cost and the word of its last block, and the parities before and after that block.
-pub fn put(
-    rows: &mut [u32],
-    slot: usize,
-    spent: u32,
-    cost: u32,
-    word: u32,
-    earlier: u32,
-    parities: u32,
-)
-    requires { ⌜ HasRow slot (now rows) ⌝ }
-    ensures { λ _. ⌜ PutRow slot (now (rows .entry)) (now (rows .exit)) spent cost word earlier parities ⌝ }
-{
-    let at = slot * 16;
-    rows[at + 10] = spent;
-    rows[at + 11] = cost;
-    rows[at + 12] = word;
-    rows[at + 13] = earlier;
-    rows[at + 14] = parities;
-}
-
 // The nearest word of the block `at`, after the parities of the path in a slot, and the next after it.
 pub fn nearest_words(
     rows: &[u32],
@@ -81,16 +65,15 @@ pub fn nearest_words(
     requires { ⌜ (length (now words) ≡ 256) × (length (now sums) ≡ 128) ⌝ }
     ensures { λ _. ⌜ (length (now (words .exit)) ≡ 256) × (length (now (sums .exit)) ≡ 128) ⌝ }
     ensures { λ r. ⌜ ((B : Book) (b : ℕ) (x : Parities) → BlockTabled B b (now (kinds .entry)) (now (terms .entry)) (at .start) (at .height)
-        → Bits x → cell (now (rows .entry)) slot 14 ≡ paritySet B x
+        → Bits x → cell (now (rows .entry)) slot paritiesAt ≡ paritySet B x
         → (let vs = part (spot m (idAt (now (rows .entry)) slot (at .height)) (at .height)) (2 ^ (at .height)) (now (numbers .entry)) in
         (r .first ≡ candidateOf B (W.nearest B vs x b))
         × ((w : Word) → W.nearest B vs x b ≡ some w → r .second ≡ candidateOf B (W.nextAfter w B vs x b)))) ⌝ }
 {
     let j = at.height;
     let start = at.start;
-    let id = rows[slot * 16 + j] as usize;
-    let from = spot_of(m, id, j);
-    let parities = rows[slot * 16 + 14];
+    let from = spot_of(m, id_of(rows, slot, j), j);
+    let parities = parities_of(rows, slot);
     nearest_pair(
         numbers,
         from,
@@ -119,7 +102,7 @@ pub fn next_word(
 ) -> Next
     requires { ⌜ HasRow slot (now rows) × (m ≤ 9) × (last .height ≤ m) × Id 256 (idAt (now rows) slot (last .height)) ⌝ }
     requires { ⌜ Searchable (now numbers) (spot m (idAt (now rows) slot (last .height)) (last .height)) (now kinds) (last .start) (last .height) ⌝ }
-    requires { ⌜ Scratch (now words) (now sets) (now sums) × (cell (now rows) slot 11 < 4294967295) ⌝ }
+    requires { ⌜ Scratch (now words) (now sets) (now sums) × (cell (now rows) slot costAt < 4294967295) ⌝ }
     ensures { λ _. ⌜ Scratch (now (words .exit)) (now (sets .exit)) (now (sums .exit)) ⌝ }
     ensures { λ r. ⌜ ((B : Book) (b : ℕ) (p : Path) → BlockTabled B b (now (kinds .entry)) (now (terms .entry)) (last .start) (last .height)
         → Bits (p .earlier) → Row B (now (rows .entry)) slot p → p .blocks ≡ suc b
@@ -128,11 +111,10 @@ pub fn next_word(
 {
     let j = last.height;
     let start = last.start;
-    let id = rows[slot * 16 + j] as usize;
-    let from = spot_of(m, id, j);
-    let earlier = rows[slot * 16 + 13];
-    let cost = rows[slot * 16 + 11];
-    let number = rows[slot * 16 + 12];
+    let from = spot_of(m, id_of(rows, slot, j), j);
+    let earlier = earlier_of(rows, slot);
+    let cost = cost_of(rows, slot);
+    let number = word_of(rows, slot);
     next_after(
         numbers,
         from,
@@ -165,7 +147,7 @@ pub fn other_word(
 ) -> Next
     requires { ⌜ HasRow (slotAt e) (now rows) × (m ≤ 9) × (last .height ≤ m) × Id 256 (idAt (now rows) (slotAt e) (last .height)) × HasCells (slotAt e) (now kept) ⌝ }
     requires { ⌜ Searchable (now numbers) (spot m (idAt (now rows) (slotAt e) (last .height)) (last .height)) (now kinds) (last .start) (last .height) ⌝ }
-    requires { ⌜ Scratch (now words) (now sets) (now sums) × (cell (now rows) (slotAt e) 11 < 4294967295) ⌝ }
+    requires { ⌜ Scratch (now words) (now sets) (now sums) × (cell (now rows) (slotAt e) costAt < 4294967295) ⌝ }
     ensures { λ _. ⌜ Scratch (now (words .exit)) (now (sets .exit)) (now (sums .exit)) ⌝ }
     ensures { λ r. ⌜ ((B : Book) (b : ℕ) (p : Path) → BlockTabled B b (now (kinds .entry)) (now (terms .entry)) (last .start) (last .height)
         → Bits (p .earlier) → Row B (now (rows .entry)) (slotAt e) p → p .blocks ≡ suc b

@@ -17,7 +17,7 @@ use Rattle.codec.specs.Code.{fill, encode}
 use Rattle.codec.specs.Tabled.{Tabled}
 use Rattle.codec.proofs.Fill.{fill-after}
 use Rattle.codec.proofs.Numbers.{encode-number}
-use Rattle.coding.proofs.Told.{Known, sizes-refused, sizes-known, both-fit, are-bits, told, encode-refused, encode-mismatch, encode-bad, encode-good}
+use Rattle.coding.proofs.Told.{Known, shape-refused, shape-known, both-fit, are-bits, told, encode-refused, encode-mismatch, encode-bad, encode-good}
 use Rattle.coding.proofs.encode.Statement.{statement}
 use Rattle.coding.proofs.encode.Tie as tie
 
@@ -29,7 +29,7 @@ start l = l .before .before .before .before .before .before
 known : (t : tie.After-enum-told) → let x = t .before .before .load-kinds .result in Known (start (t .before .before) .args .book .now) (x .m) (x .n) (x .k)
 known t =
     let l = t .before .before in
-    sizes-known (start l .args .book .now) (l .load-kinds .result) (l .load-kinds .ensures .0) (t .enum-told .given .1)
+    shape-known (start l .args .book .now) (l .load-kinds .result) (l .load-kinds .ensures .0) (t .enum-told .given .1)
 
 fits : (t : tie.After-both-fit) → let B = known (t .before) .is in
     let a = start (t .before .before .before) .args in
@@ -71,7 +71,7 @@ returns c =
     let a = start l .args in
     let o = c .before .outcome .given in
     told _ (a .word .now) (encode-number (a .book .now) (a .bits .now) (a .word .now))
-    (encode-refused (a .book .now) (a .bits .now) (a .word .now) (o .0 .0) (sizes-refused (a .book .now) (l .load-kinds .result) (o .0 .0) (l .load-kinds .ensures .0) (o .1)))
+    (encode-refused (a .book .now) (a .bits .now) (a .word .now) (o .0 .0) (shape-refused (a .book .now) (l .load-kinds .result) (o .0 .0) (l .load-kinds .ensures .0) (o .1)))
 
 enum-told : tie.Need-enum-told
 enum-told c = search needs

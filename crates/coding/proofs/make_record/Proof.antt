@@ -9,7 +9,7 @@ use Rattle.codebook.specs.declared.Outcome.the-variants.{Done}
 use Rattle.codebook.specs.Book.{Book, freeCount}
 use Rattle.codebook.specs.Loading.{load, loaded}
 use Rattle.codec.proofs.Numbers.{make-record-number}
-use Rattle.coding.proofs.Told.{shape-refused, shape-known, both-fit, told, make-refused, make-mismatch, make-bad, make-good}
+use Rattle.coding.proofs.Told.{Known, shape-refused, shape-known, both-fit, told, make-refused, make-mismatch, make-bad, make-good}
 use Rattle.coding.proofs.make_record.Statement.{statement}
 use Rattle.coding.proofs.make_record.Tie as tie
 
@@ -19,21 +19,21 @@ start l = l .before .before .before
 
 -- the book that is loaded, and its test of the length
 known : (t : tie.After-enum-told) → let l = t .before .before in
-    (B : Book) × (load (start l .args .book .now) ≡ loaded B) × (l .load .result .k ≡ freeCount (B .kinds))
+    Known (start l .args .book .now) (l .load .result .m) (l .load .result .n) (l .load .result .k)
 known t =
     let l = t .before .before in
     shape-known (start l .args .book .now) (l .load .result) (l .load .ensures .0) (t .enum-told .given .1)
 
-fits : (t : tie.After-both-fit) → let k = freeCount (known (t .before .before) .0 .kinds) in
+fits : (t : tie.After-both-fit) → let k = freeCount (known (t .before .before) .is .kinds) in
     t .both-fit .result ≡ (eqb k 32 && eqb (length (start (t .before .before .before .before) .args .bits .now)) k)
 fits t =
-    t .both-fit .ensures ∙ ap (λ k. eqb k 32 && eqb (length (start (t .before .before .before .before) .args .bits .now)) k) (known (t .before .before) .2)
+    t .both-fit .ensures ∙ ap (λ k. eqb k 32 && eqb (length (start (t .before .before .before .before) .args .bits .now)) k) (known (t .before .before) .free)
 
 -- where the test is passed there are 32 bits
 holds : (e : tie.Else1) → length (start (e .before .before .before .before .before) .args .bits .now) ≡ 32
 holds e =
     let t = e .before in
-    let k = freeCount (known (t .before .before) .0 .kinds) in
+    let k = freeCount (known (t .before .before) .is .kinds) in
     let f = both-fit k 32 _ k (sym (fits t) ∙ not-false _ (e .if1 .left)) in
     f .1 ∙ f .0
 
@@ -64,7 +64,7 @@ returns-2 c =
     let t = c .before in
     let K = known (t .before .before) in
     let a = start (t .before .before .before .before) .args in
-    told _ (a .bits .now) (make-record-number (a .book .now) (a .h) (a .bits .now)) (make-mismatch (a .book .now) (a .bits .now) (K .0) (K .1) (fits t) (a .h) (not-true _ (c .if1 .taken)))
+    told _ (a .bits .now) (make-record-number (a .book .now) (a .h) (a .bits .now)) (make-mismatch (a .book .now) (a .bits .now) (K .is) (K .loads) (fits t) (a .h) (not-true _ (c .if1 .taken)))
 
 record-fits-requires : tie.Need-record-fits-requires
 record-fits-requires c κs = search needs
@@ -76,7 +76,7 @@ returns-3 c =
     let K = known (t .before .before) in
     let a = start (t .before .before .before .before) .args in
     told _ (a .bits .now) (make-record-number (a .book .now) (a .h) (a .bits .now))
-    (make-bad (a .book .now) (a .bits .now) (K .0) (K .1) (fits t) (a .h) (not-false _ (b .before .if1 .left)) (sym (b .record-fits .ensures) ∙ not-true _ (c .if2 .taken)))
+    (make-bad (a .book .now) (a .bits .now) (K .is) (K .loads) (fits t) (a .h) (not-false _ (b .before .if1 .left)) (sym (b .record-fits .ensures) ∙ not-true _ (c .if2 .taken)))
 
 put-record-requires : tie.Need-put-record-requires
 put-record-requires c κs = holds (c .before .before .before)
@@ -93,7 +93,7 @@ returns-4 c =
     let K = known (t .before .before) in
     let a = start (t .before .before .before .before) .args in
     told Done (x .put-record .last .0) (make-record-number (a .book .now) (a .h) (a .bits .now))
-    (make-good (a .book .now) (a .bits .now) (K .0) (K .1) (fits t) (a .h) (not-false _ (b .before .if1 .left)) (sym (b .record-fits .ensures) ∙ not-false _ (q .if2 .left))
+    (make-good (a .book .now) (a .bits .now) (K .is) (K .loads) (fits t) (a .h) (not-false _ (b .before .if1 .left)) (sym (b .record-fits .ensures) ∙ not-false _ (q .if2 .left))
     ∙ ap (λ v. record { outcome = Done; buffer = v }) (sym (x .put-record .ensures)))
 
 pub make-record-spec : {M : Type 1} → statement M

@@ -15,7 +15,7 @@ use Rattle.codebook.specs.Book.{freeCount}
 use Rattle.codec.specs.Code.{freeBits, readData}
 use Rattle.codec.specs.Tabled.{Tabled}
 use Rattle.codec.proofs.Numbers.{read-data-number}
-use Rattle.coding.proofs.Told.{Known, known-small, sizes-refused, sizes-known, zeros-part, both-fit, are-bits, told, read-refused, read-mismatch, read-bad, read-good}
+use Rattle.coding.proofs.Told.{Known, known-small, shape-refused, shape-known, zeros-part, both-fit, are-bits, told, read-refused, read-mismatch, read-bad, read-good}
 use Rattle.coding.proofs.read_data.Statement.{statement}
 use Rattle.coding.proofs.read_data.Tie as tie
 
@@ -27,7 +27,7 @@ start l = l .before .before .before .before .before .before
 known : (t : tie.After-enum-told) → let x = t .before .before .load-kinds .result in Known (start (t .before .before) .args .book .now) (x .m) (x .n) (x .k)
 known t =
     let l = t .before .before in
-    sizes-known (start l .args .book .now) (l .load-kinds .result) (l .load-kinds .ensures .0) (t .enum-told .given .1)
+    shape-known (start l .args .book .now) (l .load-kinds .result) (l .load-kinds .ensures .0) (t .enum-told .given .1)
 
 fits : (t : tie.After-both-fit) → let B = known (t .before) .is in
     let a = start (t .before .before .before) .args in
@@ -67,7 +67,7 @@ returns c =
     let a = start l .args in
     let o = c .before .outcome .given in
     told _ (a .bits .now) (read-data-number (a .book .now) (a .word .now) (a .bits .now))
-    (read-refused (a .book .now) (a .bits .now) (a .word .now) (o .0 .0) (sizes-refused (a .book .now) (l .load-kinds .result) (o .0 .0) (l .load-kinds .ensures .0) (o .1)))
+    (read-refused (a .book .now) (a .bits .now) (a .word .now) (o .0 .0) (shape-refused (a .book .now) (l .load-kinds .result) (o .0 .0) (l .load-kinds .ensures .0) (o .1)))
 
 enum-told : tie.Need-enum-told
 enum-told c = search needs

@@ -7,7 +7,7 @@ use lib.ListN.{length}
 use lib.Dec.{eqb}
 use Rattle.codebook.specs.Book.{Book, freeCount}
 use Rattle.codebook.specs.Loading.{load, loaded}
-use Rattle.coding.proofs.Told.{shape-refused, shape-known, both-fit, are-bits, record-told, record-refused, record-mismatch, record-bad, record-good}
+use Rattle.coding.proofs.Told.{Known, shape-refused, shape-known, both-fit, are-bits, record-told, record-refused, record-mismatch, record-bad, record-good}
 use Rattle.coding.proofs.read_record.Statement.{statement}
 use Rattle.coding.proofs.read_record.Tie as tie
 
@@ -17,21 +17,21 @@ start l = l .before .before .before
 
 -- the book that is loaded, and its test of the length
 known : (t : tie.After-enum-told) → let l = t .before .before in
-    (B : Book) × (load (start l .args .book .now) ≡ loaded B) × (l .load .result .k ≡ freeCount (B .kinds))
+    Known (start l .args .book .now) (l .load .result .m) (l .load .result .n) (l .load .result .k)
 known t =
     let l = t .before .before in
     shape-known (start l .args .book .now) (l .load .result) (l .load .ensures .0) (t .enum-told .given .1)
 
-fits : (t : tie.After-both-fit) → let k = freeCount (known (t .before .before) .0 .kinds) in
+fits : (t : tie.After-both-fit) → let k = freeCount (known (t .before .before) .is .kinds) in
     t .both-fit .result ≡ (eqb k 32 && eqb (length (start (t .before .before .before .before) .args .bits .now)) k)
 fits t =
-    t .both-fit .ensures ∙ ap (λ k. eqb k 32 && eqb (length (start (t .before .before .before .before) .args .bits .now)) k) (known (t .before .before) .2)
+    t .both-fit .ensures ∙ ap (λ k. eqb k 32 && eqb (length (start (t .before .before .before .before) .args .bits .now)) k) (known (t .before .before) .free)
 
 -- where the test is passed there are 32 bits
 holds : (e : tie.Else1) → length (start (e .before .before .before .before .before) .args .bits .now) ≡ 32
 holds e =
     let t = e .before in
-    let k = freeCount (known (t .before .before) .0 .kinds) in
+    let k = freeCount (known (t .before .before) .is .kinds) in
     let f = both-fit k 32 _ k (sym (fits t) ∙ not-false _ (e .if1 .left)) in
     f .1 ∙ f .0
 
@@ -74,7 +74,7 @@ returns-2 c =
     let t = c .before .before in
     let K = known (t .before .before) in
     let a = start (t .before .before .before .before) .args in
-    record-told (a .book .now) (a .bits .now) (c .not-read2 .ensures ∙ record-mismatch (a .book .now) (a .bits .now) (K .0) (K .1) (fits t) (not-true _ (c .before .if1 .taken)))
+    record-told (a .book .now) (a .bits .now) (c .not-read2 .ensures ∙ record-mismatch (a .book .now) (a .bits .now) (K .is) (K .loads) (fits t) (not-true _ (c .before .if1 .taken)))
 
 returns-3 : tie.Need-returns-3
 returns-3 c =
@@ -84,7 +84,7 @@ returns-3 c =
     let a = start (t .before .before .before .before) .args in
     record-told (a .book .now) (a .bits .now)
     (c .not-read3 .ensures
-    ∙ record-bad (a .book .now) (a .bits .now) (K .0) (K .1) (fits t) (not-false _ (b .before .if1 .left)) (sym (b .are-bits .ensures) ∙ not-true _ (c .before .if2 .taken)))
+    ∙ record-bad (a .book .now) (a .bits .now) (K .is) (K .loads) (fits t) (not-false _ (b .before .if1 .left)) (sym (b .are-bits .ensures) ∙ not-true _ (c .before .if2 .taken)))
 
 record-of-requires : tie.Need-record-of-requires
 record-of-requires c κs = (holds (c .before .before), are-bits _ (sym (c .before .are-bits .ensures) ∙ not-false _ (c .if2 .left)))
@@ -98,7 +98,7 @@ returns-4 c =
     let a = start (t .before .before .before .before) .args in
     record-told (a .book .now) (a .bits .now)
     (c .record-of .ensures
-    ∙ record-good (a .book .now) (a .bits .now) (K .0) (K .1) (fits t) (not-false _ (b .before .if1 .left)) (sym (b .are-bits .ensures) ∙ not-false _ (q .if2 .left)))
+    ∙ record-good (a .book .now) (a .bits .now) (K .is) (K .loads) (fits t) (not-false _ (b .before .if1 .left)) (sym (b .are-bits .ensures) ∙ not-false _ (q .if2 .left)))
 
 pub read-record-spec : {M : Type 1} → statement M
 read-record-spec =

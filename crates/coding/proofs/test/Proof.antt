@@ -12,7 +12,7 @@ use Rattle.codec.specs.declared.Tested.the-variants.{InCode, NotInCode}
 use Rattle.codec.specs.Code.{obeysAll, inCode}
 use Rattle.codec.specs.Tabled.{Tabled}
 use Rattle.codec.specs.Calls.{testCall}
-use Rattle.coding.proofs.Told.{Known, known-small, sizes-refused, sizes-known, zeros-part, are-bits, test-told, test-refused, test-mismatch, test-bad, test-good}
+use Rattle.coding.proofs.Told.{Known, known-small, shape-refused, shape-known, zeros-part, are-bits, test-told, test-refused, test-mismatch, test-bad, test-good}
 use Rattle.coding.proofs.test.Statement.{statement}
 use Rattle.coding.proofs.test.Tie as tie
 
@@ -24,7 +24,7 @@ start l = l .before .before .before .before .before
 known : (t : tie.After-enum-told) → let x = t .before .before .load-kinds .result in Known (start (t .before .before) .args .book .now) (x .m) (x .n) (x .k)
 known t =
     let l = t .before .before in
-    sizes-known (start l .args .book .now) (l .load-kinds .result) (l .load-kinds .ensures .0) (t .enum-told .given .1)
+    shape-known (start l .args .book .now) (l .load-kinds .result) (l .load-kinds .ensures .0) (t .enum-told .given .1)
 
 -- where the tests are passed: the tables hold the book's kinds, the length is right, and the word is of bits
 passed : (q : tie.Else2) → let l = q .before .before .before .before .before .before in
@@ -65,7 +65,7 @@ returns c =
     let a = start l .args in
     let o = c .before .outcome .given in
     test-told (a .book .now) (a .word .now)
-    (test-refused (a .book .now) (a .word .now) (o .0 .0) (sizes-refused (a .book .now) (l .load-kinds .result) (o .0 .0) (l .load-kinds .ensures .0) (o .1)))
+    (test-refused (a .book .now) (a .word .now) (o .0 .0) (shape-refused (a .book .now) (l .load-kinds .result) (o .0 .0) (l .load-kinds .ensures .0) (o .1)))
 
 enum-told : tie.Need-enum-told
 enum-told c = search needs

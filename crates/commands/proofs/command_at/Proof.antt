@@ -1,16 +1,23 @@
 -- `commands::command_at` meets its contract: arm by arm, the definition computes, and the operands are those read. Assumes nothing.
+use mathlib.Core.Path.{_≡_, ap, _∙_}
+use mathlib.Core.List.{List}
+use Prim.Native.Nat.{ℕ, _+_}
 use native.Mathlib.Omega.{arith}
-use lib.ListN.{drop}
-use lib.Seq.{take-take}
+use lib.ListN.{take, drop}
+use lib.Seq.{drop-drop, take-take}
 use mir.Syntax.{w32}
 use mir.ValLaws.{toZ-ofZ}
 use borrow.Author.Tests.{ne-eqb}
 use borrow.Author.Needs.{needs}
 use denote.Ref.{now}
+use Rattle.laws.proofs.Lists.{drop-take}
 use Rattle.codebook.specs.Loading.{width, command}
-use Rattle.commands.proofs.Bytes.{block-bias}
 use Rattle.commands.proofs.command_at.Statement.{statement}
 use Rattle.commands.proofs.command_at.Tie as tie
+
+-- the operands of a block command: a byte and four
+block-bias : (bytes : List ℕ) (at : ℕ) → drop 1 (take 5 (drop at bytes)) ≡ take 4 (drop (at + 1) bytes)
+block-bias bytes at = drop-take 1 5 (drop at bytes) ∙ ap (take 4) (drop-drop 1 at bytes)
 
 one-requires : tie.Need-one-requires
 unfolding width

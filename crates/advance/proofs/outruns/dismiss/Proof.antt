@@ -20,8 +20,8 @@ use Rattle.advance.proofs.outruns.dismiss.Tie as tie
 abbrev Inv-loop : tie.InvT-loop
 Inv-loop rows holders₀ order vacant₀ m paths queued b gone₀ i₀ holders vacant gone i =
     (i ≤ queued) × (gone ≤ i) × Held holders × (length vacant ≡ 256)
-    × ((numbers : List ℤ) (bytes : List ℕ) (c : Queued m paths (memory rows holders₀ numbers bytes) (queueOf order queued) (queueOf vacant₀ (paths - queued))) →
-    Passed (c .book) paths (memory rows holders numbers bytes) order (queueOf vacant (paths - queued + gone)) (c .arrays) (c .paths) b (queued - i) i gone)
+    × ((arrays : ℕ) (numbers : List ℤ) (bytes : List ℕ) (c : Queued m paths arrays (memory rows holders₀ numbers bytes) (queueOf order queued) (queueOf vacant₀ (paths - queued))) → arrays ≤ 256 →
+    Passed (c .book) paths arrays (memory rows holders numbers bytes) order (queueOf vacant (paths - queued + gone)) (c .arrays) (c .paths) b (queued - i) i gone)
 
 abbrev μ-loop : tie.MeasureT-loop
 μ-loop rows holders₀ order vacant₀ m paths queued b gone₀ i₀ holders vacant gone i = queued - i
@@ -35,7 +35,7 @@ loop-holds c =
       omega arith,
       s .1,
       s .3,
-      λ numbers bytes x. rw (z, sub-zero (a .queued)) (passed-none (a .order .now) (a .b) (a .queued) (x .stands)),
+      λ arrays numbers bytes x small. rw (z, sub-zero (a .queued)) (passed-none (a .order .now) (a .b) (a .queued) (x .stands)),
     )
 
 mul-e : tie.Need-mul-e Inv-loop μ-loop
@@ -56,15 +56,16 @@ release-requires c κs =
     let t = c .before .before .before .before .before .before in
     let a = t .before .before .args in
     let y = t .loop in
-    let x = t .before .before .pre .1 .2 in
+    let p = t .before .before .pre .1 in
+    let x = p .4 in
     let q : a .queued - y .i ≡ suc (a .queued - (y .i + 1)) = omega arith in
-    let passed = y .inv .4 (t .before .before .pre .1 .0) (t .before .before .pre .1 .1) x in
+    let passed = y .inv .4 (p .0) (p .2) (p .3) x (p .1) in
     let low = next-slot (a .queued - (y .i + 1)) q passed in
     let held = next-held (a .queued - (y .i + 1)) q passed in (
       (y .inv .2, t .before .before .pre .0 .4, (omega arith, omega (arith, low, c .before .slot-of .ensures .0))),
       λ h l.
           let k = held h (omega (arith, x .deep)) in
-          rw (c .before .slot-of .ensures .0) (omega (arith, k .0), k .1),
+          rw (c .before .slot-of .ensures .0) (omega (arith, k .0, p .1), k .1),
     )
 
 cast-vacant : tie.Need-cast-vacant Inv-loop μ-loop
@@ -109,9 +110,9 @@ loop-again c =
       omega arith,
       w .3 .ensures .0,
       simp length-set (y .inv .3),
-      λ numbers bytes x.
+      λ arrays numbers bytes x small.
           let less = rw (sym (x .deep), w .1 .ensures .0) at (w .3 .ensures .1) in
-          rw (put, w .1 .ensures .0) (passed-out n q (y .inv .4 numbers bytes x) (w .3 .last .1 .0) (omega arith) (omega (arith, e, w .0 .taken)) less),
+          rw (put, w .1 .ensures .0) (passed-out n q (y .inv .4 arrays numbers bytes x small) (w .3 .last .1 .0) (omega arith) (omega (arith, e, w .0 .taken)) less),
     ))
     (λ w.
     rw (w .1, w .2, w .3) (
@@ -119,7 +120,7 @@ loop-again c =
       omega arith,
       y .inv .2,
       y .inv .3,
-      λ numbers bytes x. passed-in n q (y .inv .4 numbers bytes x) (omega (arith, e, w .0 .left)),
+      λ arrays numbers bytes x small. passed-in n q (y .inv .4 arrays numbers bytes x small) (omega (arith, e, w .0 .left)),
     ))
     (c .if1 .came)
 
@@ -129,7 +130,7 @@ returns c =
     let a = t .before .before .args in
     let y = t .loop in (
       (y .inv .2, y .inv .3, omega arith),
-      λ numbers bytes x. passed-all (a .queued) (omega arith) (omega arith) (y .inv .4 numbers bytes x),
+      λ arrays numbers bytes x small. passed-all (a .queued) (omega arith) (omega arith) (y .inv .4 arrays numbers bytes x small),
     )
 
 pub dismiss-spec : {M : Type 1} → statement M

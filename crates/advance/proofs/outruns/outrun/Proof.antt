@@ -56,7 +56,7 @@ returns c =
         sym (stay-all keyAt (a .s .visits) (a .b) (visit (a .visits .now) (a .b)) entries (omega (arith, seen, c .if1 .taken)) .0),
       ),
       (
-        λ values bytes x.
+        λ arrays values bytes x small.
             let q = x .queued in
             let stay = stay-all (keyOf (q .book)) (a .s .visits) (a .b) (visit (a .visits .now) (a .b)) (q .paths) (omega (arith, seen, c .if1 .taken)) in
             let level : a .t .queued ≡ length (q .paths) = omega (arith, stands-length (q .stands), queue-length (a .t .queued) (a .order .now)) in
@@ -64,6 +64,9 @@ returns c =
         t .pre .1 .1 .1,
       ),
     )
+
+cast-paths : tie.Need-cast-paths
+cast-paths c = search needs
 
 cast-dismiss : tie.Need-cast-dismiss
 cast-dismiss c = search needs
@@ -85,12 +88,12 @@ add-t26 c = search needs
 
 returns-2 : tie.Need-returns-2
 returns-2 c =
-    let t = c .before .before .before .before .before .before .before .before .before .before .before in
+    let t = c .before .before .before .before .before .before .before .before .before .before .before .before in
     let a = t .args in
     let gone = c .before .before .before .dismiss in
     let left = c .before .sift in
     let seen = visit-same (a .visits .now) (a .b) (omega arith) in
-    let lth : getD (visit (a .visits .now) (a .b)) (a .b) 0 ≡ a .s .visits = omega (arith, seen, c .before .before .before .before .before .before .before .if1 .left) in
+    let lth : getD (visit (a .visits .now) (a .b)) (a .b) 0 ≡ a .s .visits = omega (arith, seen, c .before .before .before .before .before .before .before .before .if1 .left) in
     let entries = queueOf (a .order .now) (a .t .queued) in (
       (
         gone .ensures .0 .0,
@@ -104,9 +107,9 @@ returns-2 c =
         left .ensures .0 .2 ∙ sym (stay-ahead keyAt (a .s .visits) (a .b) (visit (a .visits .now) (a .b)) entries lth .0),
       ),
       (
-        λ values bytes x.
+        λ arrays values bytes x small.
             let q = x .queued in
-            let w = gone .ensures .1 values bytes q in
+            let w = gone .ensures .1 arrays values bytes q small in
             let stay =
             stay-ahead (keyOf (q .book)) (a .s .visits) (a .b) (visit (a .visits .now) (a .b)) (q .paths) lth in
             let level : length (q .paths) ≡ a .t .queued = omega (arith, stands-length (q .stands), queue-length (a .t .queued) (a .order .now)) in
@@ -135,6 +138,7 @@ outrun-spec =
     mul-visits
     element-write-visits
     returns
+    cast-paths
     cast-dismiss
     dismiss-requires
     cast-sift

@@ -1,67 +1,45 @@
--- `attempts::attempt::attempt` meets its contract: by the outcome of loading, then of the tests; else the run is judged, and what it leaves is the attempt's.
+-- `attempts::attempt::attempt` meets its contract: by the outcome of loading, then of the tests; else the run is made and decided on, and what it leaves is the call's.
 -- Assumes nothing.
-use mathlib.Core.Path.{_≡_, refl, sym, _∙_, subst}
-use mathlib.Core.Bool.{true}
-use mathlib.Core.Logic.{⊎-elim}
-use mathlib.Core.Option.{none}
+use mathlib.Core.Path.{_≡_, refl, sym, ap, ap₂, _∙_, subst}
+use mathlib.Core.Option.{none, some}
 use Prim.Native.Nat.{ℕ}
 use native.Mathlib.Omega.{arith}
 use lib.IntN.{ℤ, pos}
 use lib.ListN.{length, length-replicate}
 use borrow.Author.Needs.{needs}
-use Rattle.polar.specs.Layers.{part}
+use Rattle.codebook.specs.declared.Shape.{Shape}
 use Rattle.codebook.specs.Progress.{tables}
-use Rattle.coding.proofs.Told.{Known, known-small, sizes-refused, sizes-known}
-use Rattle.queue.specs.Queue.{Step, Final, Run}
-use Rattle.machine.specs.Calls.{Input, Lent, given, lent, barred, finalIn, within, walked}
+use Rattle.settings.specs.declared.Settings.{Settings}
+use Rattle.coding.proofs.Told.{shape-refused}
+use Rattle.machine.specs.declared.HookDecoded.{HookDecoded}
+use Rattle.machine.specs.Calls.{Input, Lent, given, lent, lengthsOf, firstFailed, testsBefore, barred, refusedCall, ranCall, Called, callBy}
+use Rattle.machine.proofs.Unbarred.{Free, nothing-bars}
+use Rattle.machine.proofs.Called.{call-refused, call-barred, call-ran}
 use Rattle.attempts.specs.Reading.{readerRun}
-use Rattle.attempts.specs.Attempt.{fitsFor, answerOf, Ready}
-use Rattle.attempts.proofs.Attempts.{yields-refused, yields-barred, yields-ran, yields-lent, reader-same}
-use Rattle.attempts.proofs.Judged.{ready-small, ready-free}
-use Rattle.attempts.proofs.Readied.{admission, admission-same, is-barred, not-barred, sized-same, fits-any, fits-record, known-blocks, known-few, load-long, ready}
-use Rattle.attempts.proofs.Unbarred.{Free, nothing-bars}
+use Rattle.attempts.specs.Attempt.{Ready}
+use Rattle.attempts.proofs.Readied.{Has, shape-has, has-small, has-few, load-long, ready, admitted-good, admitted-bad, barred-is}
 use Rattle.attempts.proofs.attempt.attempt.Statement.{statement}
 use Rattle.attempts.proofs.attempt.attempt.Tie as tie
 
 -- where the book is loaded, and where the call begins
 abbrev start : tie.After-load-tables → tie.Start
-start l = l .before .before .before .before .before .before .before .before .before .before .before .before
+start l = l .before .before .before .before .before .before .before .before .before .before
+
+abbrev loading : tie.After-enum-told → tie.After-load-tables
+loading t = t .before .before
 
 -- what the call is given and lent
 abbrev call : tie.Start → Input
-call s = let a = s .args in given (a .book .now) (a .visits) (a .paths) (a .limit) (a .values .now)
+call s = let a = s .args in given (a .book .now) (a .asked) (a .values .now)
 
 abbrev buffers : tie.Start → Lent
 buffers s = let a = s .args in lent (a .word .now) (a .bits .now) (a .numbers .now) (a .bytes .now) (a .walk-path .now) (a .walk-blocks .now) (a .walk-score .now)
 
 -- the book that is loaded
-abbrev loading : tie.After-enum-told → tie.After-load-tables
-loading t = t .before .before
-
-known : (t : tie.After-enum-told) → let x = loading t .load-tables .result in Known (start (loading t) .args .book .now) (x .m) (x .n) (x .k)
-known t =
+has : (t : tie.After-enum-told) → Has (start (loading t) .args .book .now) (loading t .load-tables .result)
+has t =
     let l = loading t in
-    sizes-known (start l .args .book .now) (l .load-tables .result) (l .load-tables .ensures .0) (t .enum-told .given .1)
-
-blocks : (t : tie.After-enum-told) → loading t .load-tables .result .blocks ≡ length (known t .is .blocks)
-blocks t = known-blocks (loading t .load-tables .result) (loading t .load-tables .ensures .0) (known t)
-
--- the tests are those of the call
-fits : (j : tie.Joined1) → j .if1 .admit ≡ fitsFor (start (loading (j .before)) .args .hook) (known (j .before) .is)
-fits j =
-    let t = j .before in
-    let hook = start (loading t) .args .hook in
-    let K = known t in
-    ⊎-elim (λ w. w .1 ∙ w .0 .taken ∙ fits-any hook (K .is) (w .0 .taken)) (λ w. w .1 ∙ fits-record hook (K .is) (loading t .load-tables .result .k) (w .0 .left) (K .free)) (j .if1 .came)
-
-tested : (m : tie.After-admit) → let t = m .before .before in
-    let s = start (loading t) in
-    m .admit .result ≡ admission (known t .is) (call s) (buffers s) (fitsFor (s .args .hook) (known t .is))
-tested m =
-    let t = m .before .before in
-    let s = start (loading t) in
-    let K = known t in
-    m .admit .ensures ∙ admission-same (K .is) (call s) (buffers s) (fitsFor (s .args .hook) (K .is)) (K .size) (K .free) (blocks t) (fits (m .before))
+    shape-has (start l .args .book .now) (l .load-tables .result) (l .load-tables .ensures .0) (t .enum-told .given .1)
 
 load-tables-requires : tie.Need-load-tables-requires
 load-tables-requires c κs = search needs
@@ -73,32 +51,23 @@ refused-requires : tie.Need-refused-requires
 refused-requires c κs = search needs
 
 returns : tie.Need-returns
+unfolding refusedCall
 returns c =
     let o = c .before .before in
     let l = o .before .before in
     let s = start l in
     let a = s .args in
     let r = o .outcome .given in
-    let e = sizes-refused (a .book .now) (l .load-tables .result) (r .0 .0) (l .load-tables .ensures .0) (r .1) in
-    yields-refused (a .hook) (call s) (buffers s) (r .0 .0) (c .refused .result) (a .found .now) (a .info .now) e (c .refused .ensures .0) (c .refused .ensures .1)
+    let e = call-refused readerRun (a .k) (call s) (buffers s) (r .0 .0) (shape-refused (a .book .now) (l .load-tables .result) (r .0 .0) (l .load-tables .ensures .0) (r .1)) in
+    (c .refused .ensures ∙ sym (ap (λ (w : Called HookDecoded). w .answer) e), sym (ap (λ (w : Called HookDecoded). w .lent) e))
 
 enum-told : tie.Need-enum-told
 enum-told c = search needs
 
-cast-admit : tie.Need-cast-admit
-cast-admit c = search needs
-
-cast-admit-2 : tie.Need-cast-admit-2
-cast-admit-2 c = search needs
-
-cast-admit-3 : tie.Need-cast-admit-3
-cast-admit-3 c = search needs
-
 admit-requires : tie.Need-admit-requires
 admit-requires c κs =
-    let t = c .before in
-    let l = loading t in
-    (known-small (known t), known-few (l .load-tables .result) (l .load-tables .ensures .0) (known t))
+    let l = loading c in
+    (has-small (start l .args .book .now) (l .load-tables .result) (has c), has-few (start l .args .book .now) (l .load-tables .result) (has c))
 
 enum-known-admitted : tie.Need-enum-known-admitted
 enum-known-admitted c = search needs
@@ -106,75 +75,87 @@ enum-known-admitted c = search needs
 refused-requires-2 : tie.Need-refused-requires-2
 refused-requires-2 c κs = search needs
 
-returns-2 : tie.Need-returns-2
-returns-2 c =
-    let o = c .before .before in
-    let m = o .before .before in
-    let t = m .before .before in
-    let s = start (loading t) in
+enum-known-admitted-2 : tie.Need-enum-known-admitted-2
+enum-known-admitted-2 c = search needs
+
+slice-aggregate-decide : tie.Need-slice-aggregate-decide
+slice-aggregate-decide c = search needs
+
+slice-aggregate-decide-2 : tie.Need-slice-aggregate-decide-2
+slice-aggregate-decide-2 c = search needs
+
+-- where the call is admitted: nothing bars it, and the settings are those asked
+abbrev tested : tie.After-admitted2 → tie.After-admit
+tested e = e .before .before
+
+good : (e : tie.After-admitted2) → let m = tested e in
+    let s = start (loading (m .before)) in
     let a = s .args in
-    let K = known t in
-    let r = o .admitted .given in
-    let b = is-barred (K .is) (call s) (buffers s) (fitsFor (a .hook) (K .is)) (r .0 .0) (sym (tested m) ∙ r .1) in
-    yields-barred (a .hook) (call s) (buffers s) (K .is) (K .loads) (r .0 .0) (c .refused2 .result) (a .found .now) (a .info .now) b (c .refused2 .ensures .0) (c .refused2 .ensures .1)
+    (firstFailed (testsBefore (a .k) (loading (m .before) .load-tables .result) (a .asked) (lengthsOf (call s) (buffers s)) (a .values .now)) ≡ none) × (e .admitted2 .given .0 .0 ≡ a .asked)
+good e =
+    let m = tested e in
+    let a = start (loading (m .before)) .args in
+    admitted-good _ (a .asked) (e .admitted2 .given .0 .0) (sym (m .admit .ensures) ∙ e .admitted2 .given .1)
 
-enum-told-2 : tie.Need-enum-told-2
-enum-told-2 c = search needs
-
--- nothing bars the call
-abbrev tests : tie.After-enum-told2 → tie.After-admit
-tests e = e .before .before
-
-clear : (e : tie.After-enum-told2) → let t = tests e .before .before in
-    let s = start (loading t) in
-    barred (known t .is) (call s) (buffers s) (fitsFor (s .args .hook) (known t .is)) ≡ none
-clear e =
-    let t = tests e .before .before in
-    let s = start (loading t) in
-    let g = e .enum-told2 .given in
-    not-barred (known t .is) (call s) (buffers s) (fitsFor (s .args .hook) (known t .is)) (g .0 .0) (sym (tested (tests e)) ∙ g .1)
-
-free : (e : tie.After-enum-told2) → let t = tests e .before .before in Free (known t .is) (call (start (loading t))) (buffers (start (loading t)))
+free : (e : tie.After-admitted2) → let m = tested e in
+    let s = start (loading (m .before)) in
+    let a = s .args in
+    Free (a .k) (loading (m .before) .load-tables .result) (e .admitted2 .given .0 .0) (lengthsOf (call s) (buffers s)) (a .values .now)
 free e =
-    let t = tests e .before .before in
-    let s = start (loading t) in
-    nothing-bars (known t .is) (call s) (buffers s) (fitsFor (s .args .hook) (known t .is)) (clear e)
+    let m = tested e in
+    let s = start (loading (m .before)) in
+    let a = s .args in
+    let x = loading (m .before) .load-tables .result in
+    subst (λ (z : Settings). Free (a .k) x z (lengthsOf (call s) (buffers s)) (a .values .now)) (sym (good e .1))
+    (nothing-bars (a .k) x (a .asked) (lengthsOf (call s) (buffers s)) (a .values .now) (good e .0))
 
 -- so the run has what it needs
-abbrev readied : (e : tie.After-enum-told2) → let l = loading (tests e .before .before) in
+abbrev readied : (e : tie.After-admitted2) → let l = loading (tested e .before) in
     let y = l .load-tables .last .1 in
     Ready (l .load-tables .result) (start l .args .values .now) (y .0) (y .1 .0) (y .1 .1 .0) (y .1 .1 .1 .0) (y .1 .1 .1 .1 .0)
 readied e =
-    let t = tests e .before .before in
+    let t = tested e .before in
     let l = loading t in
     let y = l .load-tables .last .1 in
-    let s = start l in
-    ready (call s) (buffers s) (l .load-tables .result) (l .load-tables .ensures .0) (known t) _
-    (tables (y .0) (y .1 .0) (y .1 .1 .0) (y .1 .1 .1 .0) (y .1 .1 .1 .1 .0)) (l .load-tables .ensures .1) (free e)
+    let a = start l .args in
+    ready (a .book .now) (a .values .now) (l .load-tables .result) (has t) _
+    (tables (y .0) (y .1 .0) (y .1 .1 .0) (y .1 .1 .1 .0) (y .1 .1 .1 .1 .0)) (l .load-tables .ensures .1) (free e .sized .values) (free e .valued)
 
 -- the tables as the loader leaves them
 long : (t : tie.After-enum-told) → let y = loading t .load-tables .last .1 .1 .1 in (length (y .0) ≡ 512) × (length (y .1 .0) ≡ 512) × (length (y .1 .1 .0) ≡ 512)
 long t =
     let l = loading t in
     let y = l .load-tables .last .1 in
-    load-long (start l .args .book .now) (known t .is) (known t .loads) _
+    load-long (start l .args .book .now) (has t .is) (has t .loads) _
     (tables (y .0) (y .1 .0) (y .1 .1 .0) (y .1 .1 .1 .0) (y .1 .1 .1 .1 .0)) (l .load-tables .ensures .1) (omega arith)
     (length-replicate {A = ℕ} 512 0) (length-replicate {A = ℕ} 512 0) (length-replicate {A = ℤ} 512 (pos 0))
 
-judge-requires : tie.Need-judge-requires
-judge-requires c κs =
-    let e = c .before .before .before .before .before .before .before .before .before .before .before .before in
-    let t = tests e .before .before in
-    let s = start (loading t) in
-    let K = known t in
+decide-requires : tie.Need-decide-requires
+decide-requires c κs =
+    let e = c .before .before .before .before .before .before .before .before .before .before .before .before .before .before .before in
+    let t = tested e .before in
     let f = free e in
-    let z = sized-same (K .is) (call s) (buffers s) (fitsFor (s .args .hook) (K .is)) (K .size) (K .free) (blocks t) f in (
-      (f .ranged .visited, f .ranged .visits, f .ranged .alive, f .ranged .paths),
+    let z = f .sized in (
+      (f .ranged, f .held, z .word, z .bits),
       (
-        (long t .0, long t .1, long t .2, s .pre .0, s .pre .1),
+        (long t .0, long t .1, long t .2, length-replicate {A = ℕ} 512 0, length-replicate {A = ℕ} 512 0),
         ((z .numbers, z .bytes), ((z .paths, z .blocks, z .scores), readied e)),
       ),
     )
+
+returns-2 : tie.Need-returns-2
+unfolding refusedCall
+returns-2 c =
+    let o = c .before .before in
+    let m = o .before .before in
+    let t = m .before in
+    let s = start (loading t) in
+    let a = s .args in
+    let r = o .admitted .given in
+    let h = has t in
+    let b = sym (barred-is (a .k) (call s) (buffers s) (loading t .load-tables .result) h) ∙ admitted-bad _ (a .asked) (r .0 .0) (sym (m .admit .ensures) ∙ r .1) in
+    let e = call-barred readerRun (a .k) (call s) (buffers s) (h .is) (r .0 .0) (h .loads) b in
+    (c .refused2 .ensures ∙ sym (ap (λ (w : Called HookDecoded). w .answer) e), sym (ap (λ (w : Called HookDecoded). w .lent) e))
 
 same-length : tie.Need-same-length
 same-length c = search needs
@@ -199,29 +180,20 @@ same-length-7 c = search needs
 
 returns-3 : tie.Need-returns-3
 returns-3 c =
-    let j = c .before .before .before .before .before .before .before .before .before .before in
-    let e = j .before .before .before .before .before .before .before .before .before .before .before .before .before in
-    let t = tests e .before .before in
-    let x = loading t .load-tables .result in
-    let s = start (loading t) in
+    let j = c .before .before .before .before .before .before .before .before .before .before .before .before in
+    let e = j .before .before .before .before .before .before .before .before .before .before .before .before .before .before .before .before in
+    let m = tested e in
+    let t = m .before in
+    let l = loading t in
+    let s = start l in
     let a = s .args in
-    let K = known t in
-    let z = sized-same (K .is) (call s) (buffers s) (fitsFor (a .hook) (K .is)) (K .size) (K .free) (blocks t) (free e) in
-    let l = j .judge .last .1 .1 .1 .1 .1 .1 .1 .1 .1 .1 in
-    let after = lent (a .word .now) (a .bits .now) (l .0) (l .1 .0) (l .1 .1 .0) (l .1 .1 .1 .0) (l .1 .1 .1 .1 .0) in
-    let found = l .1 .1 .1 .1 .1 .0 in
-    let info = l .1 .1 .1 .1 .1 .1 .0 in
-    let o =
-    subst
-    (λ (y : Run Final). (j .judge .result ≡ answerOf (a .limit) (y .steps) (y .end))
-    × (after .walkPath ≡ walked (λ (z : Step). pos (z .path)) (y .steps) (a .walk-path .now))
-    × (after .walkBlocks ≡ walked (λ (z : Step). pos (z .blocks)) (y .steps) (a .walk-blocks .now))
-    × (after .walkScore ≡ walked (λ (z : Step). z .score) (y .steps) (a .walk-score .now))
-    × (within (a .limit) (y .end) ≡ true → (part 0 (x .n) found ≡ finalIn (y .end) .word) × (part 0 (x .k) info ≡ finalIn (y .end) .bits)))
-    (reader-same (K .is) (call s) (buffers s) (x .m) (x .n) (K .height) (K .size)) (j .judge .ensures .1 (readied e)) in
-    yields-ran (a .hook) (call s) (buffers s) (K .is) (K .loads) (j .judge .result) after found info (x .n) (x .k) (clear e) (o .0)
-    (yields-lent (K .is) (call s) (buffers s) (readerRun (K .is) (call s) (buffers s) .steps) _ (x .n) (K .size) refl refl (j .judge .ensures .0 .0) (j .judge .ensures .0 .1) (o .1) (o .2) (o .3))
-    (sym (z .word)) (sym (z .bits)) (ready-small (readied e)) (ready-free (readied e)) (o .4)
+    let h = has t in
+    let b = sym (barred-is (a .k) (call s) (buffers s) (l .load-tables .result) h) ∙ good e .0 in
+    let w =
+    ap₂ (λ (x : Shape) (z : Settings). ranCall (a .k .reads) x z (buffers s) (readerRun (h .is) z (a .values .now) (buffers s))) (h .shape) (good e .1)
+    ∙ sym (call-ran readerRun (a .k) (call s) (buffers s) (h .is) (h .loads) b) in
+    let o = j .decide .ensures (readied e) in
+    (o .0 ∙ ap (λ (x : Called HookDecoded). x .answer) w, o .1 ∙ ap (λ (x : Called HookDecoded). x .lent) w)
 
 pub attempt-spec : {M : Type 1} → statement M
 attempt-spec =
@@ -232,15 +204,14 @@ attempt-spec =
     refused-requires
     returns
     enum-told
-    cast-admit
-    cast-admit-2
-    cast-admit-3
     admit-requires
     enum-known-admitted
     refused-requires-2
+    enum-known-admitted-2
+    slice-aggregate-decide
+    slice-aggregate-decide-2
+    decide-requires
     returns-2
-    enum-told-2
-    judge-requires
     same-length
     same-length-2
     same-length-3

@@ -1,35 +1,39 @@
 -- `checks::admission::admit` meets its contract: by the outcome of each test, in their order. Assumes nothing.
 use mathlib.Core.Path.{_≡_, refl, sym, ap, _∙_}
-use mathlib.Core.Bool.{Bool, true, _&&_}
-use borrow.Author.Tests.{not-true, not-false}
-use Rattle.checks.specs.Checks.{settingsFit, lengthsFit}
-use Rattle.checks.specs.declared.Checked.the-variants.{Good}
-use Rattle.checks.proofs.Admitted.{admittedBy, admitted, none-made, these-made, in-ranges}
+use mathlib.Core.Bool.{true}
 use borrow.Author.Needs.{needs}
+use borrow.Author.Tests.{not-true, not-false}
+use lib.Dec.{T}
+use Rattle.settings.specs.declared.Settings.{Settings}
+use Rattle.settings.specs.declared.Checked.the-variants.{Good, Bad}
+use Rattle.settings.specs.Settings.{settingsOk, Ranged}
+use Rattle.settings.proofs.Ranges.{settings-tell, none-made, these-made}
+use Rattle.checks.specs.Checks.{fitting}
+use Rattle.checks.proofs.Admitted.{admittedBy, admitted}
 use Rattle.checks.proofs.admission.admit.Statement.{statement}
 use Rattle.checks.proofs.admission.admit.Tie as tie
 
--- the settings were made, and are these
-settled : (c : tie.After-known-told) → let a = c .before .before .before .before .args in
-    (settingsFit (a .visits) (a .paths) (a .limit) ≡ true) × (c .before .s .given .0 .0 ≡ record { visits = a .visits; paths = a .paths; limit = a .limit })
+-- the settings were made, and are those asked
+settled : (c : tie.After-known-told) → let a = c .before .before .before .before .args in (settingsOk (a .asked) ≡ true) × (c .before .checked2 .given .0 .0 ≡ a .asked)
 settled c =
     let k = c .before .before .before in
-    let a = k .before .args in
-    these-made (a .visits) (a .paths) (a .limit) (c .before .s .given .0 .0) (sym (k .checked .ensures) ∙ c .before .s .given .1)
+    these-made (k .before .args .asked) (c .before .checked2 .given .0 .0) (sym (k .checked .ensures) ∙ c .before .checked2 .given .1)
 
--- what is asked of k besides holds, and the lengths' test is known
-fitted : (c : tie.After-lengths-ok) → let a = c .before .before .before .before .before .before .args in
-    (a .fits && lengthsFit (a .n) (a .k) (a .blocks) (a .visits) (a .paths) (a .l)) ≡ c .lengths-ok .result
-fitted c =
-    let e = c .before in
-    let a = e .before .before .before .before .before .args in
-    ap (λ (b : Bool). b && lengthsFit (a .n) (a .k) (a .blocks) (a .visits) (a .paths) (a .l)) (not-false (a .fits) (e .if1 .left)) ∙ sym (c .lengths-ok .ensures)
+-- so they are in range
+ranged : (c : tie.After-known-told) → Ranged (c .before .checked2 .given .0 .0)
+ranged c = let s = settled c in rw (s .1) (settings-tell (c .before .before .before .before .args .asked) .out (rw (s .0) tt))
+
+-- what fits is tested of them
+fitted : (t : tie.After-all-fit) → let a = t .before .before .before .before .before .args in fitting (a .k) (a .x) (a .asked) (a .l) ≡ t .all-fit .result
+fitted t =
+    let a = t .before .before .before .before .before .args in
+    sym (t .all-fit .ensures ∙ ap (λ (s : Settings). fitting (a .k) (a .x) s (a .l)) (settled (t .before) .1))
 
 checked-requires : tie.Need-checked-requires
 checked-requires c κs = search needs
 
-enum-known-s : tie.Need-enum-known-s
-enum-known-s c = search needs
+enum-known-checked : tie.Need-enum-known-checked
+enum-known-checked c = search needs
 
 enum-told : tie.Need-enum-told
 enum-told c = search needs
@@ -37,65 +41,56 @@ enum-told c = search needs
 returns : tie.Need-returns
 unfolding admittedBy
 returns c =
-    let a = c .before .before .before .args in
-    admitted (a .visits) (a .paths) (a .limit) (a .fits) (a .n) (a .k) (a .blocks) (a .l) (a .values .now)
-    (none-made (a .visits) (a .paths) (a .limit) (c .enum-told .given .0 .0) (sym (c .before .before .checked .ensures) ∙ c .enum-told .given .1)) refl refl
+    let k = c .before .before in
+    let a = k .before .args in
+    let e = c .enum-told .given in
+    let n = none-made (a .asked) (e .0 .0) (sym (k .checked .ensures) ∙ e .1) in
+    e .1 ∙ ap Bad (n .1) ∙ admitted (a .k) (a .x) (a .asked) (a .l) (a .values .now) (n .0) refl refl
+
+all-fit-requires : tie.Need-all-fit-requires
+all-fit-requires c κs =
+    let s = c .before .before .before .before in
+    (s .pre .0, s .pre .1, ranged c)
 
 returns-2 : tie.Need-returns-2
 unfolding admittedBy
 returns-2 c =
-    let a = c .before .before .before .before .before .args in
-    admitted (a .visits) (a .paths) (a .limit) (a .fits) (a .n) (a .k) (a .blocks) (a .l) (a .values .now) (settled (c .before) .0)
-    (ap (λ (b : Bool). b && lengthsFit (a .n) (a .k) (a .blocks) (a .visits) (a .paths) (a .l)) (not-true (a .fits) (c .if1 .taken))) refl
-
-lengths-ok-requires : tie.Need-lengths-ok-requires
-lengths-ok-requires c κs =
-    let s = c .before .before .before .before .before in
-    let a = s .args in
-    let r = in-ranges (a .visits) (a .paths) (a .limit) (settled (c .before) .0) in
-    (s .pre .0, s .pre .1, r .visits, r .paths)
-
-returns-3 : tie.Need-returns-3
-unfolding admittedBy
-returns-3 c =
-    let k = c .before .before .before in
-    let a = k .before .before .before .before .args in
-    admitted (a .visits) (a .paths) (a .limit) (a .fits) (a .n) (a .k) (a .blocks) (a .l) (a .values .now) (settled k .0)
-    (fitted (c .before) ∙ not-true _ (c .if2 .taken)) refl
+    let t = c .before in
+    let a = t .before .before .before .before .before .args in
+    admitted (a .k) (a .x) (a .asked) (a .l) (a .values .now) (settled (t .before) .0) (fitted t ∙ not-true _ (c .if1 .taken)) refl
 
 values-ok-requires : tie.Need-values-ok-requires
 values-ok-requires c κs = search needs
 
+returns-3 : tie.Need-returns-3
+unfolding admittedBy
+returns-3 c =
+    let v = c .before in
+    let e = v .before in
+    let t = e .before in
+    let a = t .before .before .before .before .before .args in
+    admitted (a .k) (a .x) (a .asked) (a .l) (a .values .now) (settled (t .before) .0) (fitted t ∙ not-false _ (e .if1 .left)) (sym (v .values-ok .ensures) ∙ not-true _ (c .if2 .taken))
+
 returns-4 : tie.Need-returns-4
 unfolding admittedBy
 returns-4 c =
-    let e = c .before .before in
-    let k = e .before .before .before in
-    let a = k .before .before .before .before .args in
-    admitted (a .visits) (a .paths) (a .limit) (a .fits) (a .n) (a .k) (a .blocks) (a .l) (a .values .now) (settled k .0)
-    (fitted (e .before) ∙ not-false _ (e .if2 .left)) (sym (c .before .values-ok .ensures) ∙ not-true _ (c .if3 .taken))
-
-returns-5 : tie.Need-returns-5
-unfolding admittedBy
-returns-5 c =
-    let e = c .before .before in
-    let k = e .before .before .before in
-    let a = k .before .before .before .before .args in
-    ap Good (settled k .1)
-    ∙ admitted (a .visits) (a .paths) (a .limit) (a .fits) (a .n) (a .k) (a .blocks) (a .l) (a .values .now) (settled k .0)
-    (fitted (e .before) ∙ not-false _ (e .if2 .left)) (sym (c .before .values-ok .ensures) ∙ not-false _ (c .if3 .left))
+    let v = c .before in
+    let e = v .before in
+    let t = e .before in
+    let a = t .before .before .before .before .before .args in
+    ap Good (settled (t .before) .1)
+    ∙ admitted (a .k) (a .x) (a .asked) (a .l) (a .values .now) (settled (t .before) .0) (fitted t ∙ not-false _ (e .if1 .left)) (sym (v .values-ok .ensures) ∙ not-false _ (c .if2 .left))
 
 pub admit-spec : {M : Type 1} → statement M
 admit-spec =
     tie.close
     (tie.spec
     checked-requires
-    enum-known-s
+    enum-known-checked
     enum-told
     returns
+    all-fit-requires
     returns-2
-    lengths-ok-requires
-    returns-3
     values-ok-requires
-    returns-4
-    returns-5)
+    returns-3
+    returns-4)

@@ -1,68 +1,21 @@
--- `decoder::call::decode` meets its contract: the attempt, and word and data handed out where it is done, are the plain call's; its run is the whole run.
+-- `decoder::call::decode` meets its contract: the call in its manner, which reads no record, so that the answer without its record is all of it.
 -- Assumes nothing.
-use mathlib.Core.List.{List}
-use Prim.Native.Nat.{ℕ, _≤_}
-use native.Mathlib.Omega.{arith}
-use lib.ListN.{length}
+use mathlib.Core.Path.{refl}
 use borrow.Author.Needs.{needs}
-use Rattle.machine.specs.Calls.{Input, Lent, given, lent}
-use Rattle.decoder.proofs.Handed.{plain-fits, plain-done}
+use Rattle.machine.specs.Calls.{Input, Lent, given, lent, plain}
+use Rattle.decoder.proofs.Said.{without-record}
 use Rattle.decoder.proofs.call.decode.Statement.{statement}
 use Rattle.decoder.proofs.call.decode.Tie as tie
 
--- where the attempt is made, and where the call begins
-abbrev start : tie.After-attempt → tie.Start
-start t = t .before .before .before .before .before .before .before .before .before .before .before .before .before .before
-
-abbrev made : tie.After-info2 → tie.After-attempt
-made i = i .before .before .before .before .before .before .before .before
-
--- what the call is given and lent, and the buffers after the attempt
+-- what the call is given and lent
 abbrev call : tie.Start → Input
-call s = let a = s .args in given (a .book .now) (a .visits) (a .paths) (a .limit) (a .values .now)
+call s = let a = s .args in given (a .book .now) (a .s) (a .values .now)
 
 abbrev buffers : tie.Start → Lent
 buffers s = let a = s .args in lent (a .word .now) (a .bits .now) (a .numbers .now) (a .bytes .now) (a .walk-path .now) (a .walk-blocks .now) (a .walk-score .now)
 
-abbrev after : tie.After-attempt → Lent
-after t =
-    let a = start t .args in
-    let l = t .attempt .last .1 .1 .1 .1 .1 .1 .1 .1 in
-    lent (a .word .now) (a .bits .now) (l .0) (l .1 .0) (l .1 .1 .0) (l .1 .1 .1 .0) (l .1 .1 .1 .1 .0)
-
--- what was found
-abbrev found : tie.After-attempt → List ℕ
-found t = t .attempt .last .1 .1 .1 .1 .1 .1 .1 .1 .1 .1 .1 .1 .1 .0
-
-abbrev info : tie.After-attempt → List ℕ
-info t = t .attempt .last .1 .1 .1 .1 .1 .1 .1 .1 .1 .1 .1 .1 .1 .1 .0
-
-long : (i : tie.After-info2) → 512 ≤ length (found (made i))
-long i = omega (arith, i .before .found2 .given)
-
-wide : (i : tie.After-info2) → 512 ≤ length (info (made i))
-wide i = omega (arith, i .info2 .given)
-
-slice-aggregate-attempt : tie.Need-slice-aggregate-attempt
-slice-aggregate-attempt c = search needs
-
-slice-aggregate-attempt-2 : tie.Need-slice-aggregate-attempt-2
-slice-aggregate-attempt-2 c = search needs
-
-attempt-requires : tie.Need-attempt-requires
-attempt-requires c κs = search needs
-
-slice-aggregate-give : tie.Need-slice-aggregate-give
-slice-aggregate-give c = search needs
-
-slice-aggregate-give-2 : tie.Need-slice-aggregate-give-2
-slice-aggregate-give-2 c = search needs
-
-give-requires : tie.Need-give-requires
-give-requires c κs =
-    let i = c .before .before .before .before in
-    let t = made i in
-    plain-fits (call (start t)) (buffers (start t)) (t .attempt .result) (after t) (found t) (info t) (long i) (wide i) (t .attempt .ensures)
+decode-in-requires : tie.Need-decode-in-requires
+decode-in-requires c κs = search needs
 
 same-length : tie.Need-same-length
 same-length c = search needs
@@ -87,22 +40,17 @@ same-length-7 c = search needs
 
 returns : tie.Need-returns
 returns c =
-    let g = c .before .before .before .before in
-    let i = g .before .before .before .before .before in
-    let t = made i in
-    plain-done (call (start t)) (buffers (start t)) (t .attempt .result) (after t) (found t) (info t) (long i) (wide i) (t .attempt .ensures)
-    (g .give .last .1 .1 .1 .0) (g .give .last .1 .1 .1 .1 .0) (g .give .ensures .0) (g .give .ensures .1)
+    let d = c .before .before .before .before .before .before .before .before .before .before .before in
+    let s = d .before .before .before .before .before .before .before .before .before .before .before .before in
+    let l = d .decode-in .last .1 .1 .1 .1 in
+    let after = lent (l .0) (l .1 .0) (l .1 .1 .0) (l .1 .1 .1 .0) (l .1 .1 .1 .1 .0) (l .1 .1 .1 .1 .1 .0) (l .1 .1 .1 .1 .1 .1 .0) in
+    without-record plain (call s) (buffers s) (d .decode-in .result) after refl (d .decode-in .ensures)
 
 pub decode-spec : {M : Type 1} → statement M
 decode-spec =
     tie.close
     (tie.spec
-    slice-aggregate-attempt
-    slice-aggregate-attempt-2
-    attempt-requires
-    slice-aggregate-give
-    slice-aggregate-give-2
-    give-requires
+    decode-in-requires
     same-length
     same-length-2
     same-length-3

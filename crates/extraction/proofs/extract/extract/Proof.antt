@@ -24,22 +24,25 @@ at-start s = memory (s .args .rows .now) (s .args .holders .now) (s .args .numbe
 abbrev Extract : tie.Start → Type 0
 Extract s =
     let a = s .args in
-    Extracting (a .s .m) (a .s .visits) (a .s .paths) (a .t .extractions) (a .t .next) (at-start s) (a .e) (queueOf (a .order .now) (a .t .queued))
+    Extracting (a .m) (a .s .visits) (a .s .paths) (a .arrays) (a .t .extractions) (a .t .next) (at-start s) (a .e) (queueOf (a .order .now) (a .t .queued))
     (queueOf (a .vacant .now) (a .s .paths - (a .t .queued + 1))) (a .kinds .now) (a .terms .now) (a .last) (a .at) (a .kept .now) (a .visits .now)
 
 own : (s : tie.Start) → Extract s
 own s = s .pre .1 .1 .1 .0
 
+cast-paths : tie.Need-cast-paths
+cast-paths c = search needs
+
 second-requires : tie.Need-second-requires
 second-requires c κs =
-    let s = c .before .before .before .before .before .before .before .before .before .before .before .before .before in
+    let s = c .before .before .before .before .before .before .before .before .before .before .before .before .before .before in
     let p = s .pre .0 in
     let q = s .pre .1 .0 in
     ((p .0, p .1, p .2, p .4), ((q .0, q .1, q .2, q .3, q .4), (extract-seconding (own s), s .pre .1 .1 .1 .1)))
 
 -- after the copy, for any state
 abbrev start : tie.After-second → tie.Start
-start c = c .before .before .before .before .before .before .before .before .before .before .before .before .before .before
+start c = c .before .before .before .before .before .before .before .before .before .before .before .before .before .before .before
 
 abbrev at-second : tie.After-second → Memory
 at-second c = let f = c .second .last in memory (f .0) (f .1 .0) (f .1 .1 .1 .1 .0) (start c .args .bytes .now)
@@ -52,13 +55,13 @@ vacants c = queueOf (c .second .last .1 .1 .1 .0) (start c .args .s .paths - (c 
 
 -- the words kept then
 abbrev words : tie.After-second → List ℕ
-words c = c .second .last .1 .1 .1 .1 .1 .1 .1 .1 .1 .1 .1 .1 .0
+words c = c .second .last .1 .1 .1 .1 .1 .1 .1 .1 .1 .1 .1 .1 .1 .1 .0
 
 copied : (c : tie.After-second) (o : Extract (start c)) → let a = start c .args in
     let d = extract-seconding o in
     let k = copy (d .hand .book) (a .s .paths) (d .hand .arrays) (d .hand .taken) (d .hand .rest) (a .t .next) (d .hand .taken .blocks) in
     let r = c .second .result in
-    CopiedTo (d .hand .book) (a .s .paths) (a .e) (d .hand .taken) k (a .t .crowded) (r .queued) (r .next) (r .crowded) (at-second c) (entries c) (vacants c) (words c)
+    CopiedTo (d .hand .book) (a .s .paths) (a .arrays) (a .e) (d .hand .taken) k (a .t .crowded) (r .queued) (r .next) (r .crowded) (at-second c) (entries c) (vacants c) (words c)
 copied c o = c .second .ensures .1 .1 .0 (extract-seconding o) .0
 
 abbrev two : (c : tie.After-second) → 2 ≤ start c .args .s .paths
@@ -81,7 +84,7 @@ abbrev at-third : tie.After-third → Memory
 at-third c = let f = c .third .last in memory (f .0) (f .1 .0) (f .1 .1 .1 .0) (f .1 .1 .1 .1 .0)
 
 abbrev kept : tie.After-third → List ℕ
-kept c = c .third .last .1 .1 .1 .1 .1 .1 .1 .1 .1 .1 .1 .1 .1 .0
+kept c = c .third .last .1 .1 .1 .1 .1 .1 .1 .1 .1 .1 .1 .1 .1 .1 .0
 
 moved : (c : tie.After-third) (o : Extract (start (seconded c))) → let t = seconded c in
     let a = start t .args in
@@ -109,7 +112,7 @@ thirded c = c .before .before .before .before .before .before .before .before .b
 abbrev outrunning : (c : tie.After-blocks-of) (o : Extract (start (seconded (thirded c)))) → let u = thirded c in
     let t = seconded u in
     let a = start t .args in
-    Outrunning (a .s .m) (a .s .visits) (a .s .paths) (t .second .result .extractions) (c .blocks-of .result) (at-third u) (queueOf (u .third .last .1 .1 .0) (t .second .result .queued + 1))
+    Outrunning (a .m) (a .s .visits) (a .s .paths) (a .arrays) (t .second .result .extractions) (c .blocks-of .result) (at-third u) (queueOf (u .third .last .1 .1 .0) (t .second .result .queued + 1))
     (vacants t) (a .visits .now)
 outrunning c o =
     let u = thirded c in
@@ -128,12 +131,10 @@ returns c =
     let b = c .before .blocks-of .result in (
       (
         record {
-          deep = l .0 .deep;
-          many = l .0 .many;
+          few = l .0 .few;
           rows = l .0 .rows;
-          held = f .0 .0;
-          numbers = l .0 .numbers;
-          bytes = l .0 .bytes;
+          has = record { deep = l .0 .has .deep; many = l .0 .has .many; held = f .0 .0; numbers = l .0 .has .numbers; bytes = l .0 .has .bytes };
+          enough = l .0 .enough;
         },
         f .0 .1,
         f .0 .2,
@@ -145,7 +146,7 @@ returns c =
         (f .0 .5 ∙ t .second .ensures .1 .0 .0, f .0 .7),
         (
           λ o.
-              let w = f .1 .0 (u .third .last .1 .1 .1 .0) (u .third .last .1 .1 .1 .1 .0) (outrunning (c .before) o) in
+              let w = f .1 .0 (a .arrays) (u .third .last .1 .1 .1 .0) (u .third .last .1 .1 .1 .1 .0) (outrunning (c .before) o) (l .0 .has .many) in
               let k =
               extract-done o (two t) (a .t .crowded) (words t) (copied t o) (kept u) (moved u o) (t .second .result .outrun) b (c .before .blocks-of .ensures) _ (t .second .ensures .1 .0 .0) (f .0 .8)
               (w .0, w .1, w .2) in
@@ -165,10 +166,10 @@ outrun-requires c κs =
     let o = own s in
     let one : suc (t .second .result .queued) ≡ t .second .result .queued + 1 = omega arith in
     let l = u .third .ensures .0 in (
-      (l .0 .rows, l .0 .held, l .1, t .second .ensures .0 .2, s .pre .0 .3, l .0 .deep),
+      (l .0 .rows, l .0 .has .held, l .1, t .second .ensures .0 .2, s .pre .0 .3, l .0 .has .deep),
       (
         (
-          l .0 .many,
+          l .0 .few,
           t .second .ensures .1 .0 .2,
           omega (arith, c .blocks-of .ensures, extract-blocks o),
           s .pre .1 .1 .0 (c .blocks-of .result),
@@ -176,6 +177,8 @@ outrun-requires c κs =
         ),
         (
           (
+            a .arrays,
+            l .0 .has .many,
             u .third .last .1 .1 .1 .0,
             u .third .last .1 .1 .1 .1 .0,
             outrunning c o,
@@ -201,9 +204,9 @@ same-length-3 c = thirded (c .before) .third .kept .1 .1 .1 .1 .0
 same-length-4 : tie.Need-same-length-4
 same-length-4 c =
     let u = thirded (c .before) in
-    omega (arith, u .third .kept .1 .1 .1 .1 .1 .1 .1 .1 .1 .1 .1 .1 .1 .0, seconded u .second .kept .1 .1 .1 .1 .1 .1 .1 .1 .1 .1 .1 .1 .0)
+    omega (arith, u .third .kept .1 .1 .1 .1 .1 .1 .1 .1 .1 .1 .1 .1 .1 .1 .0, seconded u .second .kept .1 .1 .1 .1 .1 .1 .1 .1 .1 .1 .1 .1 .1 .1 .0)
 
 pub extract-spec : {M : Type 1} → statement M
 extract-spec =
     tie.close
-    (tie.spec second-requires third-requires add-x blocks-of-requires cast-outrun outrun-requires same-length same-length-2 same-length-3 same-length-4 returns)
+    (tie.spec cast-paths second-requires third-requires add-x blocks-of-requires cast-outrun outrun-requires same-length same-length-2 same-length-3 same-length-4 returns)

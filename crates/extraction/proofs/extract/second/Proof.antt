@@ -59,7 +59,7 @@ returns-2 c =
         (
           λ o.
               let k =
-              second-done o two (some-blocks t .1) (a .t .crowded) (c .before .before .before .before .before .copy .last .1 .1 .1 .1 .1 .1 .1 .1 .1 .1 .1 .1 .1 .0)
+              second-done o two (some-blocks t .1) (a .t .crowded) (c .before .before .before .before .before .copy .last .1 .1 .1 .1 .1 .1 .1 .1 .1 .1 .1 .1 .1 .1 .1 .0)
               (f .1 .1 .0 _ (second-copying o two (some-blocks t .1)) (some-blocks t .0)) in
               (k, second-crowds o (k .3)),
           f .1 .1 .1,

@@ -2,13 +2,12 @@
 -- and the next after it; the path's row and entry, written anew, hold the path with the nearest, the insertion queues it, and the next is kept for
 -- it. Moves.antt and Keeping.antt have each step, for any state that memory stands for; the contract's own state shows what the calls need.
 -- Assumes nothing.
-use mathlib.Core.Path.{_≡_, ap, ap₂, _∙_, subst}
+use mathlib.Core.Path.{_≡_, ap, ap₂, _∙_, subst, subst₂}
 use mathlib.Core.List.{List, _∷_}
 use mathlib.Core.Option.{some}
-use Prim.Native.Nat.{ℕ, _+_, _*_, _^_}
+use Prim.Native.Nat.{ℕ, _+_, _^_}
 use native.Mathlib.Omega.{arith}
 use borrow.Author.Needs.{needs}
-use lib.ListN.{getD}
 use lib.IntN.{ℤ, pos, negℤ, natAbs, _-ℤ_}
 use mir.Facts.{toZ-ofZ}
 use Rattle.laws.proofs.Signed.{back, abs-fits}
@@ -23,7 +22,7 @@ use Rattle.order.specs.Entries.{keyAt, slotAt, Packed, queueOf}
 use Rattle.sharing.specs.Sharing.{idAt, HasRow}
 use Rattle.heights.specs.Workspace.{spot}
 use Rattle.standing.specs.Seen.{Memory, memory}
-use Rattle.standing.specs.Standing.{cell, Stands, withIds, PutRow}
+use Rattle.standing.specs.Standing.{cell, spentAt, costAt, paritiesAt, Stands, withIds, PutRow}
 use Rattle.standing.proofs.Sizes.{slot-low}
 use Rattle.extraction.specs.Extraction.{Thirding}
 use Rattle.extraction.proofs.Moves.{view, moved, third-tabled, third-parities, third-bias, third-blocks, third-low, third-spent, third-cost, third-set, third-id, third-searchable, third-second, third-total, third-packed, third-queued}
@@ -37,24 +36,6 @@ calculate-requires c κs = search needs
 slot-of-requires : tie.Need-slot-of-requires
 slot-of-requires c κs = search needs
 
-mul-spent : tie.Need-mul-spent
-mul-spent c = search needs
-
-add-spent : tie.Need-add-spent
-add-spent c = search needs
-
-mul-spent-2 : tie.Need-mul-spent-2
-mul-spent-2 c = search needs
-
-mul-spent-3 : tie.Need-mul-spent-3
-mul-spent-3 c = search needs
-
-add-spent-2 : tie.Need-add-spent-2
-add-spent-2 c = search needs
-
-mul-spent-4 : tie.Need-mul-spent-4
-mul-spent-4 c = search needs
-
 -- the memory where the call began, and a state that it stands for
 abbrev start : tie.After-calculate → tie.Start
 start c = c .before .before .before .before .before .before .before .before
@@ -65,7 +46,7 @@ at-start s = memory (s .args .rows .now) (s .args .holders .now) (s .args .numbe
 abbrev Third : tie.Start → List ℕ → Type 0
 Third s vs =
     let a = s .args in
-    Thirding (a .m) (a .paths) (at-start s) (a .e) (queueOf (a .order .now) (a .queued)) vs (a .kinds .now) (a .terms .now) (a .last) (a .at) (a .kept .now)
+    Thirding (a .m) (a .paths) (a .arrays) (at-start s) (a .e) (queueOf (a .order .now) (a .queued)) vs (a .kinds .now) (a .terms .now) (a .last) (a .at) (a .kept .now)
 
 own : (s : tie.Start) → Third s (s .pre .1 .0 .0)
 own s = s .pre .1 .0 .1
@@ -78,7 +59,7 @@ abbrev at-made : tie.After-calculate → Memory
 at-made c = let f = c .calculate .last in memory (f .0) (f .1 .0) (f .1 .1 .0) (f .1 .1 .1 .0)
 
 values-there : (c : tie.After-calculate) (vs : List ℕ) (o : Third (start c) vs) → let a = start c .args in
-    Stands (o .moving .hand .book) (a .paths) (at-made c) (a .e ∷ queueOf (a .order .now) (a .queued)) vs (view o .arrays) (withIds (o .moving .hand .taken) (view o .ids) ∷ o .moving .hand .rest)
+    Stands (o .moving .hand .book) (a .paths) (a .arrays) (at-made c) (a .e ∷ queueOf (a .order .now) (a .queued)) vs (view o .arrays) (withIds (o .moving .hand .taken) (view o .ids) ∷ o .moving .hand .rest)
 values-there c vs o = c .calculate .ensures .1 (queueOf (start c .args .order .now) (start c .args .queued)) vs (o .moving)
 
 abbrev slot : tie.After-slot-of → ℕ
@@ -93,58 +74,60 @@ unfolding memory
 row-there c =
     let l = made c .calculate .ensures .0 .0 in
     let low = slot-low (own (start (made c)) .moving .hand .stands) in
-    (omega (arith, low, l .many), omega (arith, low, l .rows))
+    (omega (arith, low, l .few), omega (arith, low, l .rows))
 
-slice-read-spent : tie.Need-slice-read-spent
-slice-read-spent c = let t = c .before in omega (arith, slot-is t, row-there t)
+spent-of-requires : tie.Need-spent-of-requires
+spent-of-requires c κs = let t = c .before in rw (slot-is t) (row-there t)
 
-slice-read-spent-2 : tie.Need-slice-read-spent-2
-slice-read-spent-2 c = let t = c .before .before in omega (arith, slot-is t, row-there t)
+cost-of-requires : tie.Need-cost-of-requires
+cost-of-requires c κs = let t = c .before .before .before in rw (slot-is t) (row-there t)
 
-slice-read-parities : tie.Need-slice-read-parities
-slice-read-parities c = let t = c .before .before .before in omega (arith, slot-is t, row-there t)
+parities-of-requires : tie.Need-parities-of-requires
+parities-of-requires c κs = let t = c .before .before .before .before .before in rw (slot-is t) (row-there t)
 
 -- the cells read
 abbrev cell-of : tie.After-slot-of → ℕ → ℕ
 cell-of c f = cell (at-made (made c) .rows) (slot c) f
 
-read : (c : tie.After-slot-of) (f : ℕ) → getD (made c .calculate .last .0) (c .slot-of .result * 16 + f) 0 ≡ cell-of c f
-unfolding memory cell
-read c f = ap (λ (i : ℕ). getD (made c .calculate .last .0) (i * 16 + f) 0) (slot-is c)
-
-add-spent-3 : tie.Need-add-spent-3
+spent-is : (c : tie.After-spent-of) → c .spent-of .result ≡ cell-of (c .before .before) spentAt
 unfolding memory
-add-spent-3 c =
-    let t = c .before .before in
+spent-is c = let t = c .before .before in c .spent-of .ensures ∙ ap (λ i. cell (made t .calculate .last .0) i spentAt) (slot-is t)
+
+cost-is : (c : tie.After-cost-of) → c .cost-of .result ≡ cell-of (c .before .before .before .before) costAt
+unfolding memory
+cost-is c = let t = c .before .before .before .before in c .cost-of .ensures ∙ ap (λ i. cell (made t .calculate .last .0) i costAt) (slot-is t)
+
+parities-is : (c : tie.After-parities-of) → c .parities-of .result ≡ cell-of (c .before .before .before .before .before .before) paritiesAt
+unfolding memory
+parities-is c = let t = c .before .before .before .before .before .before in c .parities-of .ensures ∙ ap (λ i. cell (made t .calculate .last .0) i paritiesAt) (slot-is t)
+
+add-spent : tie.Need-add-spent
+unfolding memory
+add-spent c =
+    let t = c .before .before .before .before in
     let o = own (start (made t)) in
     let st = values-there (made t) _ o in
-    record { fits = omega (arith, read t 10, read t 11, third-spent o st, third-cost o st, o .total) }
-
-mul-parities : tie.Need-mul-parities
-mul-parities c = search needs
-
-add-parities : tie.Need-add-parities
-add-parities c = search needs
-
-mul-parities-2 : tie.Need-mul-parities-2
-mul-parities-2 c = search needs
+    record { fits = omega (arith, spent-is (c .before .before), cost-is c, third-spent o st, third-cost o st, o .total) }
 
 nearest-words-requires : tie.Need-nearest-words-requires
 unfolding memory
 nearest-words-requires c κs =
-    let t = c .before .before .before .before .before .before .before in
+    let t = c .before .before .before .before .before .before .before .before .before .before in
     let s = start (made t) in
     let o = own s in
     let l = made t .calculate .ensures .0 .0 in
     let st = values-there (made t) _ o in
     rw (slot-is t) (
-      (row-there t, l .deep, third-low o, third-id o st (l .many)),
+      (row-there t, l .has .deep, third-low o, third-id o st (l .has .many)),
       (third-searchable o st l, (s .pre .0 .4, s .pre .0 .5)),
     )
 
 -- the words found, for any state
+abbrev cells : tie.After-nearest-words → tie.After-parities-of
+cells c = c .before .before .before .before .before
+
 abbrev slotted : tie.After-nearest-words → tie.After-slot-of
-slotted c = c .before .before .before .before .before .before .before .before
+slotted c = cells c .before .before .before .before .before .before
 
 two-found : (c : tie.After-nearest-words) (vs : List ℕ) (o : Third (start (made (slotted c))) vs) →
     let y = at-made (made (slotted c)) in
@@ -153,7 +136,7 @@ two-found : (c : tie.After-nearest-words) (vs : List ℕ) (o : Third (start (mad
     let B = o .moving .hand .book in
     let b = o .moving .hand .taken .blocks in
     let ws = part (spot (a .m) (idAt (y .rows) (slot (slotted c)) h) h) (2 ^ h) (y .numbers) in
-    (x : Parities) → Bits x → cell (y .rows) (slot (slotted c)) 14 ≡ paritySet B x →
+    (x : Parities) → Bits x → cell (y .rows) (slot (slotted c)) paritiesAt ≡ paritySet B x →
     (c .nearest-words .result .first ≡ candidateOf B (nearest B ws x b))
     × ((w : Word) → nearest B ws x b ≡ some w → c .nearest-words .result .second ≡ candidateOf B (nextAfter w B ws x b))
 unfolding memory
@@ -201,7 +184,7 @@ score-requires c κs =
     let u = searched (c .before .before .before) in
     let t = slotted u in
     let o = own (start (made t)) in
-    (omega (arith, read t 10, read t 11, third-total o (values-there (made t) _ o) (found-is u _ o)), rw (bias-back (made t)) (third-bias o))
+    (omega (arith, spent-is (cells u .before .before .before .before), cost-is (cells u .before .before), third-total o (values-there (made t) _ o) (found-is u _ o)), rw (bias-back (made t)) (third-bias o))
 
 blocks-of-requires : tie.Need-blocks-of-requires
 blocks-of-requires c κs = search needs
@@ -237,17 +220,17 @@ entry-requires c κs =
 insert-requires : tie.Need-insert-requires
 insert-requires c κs =
     let s = start (made (slotted (searched (written (c .before .before .before .before))))) in
-    ((s .pre .0 .1, omega (arith, s .pre .0 .2, s .pre .0 .0 .many)), s .pre .1 .1)
+    ((s .pre .0 .1, omega (arith, s .pre .0 .2, s .pre .0 .0 .few)), s .pre .1 .1)
 
 -- the score and the entry
 abbrev total : tie.After-score → ℕ
-total c = let u = searched (written c) in cell-of (slotted u) 10 + cell-of (slotted u) 11 + u .nearest-words .result .first .cost
+total c = let u = searched (written c) in cell-of (slotted u) spentAt + cell-of (slotted u) costAt + u .nearest-words .result .first .cost
 
 score-is : (c : tie.After-score) → back (c .score .result) ≡ negℤ (pos (total c)) -ℤ start (made (slotted (searched (written c)))) .args .at .bias
 score-is c =
     let u = searched (written c) in
     let t = slotted u in
-    let sum = ap₂ (λ (a b : ℕ). a + b + u .nearest-words .result .first .cost) (read t 10) (read t 11) in
+    let sum = ap₂ (λ (a b : ℕ). a + b + u .nearest-words .result .first .cost) (spent-is (cells u .before .before .before .before)) (cost-is (cells u .before .before)) in
     score-back c ∙ c .score .ensures .0 ∙ ap₂ (λ (n : ℕ) (z : ℤ). negℤ (pos n) -ℤ z) sum (bias-back (made t))
 
 packed : (c : tie.After-entry) → let f = c .before .before .before in
@@ -267,15 +250,17 @@ packed c =
 put-is : (c : tie.After-put) → let u = searched c in
     let t = slotted u in
     let w = u .nearest-words .result .first in
-    PutRow (slot t) (at-made (made t) .rows) (c .put .last .0) (cell-of t 10 + cell-of t 11) (w .cost) (w .number) (cell-of t 14) (w .parities)
-unfolding memory cell
+    PutRow (slot t) (at-made (made t) .rows) (c .put .last .0) (cell-of t spentAt + cell-of t costAt) (w .cost) (w .number) (cell-of t paritiesAt) (w .parities)
+unfolding memory
 put-is c =
     let u = searched c in
     let t = slotted u in
     let w = u .nearest-words .result .first in
     let rows = made t .calculate .last .0 in
-    subst (λ (s : ℕ). PutRow s rows (c .put .last .0) (getD rows (s * 16 + 10) 0 + getD rows (s * 16 + 11) 0) (w .cost) (w .number) (getD rows (s * 16 + 14) 0) (w .parities))
-    (slot-is t) (c .put .ensures)
+    let v = cells u in
+    let Put : ℕ → ℕ → ℕ → Type 0 = λ s a b. PutRow s rows (c .put .last .0) a (w .cost) (w .number) b (w .parities) in
+    let sum = ap₂ (λ (a b : ℕ). a + b) (spent-is (v .before .before .before .before)) (cost-is (v .before .before)) in
+    subst₂ (Put (slot t)) sum (parities-is v) (subst (λ (s : ℕ). Put s (v .before .before .before .before .spent-of .result + v .before .before .cost-of .result) (v .parities-of .result)) (slot-is t) (c .put .ensures))
 
 -- the place where the row was written, of one after the insertion
 abbrev ended : tie.After-insert → tie.After-put
@@ -321,12 +306,10 @@ returns c =
     let l = made t .calculate .ensures .0 .0 in (
       (
         record {
-          deep = l .deep;
-          many = l .many;
+          few = l .few;
           rows = omega (arith, l .rows, p .put .ensures .size);
-          held = l .held;
-          numbers = l .numbers;
-          bytes = l .bytes;
+          has = record { deep = l .has .deep; many = l .has .many; held = l .has .held; numbers = l .has .numbers; bytes = l .has .bytes };
+          enough = l .enough;
         },
         i .insert .ensures .0 .0,
         omega (arith, k .0 .size, start (made t) .pre .0 .3),
@@ -345,4 +328,4 @@ returns c =
 pub third-spec : {M : Type 1} → statement M
 third-spec =
     tie.close
-    (tie.spec calculate-requires slot-of-requires mul-spent add-spent mul-spent-2 slice-read-spent mul-spent-3 add-spent-2 mul-spent-4 slice-read-spent-2 add-spent-3 mul-parities add-parities mul-parities-2 slice-read-parities nearest-words-requires put-requires score-requires blocks-of-requires add-entry number-of-requires entry-requires insert-requires keep-requires same-length same-length-2 same-length-3 same-length-4 returns)
+    (tie.spec calculate-requires slot-of-requires spent-of-requires cost-of-requires add-spent parities-of-requires nearest-words-requires put-requires score-requires blocks-of-requires add-entry number-of-requires entry-requires insert-requires keep-requires same-length same-length-2 same-length-3 same-length-4 returns)

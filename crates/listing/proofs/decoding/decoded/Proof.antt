@@ -1,7 +1,7 @@
--- `listing::decoding::decoded` prints no more extractions than the walk has room for, by the bound on a call's extractions. Assumes nothing.
-use Rattle.listing.proofs.Printed.{walk-within}
-use native.Mathlib.Omega.{arith}
+-- `listing::decoding::decoded` prints no more extractions than the walk has room for, since a call leaves an entry in the walk's buffers for each. Assumes nothing.
 use borrow.Author.Needs.{needs}
+use Rattle.machine.specs.Calls.{plain}
+use Rattle.decoder.proofs.Walked.{left-long}
 use Rattle.listing.proofs.decoding.decoded.Statement.{statement}
 use Rattle.listing.proofs.decoding.decoded.Tie as tie
 
@@ -57,7 +57,7 @@ cast-print-walk : tie.Need-cast-print-walk
 cast-print-walk c = search needs
 
 print-walk-requires : tie.Need-print-walk-requires
-print-walk-requires c κs = let w = walk-within _ _ _ (c .before .before .before .before .before .before .before .before .before .before .before .before .before .before .before .before .decode .ensures .0) in omega (arith, w .paths, w .blocks, w .scores)
+print-walk-requires c κs = left-long plain _ _ _ _ (c .before .before .before .before .before .before .before .before .before .before .before .before .before .before .before .before .decode .ensures)
 
 print-word-requires : tie.Need-print-word-requires
 print-word-requires c κs = search needs

@@ -1,6 +1,6 @@
 -- `loading::loader::finish` meets its contract: each return is that of the test that led there. Assumes nothing.
 use borrow.Author.Needs.{needs}
-use Rattle.codebook.specs.Progress.{sizesAt}
+use Rattle.codebook.specs.Progress.{shapeAt}
 use Rattle.loading.proofs.loader.finish.Statement.{statement}
 use Rattle.loading.proofs.loader.finish.Tie as tie
 
@@ -11,7 +11,7 @@ returns : tie.Need-returns
 returns c = rw (c .before .if1 .taken) (c .refuse .ensures)
 
 returns-2 : tie.Need-returns-2
-unfolding sizesAt
+unfolding shapeAt
 returns-2 c = rw (c .if1 .left)
 
 pub finish-spec : {M : Type 1} → statement M

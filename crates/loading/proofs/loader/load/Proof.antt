@@ -1,25 +1,14 @@
--- `loading::loader::load` meets its contract: the shape is a part of the sizes, and its number that of loading. Assumes nothing.
+-- `loading::loader::load` meets its contract: its number is that of loading. Assumes nothing.
 use mathlib.Core.Path.{_≡_, ap}
 use borrow.Author.Needs.{needs}
 use denote.Ref.{now}
 use Rattle.codebook.specs.declared.Shape.{Shape}
-use Rattle.codebook.specs.declared.Sizes.{Sizes}
 use Rattle.codebook.specs.Refusals.{outcomeNumber}
 use Rattle.codebook.specs.Loading.{Load, refused, loaded, load, shapeOf, numberBy}
-use Rattle.codebook.specs.Tables.{sizesOf}
 use Rattle.loading.proofs.loader.load.Statement.{statement}
 use Rattle.loading.proofs.loader.load.Tie as tie
 
--- the shape that the sizes hold
-abbrev shape : Sizes → Shape
-shape x = record { outcome = x .outcome; n = x .n; k = x .k; blocks = x .blocks }
-
-shape-sizes : (l : Load) (x : Sizes) → x ≡ sizesOf l → shape x ≡ shapeOf l
-unfolding sizesOf shapeOf
-shape-sizes (refused r) x e = ap shape e
-shape-sizes (loaded B) x e = ap shape e
-
--- and its number
+-- the number of a shape's outcome
 shape-number : (l : Load) (s : Shape) → s ≡ shapeOf l → outcomeNumber (s .outcome) ≡ numberBy l (λ _. 0)
 unfolding shapeOf numberBy
 shape-number (refused r) s e = ap (λ (x : Shape). outcomeNumber (x .outcome)) e
@@ -31,8 +20,8 @@ load-tables-requires c κs = search needs
 returns : tie.Need-returns
 returns c =
     let l = load (now (c .before .before .before .before .before .before .before .args .book)) in
-    let e = shape-sizes l (c .load-tables .result) (c .load-tables .ensures .0) in
-    (e, shape-number l (shape (c .load-tables .result)) e)
+    let e = c .load-tables .ensures .0 in
+    (e, shape-number l (c .load-tables .result) e)
 
 pub load-spec : {M : Type 1} → statement M
 load-spec = tie.close (tie.spec load-tables-requires returns)

@@ -7,6 +7,9 @@ use Rattle.laws.proofs.Lists.{getD-zeros}
 use Rattle.reading.proofs.run.run.Statement.{statement}
 use Rattle.reading.proofs.run.run.Tie as tie
 
+cast-arrays : tie.Need-cast-arrays
+cast-arrays c = search needs
+
 slice-aggregate-run-with : tie.Need-slice-aggregate-run-with
 slice-aggregate-run-with c = search needs
 
@@ -15,8 +18,8 @@ slice-aggregate-run-with-2 c = search needs
 
 run-with-requires : tie.Need-run-with-requires
 run-with-requires c κs =
-    let s = c .before .before .before .before .before .before .before .before .before .before in
-    ((omega (arith, length-replicate {A = ℕ} 512 0), getD-zeros 512, omega (arith, length-replicate {A = ℕ} 128 0)), s .pre)
+    let p = c .before .before .before .before .before .before .before .before .before .before .pre in
+    ((omega (arith, length-replicate {A = ℕ} 512 0), getD-zeros 512, omega (arith, length-replicate {A = ℕ} 128 0)), (p .0, (p .1 .0, ((p .1 .1 .0 .0, p .1 .1 .0 .1, omega arith, p .0 .paths), p .1 .1 .1))))
 
 same-length : tie.Need-same-length
 same-length c = search needs
@@ -44,8 +47,8 @@ slice-aggregate-run-with-4 c = search needs
 
 run-with-requires-2 : tie.Need-run-with-requires-2
 run-with-requires-2 c κs =
-    let s = c .before .before .before .before .before .before .before .before .before .before in
-    ((omega (arith, length-replicate {A = ℕ} 4096 0), getD-zeros 4096, omega (arith, length-replicate {A = ℕ} 1024 0)), s .pre)
+    let p = c .before .before .before .before .before .before .before .before .before .before .pre in
+    ((omega (arith, p .0 .paths, length-replicate {A = ℕ} 4096 0), getD-zeros 4096, omega (arith, p .0 .paths, length-replicate {A = ℕ} 1024 0)), (p .0, (p .1 .0, ((p .1 .1 .0 .0, p .1 .1 .0 .1, omega arith, p .0 .paths), p .1 .1 .1))))
 
 same-length-6 : tie.Need-same-length-6
 same-length-6 c = search needs
@@ -69,6 +72,7 @@ pub run-spec : {M : Type 1} → statement M
 run-spec =
     tie.close
     (tie.spec
+    cast-arrays
     slice-aggregate-run-with
     slice-aggregate-run-with-2
     run-with-requires

@@ -6,13 +6,14 @@ use Prim.Native.Nat.{ℕ, _+_, _-_, _*_, _≤_, _<_}
 use native.Mathlib.Nat.{mul-le-mul}
 use native.Mathlib.Omega.{arith}
 use lib.ListN.{replicate, length-replicate}
+use Rattle.queue.specs.Run.{mostExtractions}
 use Rattle.order.specs.Entries.{queueOf}
 use Rattle.standing.specs.Seen.{Memory, memory}
 use Rattle.reading.specs.Before.{Before}
 use Rattle.reading.specs.Ending.{Ending}
 use Rattle.reading.specs.Running.{arraysOf, received, Running}
 use Rattle.reading.proofs.Received.{received-root}
-use Rattle.reading.proofs.Turns.{run-blocks, table-fits}
+use Rattle.reading.proofs.Turns.{run-deep, run-blocks, table-fits}
 use Rattle.reading.proofs.Stops.{stop-small, stop-left, stop-ending, stop-walks, stop-ran}
 use Rattle.reading.proofs.run.run_with.Statement.{statement}
 use Rattle.reading.proofs.run.run_with.Tie as tie
@@ -21,57 +22,55 @@ use Rattle.reading.proofs.run.run_with.Tie as tie
 abbrev Input : tie.Start → Type 0
 Input s =
     let a = s .args in
-    Running (a .s) (a .values .now) (a .kinds .now) (a .terms .now) (a .heights .now) (a .starts .now) (a .biases .now)
+    Running (a .x) (a .values .now) (a .kinds .now) (a .terms .now) (a .heights .now) (a .starts .now) (a .biases .now)
 
 abbrev input : (s : tie.Start) → Input s
 input s = s .pre .1 .1 .1 .1 .1
 
 -- no run has more extractions than fit
-most-fits : (s : tie.Start) → s .args .s .visits * s .args .s .blocks ≤ 32 * 512
-most-fits s = mul-le-mul (s .pre .1 .0 .1) (run-blocks (input s) .1)
-
-cast-most : tie.Need-cast-most
-cast-most c = omega (arith, run-blocks (input (c .before .before .before)) .1)
+most-fits : (s : tie.Start) → s .args .s .visits * s .args .x .blocks ≤ 32 * 512
+most-fits s = mul-le-mul (s .pre .1 .0 .visits) (run-blocks (input s) .1)
 
 mul-most : tie.Need-mul-most
-mul-most c = omega (arith, most-fits (c .before .before .before .before))
+mul-most c = omega (arith, most-fits (c .before .before .before .before .before))
 
 add-most : tie.Need-add-most
-add-most c = omega (arith, most-fits (c .before .before .before .before))
+add-most c = omega (arith, most-fits (c .before .before .before .before .before))
 
 extractions-requires : tie.Need-extractions-requires
 extractions-requires c κs =
-    let s = c .before .before .before .before .before .before .before .before .before .before .before .before .before .before .before in
+    let s = c .before .before .before .before .before .before .before .before .before .before .before .before .before .before .before .before in
     (s .pre .0, ((refl {a = replicate 2580 0}, length-replicate {A = ℕ} 256 0, length-replicate {A = ℕ} 256 0, refl {a = replicate 512 0}), s .pre .1))
 
 -- ---- once the extractions are made
 
 -- where they began
 abbrev began : tie.After-extractions → tie.Start
-began c = c .before .before .before .before .before .before .before .before .before .before .before .before .before .before .before .before
+began c = c .before .before .before .before .before .before .before .before .before .before .before .before .before .before .before .before .before
 
 -- the memory then
 abbrev left : tie.After-extractions → Memory
-left c = memory (c .extractions .last .1 .0) (c .extractions .last .1 .1 .0) (c .extractions .last .1 .1 .1 .1 .1 .1 .1 .1 .1 .1 .1 .1 .1 .1 .0) (c .extractions .last .1 .1 .1 .1 .1 .1 .1 .1 .1 .1 .1 .1 .1 .1 .1 .0)
+left c = memory (c .extractions .last .1 .0) (c .extractions .last .1 .1 .0) (c .extractions .last .1 .1 .1 .1 .1 .1 .1 .1 .1 .1 .1 .1 .1 .1 .1 .1 .0) (c .extractions .last .1 .1 .1 .1 .1 .1 .1 .1 .1 .1 .1 .1 .1 .1 .1 .1 .1 .0)
 
 -- what their contract says
 abbrev stopped : (c : tie.After-extractions) (r : Input (began c)) → let a = began c .args in
-    Before (r .book) (a .s .visits) (a .s .paths) (arraysOf (a .s .m) (received (a .s .m) (a .values .now) (a .numbers .now)) (a .bytes .now)) (a .s .visits * a .s .blocks + 1)
+    Before (r .book) (a .s .visits) (a .s .paths) (a .arrays) (arraysOf (a .x .m) (received (a .x .m) (a .values .now) (a .numbers .now)) (a .bytes .now)) (a .s .visits * a .x .blocks + 1)
     (left c) (c .extractions .last .1 .1 .1 .0) (c .extractions .last .1 .1 .1 .1 .0) (c .extractions .last .1 .1 .1 .1 .1 .0) (c .extractions .last .1 .1 .1 .1 .1 .1 .0) (c .extractions .result .tally) (c .extractions .result .entry)
-    (a .walk-path .now) (a .walk-blocks .now) (a .walk-score .now) (c .extractions .last .1 .1 .1 .1 .1 .1 .1 .1 .1 .1 .1 .1 .1 .1 .1 .1 .0) (c .extractions .last .1 .1 .1 .1 .1 .1 .1 .1 .1 .1 .1 .1 .1 .1 .1 .1 .1 .0) (c .extractions .last .1 .1 .1 .1 .1 .1 .1 .1 .1 .1 .1 .1 .1 .1 .1 .1 .1 .1 .0)
+    (a .walk-path .now) (a .walk-blocks .now) (a .walk-score .now) (c .extractions .last .1 .1 .1 .1 .1 .1 .1 .1 .1 .1 .1 .1 .1 .1 .1 .1 .1 .1 .0) (c .extractions .last .1 .1 .1 .1 .1 .1 .1 .1 .1 .1 .1 .1 .1 .1 .1 .1 .1 .1 .1 .0) (c .extractions .last .1 .1 .1 .1 .1 .1 .1 .1 .1 .1 .1 .1 .1 .1 .1 .1 .1 .1 .1 .1 .0)
 stopped c r = c .extractions .ensures .1 r
 
 -- no run has as many before its end
-fewer : (c : tie.After-extractions) → c .extractions .result .tally .extractions < began c .args .s .visits * began c .args .s .blocks + 1
+fewer : (c : tie.After-extractions) → c .extractions .result .tally .extractions < began c .args .s .visits * began c .args .x .blocks + 1
+unfolding mostExtractions
 fewer c = stop-left (input (began c)) (stopped c (input (began c)))
 
 -- the received values are at the root of the arrays that they start from
 root : (c : tie.After-extractions) → let a = began c .args in
-    arraysOf (a .s .m) (received (a .s .m) (a .values .now) (a .numbers .now)) (a .bytes .now) .vals (a .s .m) 1 ≡ a .values .now
+    arraysOf (a .x .m) (received (a .x .m) (a .values .now) (a .numbers .now)) (a .bytes .now) .vals (a .x .m) 1 ≡ a .values .now
 root c =
     let s = began c in
     let a = s .args in
-    received-root (a .s .m) (a .s .paths) (a .values .now) (a .numbers .now) (s .pre .1 .1 .1 .0 .0) (omega (arith, s .pre .1 .0 .2)) (input s .size) (a .bytes .now)
+    received-root (a .x .m) (a .arrays) (a .values .now) (a .numbers .now) (s .pre .1 .1 .1 .0 .0) (omega (arith, s .pre .1 .0 .alive, s .pre .1 .1 .1 .0 .2)) (input s .size) (a .bytes .now)
 
 cast-note : tie.Need-cast-note
 cast-note c = search needs
@@ -88,6 +87,9 @@ note-requires c κs =
       stop-small (input (began x)) g,
     )
 
+cast-before : tie.Need-cast-before
+cast-before c = search needs
+
 before-requires : tie.Need-before-requires
 before-requires c κs = tt
 
@@ -95,7 +97,7 @@ before-requires c κs = tt
 
 -- the extractions, from where the last block is asked for
 abbrev made : tie.After-before2 → tie.After-extractions
-made c = c .before .before .before .before .before .before .before .before .before .before .before .before .before .before .before .before .before .before .before .before
+made c = c .before .before .before .before .before .before .before .before .before .before .before .before .before .before .before .before .before .before .before .before .before
 
 block-at-requires : tie.Need-block-at-requires
 block-at-requires c κs =
@@ -106,14 +108,17 @@ block-at-requires c κs =
 
 -- what the end needs for an input
 abbrev last-hand : (c : tie.After-block-at) (r : Input (began (made (c .before)))) → let x = made (c .before) in let a = began x .args in let t = x .extractions .result .tally in
-    Ending (a .s .m) (a .s .paths) (left x) (x .extractions .result .entry) (queueOf (x .extractions .last .1 .1 .1 .0) (t .queued))
+    Ending (a .x .m) (a .s .paths) (a .arrays) (left x) (x .extractions .result .entry) (queueOf (x .extractions .last .1 .1 .1 .0) (t .queued))
     (queueOf (x .extractions .last .1 .1 .1 .1 .0) (a .s .paths - (t .queued + 1))) (c .block-at .result)
 last-hand c r =
-    stop-ending r (stopped (made (c .before)) r) (fewer (made (c .before))) (root (made (c .before))) (began (made (c .before)) .pre .1 .0 .2) (c .block-at .result) (c .before .before2 .result) (c .before .before2 .ensures) (c .block-at .ensures)
+    stop-ending r (stopped (made (c .before)) r) (fewer (made (c .before))) (root (made (c .before))) (began (made (c .before)) .pre .1 .0 .alive) (c .block-at .result) (c .before .before2 .result) (c .before .before2 .ensures) (c .block-at .ensures)
+
+cast-finish : tie.Need-cast-finish
+cast-finish c = record { fits = omega (arith, run-deep (input (began (made (c .before .before .before .before .before .before))))) }
 
 finish-requires : tie.Need-finish-requires
 finish-requires c κs =
-    let u = c .before .before .before .before in
+    let u = c .before .before .before .before .before in
     let x = made (u .before) in
     let a = began x .args in
     let t = x .extractions .result .tally in (
@@ -123,10 +128,10 @@ finish-requires c κs =
 
 -- the end's last call, and the extractions
 abbrev last-read : tie.After-finish → tie.After-block-at
-last-read c = c .before .before .before .before .before
+last-read c = c .before .before .before .before .before .before
 
 abbrev noted : tie.After-finish → tie.After-note
-noted c = last-read c .before .before .before .before .before
+noted c = last-read c .before .before .before .before .before .before
 
 abbrev ran : tie.After-finish → tie.After-extractions
 ran c = made (last-read c .before)
@@ -144,13 +149,13 @@ same-length-4 : tie.Need-same-length-4
 same-length-4 c = let f = c .before .before .before .before in omega (arith, noted f .before .before .before .before .before .before .before .before .before .before .bytes .given, c .before .bytes2 .given)
 
 same-length-5 : tie.Need-same-length-5
-same-length-5 c = let f = c .before .before .before .before in omega (arith, noted f .before .before .before .before .before .before .before .before .walk-path .given, last-read f .before .before .before .before .walk-path2 .given)
+same-length-5 c = let f = c .before .before .before .before in omega (arith, noted f .before .before .before .before .before .before .before .before .walk-path .given, last-read f .before .before .before .before .before .walk-path2 .given)
 
 same-length-6 : tie.Need-same-length-6
-same-length-6 c = let f = c .before .before .before .before in omega (arith, noted f .before .before .before .before .before .before .before .walk-blocks .given, last-read f .before .before .before .walk-blocks2 .given)
+same-length-6 c = let f = c .before .before .before .before in omega (arith, noted f .before .before .before .before .before .before .before .walk-blocks .given, last-read f .before .before .before .before .walk-blocks2 .given)
 
 same-length-7 : tie.Need-same-length-7
-same-length-7 c = let f = c .before .before .before .before in omega (arith, noted f .before .before .before .before .before .before .walk-score .given, last-read f .before .before .walk-score2 .given)
+same-length-7 c = let f = c .before .before .before .before in omega (arith, noted f .before .before .before .before .before .before .walk-score .given, last-read f .before .before .before .walk-score2 .given)
 
 returns : tie.Need-returns
 returns c r =
@@ -161,7 +166,7 @@ returns c r =
     let n = noted f in
     let w = stop-walks r (stopped x r) (fewer x) (s .pre .1 .1 .1 .1 .0)
     (record { path-set = n .note .ensures .0; blocks-set = n .note .ensures .1; score-set = n .note .ensures .2 }) in (
-      stop-ran r (stopped x r) (fewer x) (f .finish .result) (f .finish .last .1 .1 .1 .0) (f .finish .ensures .0) (f .finish .ensures .1 _ _ (last-hand u r)),
+      stop-ran r (stopped x r) (fewer x) (f .finish .result) (f .finish .last .1 .1 .1 .0) (f .finish .ensures _ _ (last-hand u r)),
       w .path-is,
       w .blocks-is,
       w .score-is,
@@ -170,4 +175,4 @@ returns c r =
 pub run-with-spec : {M : Type 1} → statement M
 run-with-spec =
     tie.close
-    (tie.spec cast-most mul-most add-most extractions-requires cast-note note-requires before-requires block-at-requires finish-requires same-length same-length-2 same-length-3 same-length-4 same-length-5 same-length-6 same-length-7 returns)
+    (tie.spec mul-most add-most extractions-requires cast-note note-requires cast-before before-requires block-at-requires cast-finish finish-requires same-length same-length-2 same-length-3 same-length-4 same-length-5 same-length-6 same-length-7 returns)

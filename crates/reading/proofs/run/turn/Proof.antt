@@ -26,7 +26,7 @@ use Rattle.reading.proofs.run.turn.Tie as tie
 abbrev Turn : tie.Start → Type 0
 Turn s =
     let a = s .args in
-    Turning (a .s) (a .kinds .now) (a .terms .now) (a .heights .now) (a .starts .now) (a .biases .now) (memory (a .rows .now) (a .holders .now) (a .numbers .now) (a .bytes .now))
+    Turning (a .x) (a .s) (a .arrays) (a .kinds .now) (a .terms .now) (a .heights .now) (a .starts .now) (a .biases .now) (memory (a .rows .now) (a .holders .now) (a .numbers .now) (a .bytes .now))
     (a .order .now) (a .vacant .now) (a .visits .now) (a .kept .now) (a .t) (a .e) (a .walk-path .now) (a .walk-blocks .now) (a .walk-score .now)
 
 abbrev own : (s : tie.Start) → Turn s
@@ -34,13 +34,13 @@ own s = s .pre .1 .1 .1 .1
 
 -- it is under way
 abbrev going : (s : tie.Start) (r : Turn s) → let a = s .args in
-    Going (r .input .book) (r .values) (a .s .visits) (a .s .paths) (r .arrays) (memory (a .rows .now) (a .holders .now) (a .numbers .now) (a .bytes .now))
+    Going (r .input .book) (r .values) (a .s .visits) (a .s .paths) (a .arrays) (r .arrays) (memory (a .rows .now) (a .holders .now) (a .numbers .now) (a .bytes .now))
     (a .order .now) (a .vacant .now) (a .visits .now) (a .kept .now) (a .t) (a .e) (r .path₀) (r .blocks₀) (r .score₀) (a .walk-path .now) (a .walk-blocks .now) (a .walk-score .now)
-going s r = turning-going r (s .pre .1 .0 .2) (s .pre .0 .3)
+going s r = turning-going r (s .pre .1 .0 .alive) (s .pre .0 .3)
 
 limits : (s : tie.Start) → let t = s .args .t in
     (t .extractions < 16385) × (t .next < 32768) × (t .crowded < 65536) × (t .outrun < 16777216) × ((b : ℕ) → getD (s .args .visits .now) b 0 < 65536)
-limits s = going-limits (going s (own s)) (own s .input .tables .booked .valid) (s .pre .1 .0 .1)
+limits s = going-limits (going s (own s)) (own s .input .tables .booked .valid) (s .pre .1 .0 .visits)
 
 cast-note : tie.Need-cast-note
 cast-note c = search needs
@@ -87,7 +87,7 @@ block-at-requires-2 c κs =
 
 -- what it needs
 abbrev extracting : (c : tie.After-block-at2) (r : Turn (began (c .before .before))) → let a = began (c .before .before) .args in
-    Extracting (a .s .m) (a .s .visits) (a .s .paths) (a .t .extractions) (a .t .next) (memory (a .rows .now) (a .holders .now) (a .numbers .now) (a .bytes .now)) (a .e)
+    Extracting (a .x .m) (a .s .visits) (a .s .paths) (a .arrays) (a .t .extractions) (a .t .next) (memory (a .rows .now) (a .holders .now) (a .numbers .now) (a .bytes .now)) (a .e)
     (queueOf (a .order .now) (a .t .queued)) (queueOf (a .vacant .now) (a .s .paths - (a .t .queued + 1))) (a .kinds .now) (a .terms .now) (c .before .block-at .result) (c .block-at2 .result)
     (a .kept .now) (a .visits .now)
 extracting c r =
@@ -95,47 +95,50 @@ extracting c r =
     run-extracting (r .input) (going (began u) r) (r .root) (c .before .block-at .result) (c .block-at2 .result) (u .before2 .result) (u .before .blocks-of .result)
     (u .before .blocks-of .ensures) (u .before2 .ensures) (turning-more r) (c .before .block-at .ensures) (c .block-at2 .ensures)
 
+cast-extract : tie.Need-cast-extract
+cast-extract c = search needs
+
 extract-requires : tie.Need-extract-requires
 extract-requires c κs =
-    let u = c .before .before .before .before .before .before .before .before .before .before .before in
+    let u = c .before .before .before .before .before .before .before .before .before .before .before .before in
     let s = began (u .before .before) in
     let i = s .pre .0 in
     let l = limits s in (
       (i .0, i .1, i .2, i .3, i .4),
-      ((i .5, s .pre .1 .0 .2, going-room (going s (own s)), l .1, l .2, l .3), (l .4, (extracting u (own s), own s .at .rising))),
+      ((i .5, s .pre .1 .0 .alive, going-room (going s (own s)), l .1, l .2, l .3), (l .4, (extracting u (own s), own s .at .rising))),
     )
 
 -- once the path was extracted: where both blocks were read, and where the turn began
 abbrev read : tie.After-extract → tie.After-block-at2
-read c = c .before .before .before .before .before .before .before .before .before .before .before .before
+read c = c .before .before .before .before .before .before .before .before .before .before .before .before .before
 
 abbrev start : tie.After-extract → tie.Start
 start c = began (read c .before .before)
 
 -- the run has a final word
 found : (s : tie.Start) (r : Turn s) → (f : Final) × (R.runOf (r .input .book) (s .args .s .visits) (s .args .s .paths) (r .arrays) .end ≡ Q.found f)
-found s r = run-found (r .input) (r .arrays) (s .pre .1 .0 .0) (r .root)
+found s r = run-found (r .input) (s .args .s .visits) (s .args .s .paths) (r .arrays) (s .pre .1 .0 .visited) (r .root)
 
 -- a path is queued
 queued-some : (c : tie.After-extract) → 1 ≤ c .extract .result .queued
 queued-some c =
     let s = start c in
     let r = own s in
-    run-some (r .input) (going s r) (s .pre .1 .0 .2) (s .pre .1 .0 .3) (found s r) (turning-more r) (c .extract .result) (c .extract .ensures .1 .1 .0 (extracting (read c) r) .0)
+    run-some (r .input) (going s r) (s .pre .1 .0 .alive) (s .pre .1 .0 .paths) (found s r) (turning-more r) (c .extract .result) (c .extract .ensures .1 .1 .0 (extracting (read c) r) .0)
 
-add-x : tie.Need-add-x
-add-x c = let x = c .before .before .before .before .before .before .before .before in omega (arith, limits (start x) .0, x .extract .ensures .1 .0 .0)
+add-after : tie.Need-add-after
+add-after c = let x = c .before .before .before .before .before .before .before .before in omega (arith, limits (start x) .0, x .extract .ensures .1 .0 .0)
 
 sub-left : tie.Need-sub-left
 sub-left c = omega (arith, queued-some (c .before .before .before .before .before .before .before .before .before))
 
 mul-next : tie.Need-mul-next
-mul-next c = let x = c .before .before .before .before .before .before .before .before .before in omega (arith, queued-some x, x .extract .ensures .1 .0 .1, start x .pre .1 .0 .3)
+mul-next c = let x = c .before .before .before .before .before .before .before .before .before in omega (arith, queued-some x, x .extract .ensures .1 .0 .1, start x .pre .1 .0 .paths)
 
 element-copy-out-next : tie.Need-element-copy-out-next
 element-copy-out-next c =
     let x = c .before .before .before .before .before .before .before .before .before in
-    omega (arith, queued-some x, x .extract .ensures .1 .0 .1, start x .pre .1 .0 .3, x .extract .ensures .0 .1)
+    omega (arith, queued-some x, x .extract .ensures .1 .0 .1, start x .pre .1 .0 .paths, x .extract .ensures .0 .1)
 
 -- ---- the end
 
@@ -182,8 +185,8 @@ returns c =
         λ r.
             let made = o .1 .1 .0 (extracting (read x) r) in
             run-before (r .input)
-            (run-turn (r .input) (going s r) (s .pre .1 .0 .2) (s .pre .1 .0 .3) (found s r) (turning-more r) (counted (x .extract .result))
-            (memory (l .0) (l .1 .0) (l .1 .1 .1 .1 .1 .0) (l .1 .1 .1 .1 .1 .1 .0)) (l .1 .1 .0) (l .1 .1 .1 .0) (l .1 .1 .1 .1 .0) (l .1 .1 .1 .1 .1 .1 .1 .1 .1 .1 .1 .1 .1 .1 .0)
+            (run-turn (r .input) (going s r) (s .pre .1 .0 .alive) (s .pre .1 .0 .paths) (found s r) (turning-more r) (counted (x .extract .result))
+            (memory (l .0) (l .1 .0) (l .1 .1 .1 .1 .1 .0) (l .1 .1 .1 .1 .1 .1 .0)) (l .1 .1 .0) (l .1 .1 .1 .0) (l .1 .1 .1 .1 .0) (l .1 .1 .1 .1 .1 .1 .1 .1 .1 .1 .1 .1 .1 .1 .1 .1 .0)
             (made .0, made .1, made .2, made .3, made .4, made .5, made .6) (omega (arith, o .1 .0 .0)) (r .room)
             (record { path-set = n .note .ensures .0; blocks-set = n .note .ensures .1; score-set = n .note .ensures .2 }))
             (rising-less (l .1 .1 .0) (x .extract .result .queued) _ (o .1 .1 .1) (omega arith)) (s .args .t .extractions + 1) (omega (arith, o .1 .0 .0)) (λ k. absurd (omega (arith, o .1 .0 .0))),
@@ -193,4 +196,4 @@ returns c =
 pub turn-spec : {M : Type 1} → statement M
 turn-spec =
     tie.close
-    (tie.spec cast-note note-requires blocks-of-requires cast-b before-requires block-at-requires block-at-requires-2 extract-requires add-x sub-left mul-next element-copy-out-next same-length same-length-2 same-length-3 same-length-4 same-length-5 same-length-6 same-length-7 returns)
+    (tie.spec cast-note note-requires blocks-of-requires cast-b before-requires block-at-requires block-at-requires-2 cast-extract extract-requires add-after sub-left mul-next element-copy-out-next same-length same-length-2 same-length-3 same-length-4 same-length-5 same-length-6 same-length-7 returns)

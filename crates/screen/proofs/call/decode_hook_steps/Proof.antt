@@ -1,7 +1,5 @@
 -- `screen::call::decode_hook_steps` meets its contract: it is the thin call of Thin.antt, at the struct HookDecoded. All that is known of decode_hook_within and copy_steps
 -- is that each meets its contract. Assumes nothing.
-use mathlib.Core.Bool.{true}
-use lib.ListN.{length}
 use mathlib.Core.Path.{ap}
 use mir.Syntax.{tnil, tcons}
 use mir.Val.{vnil, vcons}
@@ -12,12 +10,13 @@ use denote.Triple.Table.{entered, cited}
 use contract.Running.{givenOf, tables, tablesOf}
 use Rattle.codebook.proofs.Outcome.Laws as O′
 use Rattle.codec.proofs.HookRecord.Laws as K′
+use Rattle.machine.specs.declared.Reads.the-variants.{Record}
 use Rattle.machine.specs.declared.Counts.{Counts}
 use Rattle.machine.specs.declared.HookDecoded.{HookDecoded}
 use Rattle.machine.proofs.HookDecoded as N
 use Rattle.machine.proofs.HookDecoded.Laws as N′
-use Rattle.screen.specs.Screen.{hookWithin}
-use Rattle.screen.proofs.Shown.{Leaves, Says, hook-says}
+use Rattle.screen.specs.Screen.{Shows}
+use Rattle.screen.proofs.Shown.{Leaves, shows}
 use Rattle.screen.proofs.Thin.{Answered, thin-meets}
 use Rattle.screen.proofs.within.decode_hook_within as within
 use Rattle.screen.proofs.within.decode_hook_within.Symbol as within-def
@@ -53,7 +52,7 @@ unfolding code.routine tablesOf
 decode-hook-steps-spec 𝓤 H 𝓜 𝓖 𝓡 =
     entered 𝓤 H (tripleOf 𝓤 H (𝓖 .A) f.signature (f.spec 𝓤 H (𝓖 .A) (𝓜 .mem) (𝓡 .run)))
     (tables 𝓤 H 𝓜 𝓡 code.env .C) (tables 𝓤 H 𝓜 𝓡 code.env .Λ) #decode-hook-steps code.function (code.unfolded 𝓤 H 𝓜 𝓡)
-    (thin-meets N.the-row answered (λ c l room. Leaves true c l counts (hookWithin c l room) room) (λ c l old. Says true c l counts (hookWithin c l (length old)) old) (λ c l room r after h. h .2) hook-says
+    (thin-meets N.the-row answered (λ c l room r after. Leaves Record c l room r after) (λ c l old r after steps. Shows Record c l old r after steps) (λ c l room r after h. h .1) (λ c l old r after h. shows Record c l old r after h)
     𝓤 H (𝓖 .A) (givenOf 𝓤 H 𝓜 𝓖) (𝓜 .mem) (𝓡 .run) (tablesOf 𝓤 H 𝓜 (tables 𝓤 H 𝓜 𝓡 code.env)) #within
     (cited 𝓤 H (tripleOf 𝓤 H (𝓖 .A) within.signature (within.spec 𝓤 H (𝓖 .A) (𝓜 .mem) (𝓡 .run))) 𝓜 𝓡 code.env #within within-def.routine code.calls-screen·within·decode-hook-within (within-thm.met 𝓤 H 𝓜 𝓖 𝓡))
     (cited 𝓤 H (tripleOf 𝓤 H (𝓖 .A) copies.signature (copies.spec 𝓤 H (𝓖 .A) (𝓜 .mem) (𝓡 .run))) 𝓜 𝓡 code.env #copy-steps copies-def.routine code.calls-steprecords·copy-steps (copies-thm.met 𝓤 H 𝓜 𝓖 𝓡)))

@@ -1,7 +1,5 @@
 -- `screen::call::decode_steps` meets its contract: it is the thin call of Thin.antt, at the struct Decoded. All that is known of decode_within and copy_steps
 -- is that each meets its contract. Assumes nothing.
-use mathlib.Core.Bool.{false}
-use lib.ListN.{length}
 use mathlib.Core.Path.{ap}
 use mir.Syntax.{tnil}
 use mir.Val.{vnil}
@@ -11,12 +9,14 @@ use denote.Triple.Spec.{tripleOf}
 use denote.Triple.Table.{entered, cited}
 use contract.Running.{givenOf, tables, tablesOf}
 use Rattle.codebook.proofs.Outcome.Laws as O′
+use Rattle.machine.specs.declared.Reads.the-variants.{Data}
 use Rattle.machine.specs.declared.Counts.{Counts}
 use Rattle.machine.specs.declared.Decoded.{Decoded}
+use Rattle.machine.specs.Calls.{unread}
 use Rattle.machine.proofs.Decoded as N
 use Rattle.machine.proofs.Decoded.Laws as N′
-use Rattle.screen.specs.Screen.{plainWithin}
-use Rattle.screen.proofs.Shown.{Leaves, Says, plain-says}
+use Rattle.screen.specs.Screen.{Shows}
+use Rattle.screen.proofs.Shown.{Leaves, shows}
 use Rattle.screen.proofs.Thin.{Answered, thin-meets}
 use Rattle.screen.proofs.within.decode_within as within
 use Rattle.screen.proofs.within.decode_within.Symbol as within-def
@@ -52,7 +52,7 @@ unfolding code.routine tablesOf
 decode-steps-spec 𝓤 H 𝓜 𝓖 𝓡 =
     entered 𝓤 H (tripleOf 𝓤 H (𝓖 .A) f.signature (f.spec 𝓤 H (𝓖 .A) (𝓜 .mem) (𝓡 .run)))
     (tables 𝓤 H 𝓜 𝓡 code.env .C) (tables 𝓤 H 𝓜 𝓡 code.env .Λ) #decode-steps code.function (code.unfolded 𝓤 H 𝓜 𝓡)
-    (thin-meets N.the-row answered (λ c l room. Leaves false c l counts (plainWithin c l room) room) (λ c l old. Says false c l counts (plainWithin c l (length old)) old) (λ c l room r after h. h .2) plain-says
+    (thin-meets N.the-row answered (λ c l room r after. Leaves Data c l room (unread r) after) (λ c l old r after steps. Shows Data c l old (unread r) after steps) (λ c l room r after h. h .1) (λ c l old r after h. shows Data c l old (unread r) after h)
     𝓤 H (𝓖 .A) (givenOf 𝓤 H 𝓜 𝓖) (𝓜 .mem) (𝓡 .run) (tablesOf 𝓤 H 𝓜 (tables 𝓤 H 𝓜 𝓡 code.env)) #within
     (cited 𝓤 H (tripleOf 𝓤 H (𝓖 .A) within.signature (within.spec 𝓤 H (𝓖 .A) (𝓜 .mem) (𝓡 .run))) 𝓜 𝓡 code.env #within within-def.routine code.calls-screen·within·decode-within (within-thm.met 𝓤 H 𝓜 𝓖 𝓡))
     (cited 𝓤 H (tripleOf 𝓤 H (𝓖 .A) copies.signature (copies.spec 𝓤 H (𝓖 .A) (𝓜 .mem) (𝓡 .run))) 𝓜 𝓡 code.env #copy-steps copies-def.routine code.calls-steprecords·copy-steps (copies-thm.met 𝓤 H 𝓜 𝓖 𝓡)))

@@ -2,7 +2,7 @@
 -- Assumes nothing.
 use borrow.Author.Needs.{needs}
 use Rattle.machine.specs.Calls.{Input, Lent, given, lent}
-use Rattle.screen.proofs.Stepped.{step-fits, step-says}
+use Rattle.screen.proofs.Stepped.{step-fits, step-shows}
 use Rattle.screen.proofs.step.decode_step.Statement.{statement}
 use Rattle.screen.proofs.step.decode_step.Tie as tie
 
@@ -11,13 +11,13 @@ abbrev start : tie.After-decode → tie.Start
 start d = d .before .before .before .before .before .before .before .before .before .before .before .before
 
 abbrev call : tie.Start → Input
-call s = let a = s .args in given (a .book .now) (a .visits) (a .paths) (a .limit) (a .values .now)
+call s = let a = s .args in given (a .book .now) (a .s) (a .values .now)
 
 abbrev buffers : tie.Start → Lent
 buffers s = let a = s .args in lent (a .word .now) (a .bits .now) (a .numbers .now) (a .bytes .now) (a .walk-path .now) (a .walk-blocks .now) (a .walk-score .now)
 
 abbrev after : tie.After-decode → Lent
-after d = let l = d .decode .last .1 .1 .1 .1 .1 in lent (l .0) (l .1 .0) (l .1 .1 .0) (l .1 .1 .1 .0) (l .1 .1 .1 .1 .0) (l .1 .1 .1 .1 .1 .0) (l .1 .1 .1 .1 .1 .1 .0)
+after d = let l = d .decode .last .1 .1 .1 in lent (l .0) (l .1 .0) (l .1 .1 .0) (l .1 .1 .1 .0) (l .1 .1 .1 .1 .0) (l .1 .1 .1 .1 .1 .0) (l .1 .1 .1 .1 .1 .1 .0)
 
 decode-requires : tie.Need-decode-requires
 decode-requires c κs = search needs
@@ -29,7 +29,7 @@ record-at-requires : tie.Need-record-at-requires
 record-at-requires c κs =
     let d = c .before .before .before .before .before .before .before .before .before .before .before .before .before .before in
     let s = start d in
-    step-fits (call s) (buffers s) (d .decode .result) (after d) (d .decode .ensures .0) (d .decode .ensures .1)
+    step-fits (call s) (buffers s) (d .decode .result) (after d) (d .decode .ensures)
 
 same-length : tie.Need-same-length
 same-length c = search needs
@@ -57,7 +57,7 @@ returns c =
     let d = c .before .before .before .before .before .before .before .before .before .before .before .before .before .before .before .before in
     let s = start d in
     let x = c .before .record-at in
-    step-says (call s) (buffers s) (d .decode .result) (after d) (d .decode .ensures .0) (d .decode .ensures .1) (s .args .i) (x .result) (x .ensures) (d .decode .ensures .2)
+    step-shows (call s) (buffers s) (d .decode .result) (after d) (d .decode .ensures) (s .args .i) (x .result) (x .ensures)
 
 pub decode-step-spec : {M : Type 1} → statement M
 decode-step-spec =

@@ -1,42 +1,22 @@
--- `screen::within::decode_hook_within` meets its contract: by whether the records are too few. Assumes nothing.
-use mathlib.Core.Path.{_≡_, sym, _∙_}
-use mathlib.Core.List.{[]}
+-- `screen::within::decode_hook_within` meets its contract: the call in its manner; its count of extractions fits the room.
+-- Assumes nothing.
 use borrow.Author.Needs.{needs}
+use Rattle.machine.specs.declared.Reads.the-variants.{Record}
 use Rattle.machine.specs.Calls.{Input, Lent, given, lent}
-use Rattle.room.specs.Room.{few}
-use Rattle.room.proofs.Told.{few-any}
-use Rattle.screen.proofs.Shown.{hook-few, hook-enough}
+use Rattle.screen.specs.Screen.{showing}
+use Rattle.screen.proofs.Extracted.{left-fits}
 use Rattle.screen.proofs.within.decode_hook_within.Statement.{statement}
 use Rattle.screen.proofs.within.decode_hook_within.Tie as tie
 
--- where the call begins, and what it is given and lent
-abbrev start : tie.After-few → tie.Start
-start w = w .before .before .before .before .before
-
+-- what the call is given and lent
 abbrev call : tie.Start → Input
-call s = let a = s .args in given (a .book .now) (a .visits) (a .paths) (a .limit) (a .values .now)
+call s = let a = s .args in given (a .book .now) (a .s) (a .values .now)
 
 abbrev buffers : tie.Start → Lent
 buffers s = let a = s .args in lent (a .word .now) (a .bits .now) (a .numbers .now) (a .bytes .now) (a .walk-path .now) (a .walk-blocks .now) (a .walk-score .now)
 
--- whether the records are too few
-asked : (w : tie.After-few) → w .few .result ≡ few (call (start w)) (start w .args .room)
-asked w = let a = start w .args in w .few .ensures ∙ few-any (a .book .now) (a .visits) (a .paths) (a .limit) [] (a .values .now) (a .room)
-
-few-requires : tie.Need-few-requires
-few-requires c κs = search needs
-
-no-counts-requires : tie.Need-no-counts-requires
-no-counts-requires c κs = search needs
-
-returns : tie.Need-returns
-returns c =
-    let t = c .before in
-    let s = start (t .before) in
-    hook-few (call s) (buffers s) (s .args .room) (sym (asked (t .before)) ∙ t .if1 .taken) (c .no-counts .result) (c .no-counts .ensures)
-
-decode-hook-requires : tie.Need-decode-hook-requires
-decode-hook-requires c κs = search needs
+decode-in-requires : tie.Need-decode-in-requires
+decode-in-requires c κs = search needs
 
 same-length : tie.Need-same-length
 same-length c = search needs
@@ -59,21 +39,19 @@ same-length-6 c = search needs
 same-length-7 : tie.Need-same-length-7
 same-length-7 c = search needs
 
-returns-2 : tie.Need-returns-2
-returns-2 c =
+returns : tie.Need-returns
+returns c =
     let d = c .before .before .before .before .before .before .before .before .before .before in
-    let t = d .before .before .before .before .before .before .before .before in
-    let s = start (t .before) in
-    hook-enough (call s) (buffers s) (s .args .room) (sym (asked (t .before)) ∙ t .if1 .left) (d .decode-hook .result) _ (d .decode-hook .ensures .0) (d .decode-hook .ensures .1) (d .decode-hook .ensures .2)
+    let s = d .before .before .before .before .before .before .before .before .before .before .before .before in
+    let l = d .decode-in .last .1 .1 .1 .1 in
+    let after = lent (l .0) (l .1 .0) (l .1 .1 .0) (l .1 .1 .1 .0) (l .1 .1 .1 .1 .0) (l .1 .1 .1 .1 .1 .0) (l .1 .1 .1 .1 .1 .1 .0) in
+    (d .decode-in .ensures, left-fits Record (s .args .room) (call s) (buffers s) (d .decode-in .result) after (d .decode-in .ensures))
 
 pub decode-hook-within-spec : {M : Type 1} → statement M
 decode-hook-within-spec =
     tie.close
     (tie.spec
-    few-requires
-    no-counts-requires
-    returns
-    decode-hook-requires
+    decode-in-requires
     same-length
     same-length-2
     same-length-3
@@ -81,4 +59,4 @@ decode-hook-within-spec =
     same-length-5
     same-length-6
     same-length-7
-    returns-2)
+    returns)

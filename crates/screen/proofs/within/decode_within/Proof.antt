@@ -1,42 +1,24 @@
--- `screen::within::decode_within` meets its contract: by whether the records are too few. Assumes nothing.
-use mathlib.Core.Path.{_≡_, sym, _∙_}
-use mathlib.Core.List.{[]}
+-- `screen::within::decode_within` meets its contract: the call in its manner, which reads no record, so that the answer without its record is all of it; its count of extractions fits the room.
+-- Assumes nothing.
+use mathlib.Core.Path.{refl}
 use borrow.Author.Needs.{needs}
+use Rattle.machine.specs.declared.Reads.the-variants.{Data}
 use Rattle.machine.specs.Calls.{Input, Lent, given, lent}
-use Rattle.room.specs.Room.{few}
-use Rattle.room.proofs.Told.{few-any}
-use Rattle.screen.proofs.Shown.{plain-few, plain-enough}
+use Rattle.decoder.proofs.Said.{without-record}
+use Rattle.screen.specs.Screen.{showing}
+use Rattle.screen.proofs.Extracted.{left-fits}
 use Rattle.screen.proofs.within.decode_within.Statement.{statement}
 use Rattle.screen.proofs.within.decode_within.Tie as tie
 
--- where the call begins, and what it is given and lent
-abbrev start : tie.After-few → tie.Start
-start w = w .before .before .before .before .before
-
+-- what the call is given and lent
 abbrev call : tie.Start → Input
-call s = let a = s .args in given (a .book .now) (a .visits) (a .paths) (a .limit) (a .values .now)
+call s = let a = s .args in given (a .book .now) (a .s) (a .values .now)
 
 abbrev buffers : tie.Start → Lent
 buffers s = let a = s .args in lent (a .word .now) (a .bits .now) (a .numbers .now) (a .bytes .now) (a .walk-path .now) (a .walk-blocks .now) (a .walk-score .now)
 
--- whether the records are too few
-asked : (w : tie.After-few) → w .few .result ≡ few (call (start w)) (start w .args .room)
-asked w = let a = start w .args in w .few .ensures ∙ few-any (a .book .now) (a .visits) (a .paths) (a .limit) [] (a .values .now) (a .room)
-
-few-requires : tie.Need-few-requires
-few-requires c κs = search needs
-
-no-counts-requires : tie.Need-no-counts-requires
-no-counts-requires c κs = search needs
-
-returns : tie.Need-returns
-returns c =
-    let t = c .before in
-    let s = start (t .before) in
-    plain-few (call s) (buffers s) (s .args .room) (sym (asked (t .before)) ∙ t .if1 .taken) (c .no-counts .result) (c .no-counts .ensures)
-
-decode-requires : tie.Need-decode-requires
-decode-requires c κs = search needs
+decode-in-requires : tie.Need-decode-in-requires
+decode-in-requires c κs = search needs
 
 same-length : tie.Need-same-length
 same-length c = search needs
@@ -59,21 +41,20 @@ same-length-6 c = search needs
 same-length-7 : tie.Need-same-length-7
 same-length-7 c = search needs
 
-returns-2 : tie.Need-returns-2
-returns-2 c =
-    let d = c .before .before .before .before .before .before .before .before .before .before in
-    let t = d .before .before .before .before .before .before .before .before in
-    let s = start (t .before) in
-    plain-enough (call s) (buffers s) (s .args .room) (sym (asked (t .before)) ∙ t .if1 .left) (d .decode .result) _ (d .decode .ensures .0) (d .decode .ensures .1) (d .decode .ensures .2)
+returns : tie.Need-returns
+returns c =
+    let d = c .before .before .before .before .before .before .before .before .before .before .before in
+    let s = d .before .before .before .before .before .before .before .before .before .before .before .before in
+    let l = d .decode-in .last .1 .1 .1 .1 in
+    let after = lent (l .0) (l .1 .0) (l .1 .1 .0) (l .1 .1 .1 .0) (l .1 .1 .1 .1 .0) (l .1 .1 .1 .1 .1 .0) (l .1 .1 .1 .1 .1 .1 .0) in
+    let x = d .decode-in in
+    (without-record (showing Data (s .args .room)) (call s) (buffers s) (x .result) after refl (x .ensures), left-fits Data (s .args .room) (call s) (buffers s) (x .result) after (x .ensures))
 
 pub decode-within-spec : {M : Type 1} → statement M
 decode-within-spec =
     tie.close
     (tie.spec
-    few-requires
-    no-counts-requires
-    returns
-    decode-requires
+    decode-in-requires
     same-length
     same-length-2
     same-length-3
@@ -81,4 +62,4 @@ decode-within-spec =
     same-length-5
     same-length-6
     same-length-7
-    returns-2)
+    returns)

@@ -7,10 +7,10 @@ use Rattle.sharing.proofs.holders.find_from.Statement.{statement}
 use Rattle.sharing.proofs.holders.find_from.Tie as tie
 
 abbrev Inv-loop : tie.InvT-loop
-Inv-loop holders height most low₀ id₀ id = (1 ≤ id) × (id ≤ most + 1) × ((k : ℕ) → 1 ≤ k → k < id → 1 ≤ heldAt holders height k)
+Inv-loop holders height arrays low₀ id₀ id = (1 ≤ id) × (id ≤ arrays + 1) × ((k : ℕ) → 1 ≤ k → k < id → 1 ≤ heldAt holders height k)
 
 abbrev μ-loop : tie.MeasureT-loop
-μ-loop holders height most low₀ id₀ id = most + 1 - id
+μ-loop holders height arrays low₀ id₀ id = arrays + 1 - id
 
 skip-requires : tie.Need-skip-requires Inv-loop μ-loop
 skip-requires c κs = c .pre

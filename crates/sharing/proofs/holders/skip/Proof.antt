@@ -16,10 +16,10 @@ use Rattle.sharing.proofs.holders.skip.Statement.{statement}
 use Rattle.sharing.proofs.holders.skip.Tie as tie
 
 abbrev Inv-loop : tie.InvT-loop
-Inv-loop holders height most low₀ id₀ id = (1 ≤ id) × (id ≤ most + 1) × ((k : ℕ) → 1 ≤ k → k < id → 1 ≤ heldAt holders height k)
+Inv-loop holders height arrays low₀ id₀ id = (1 ≤ id) × (id ≤ arrays + 1) × ((k : ℕ) → 1 ≤ k → k < id → 1 ≤ heldAt holders height k)
 
 abbrev μ-loop : tie.MeasureT-loop
-μ-loop holders height most low₀ id₀ id = most + 1 - id
+μ-loop holders height arrays low₀ id₀ id = arrays + 1 - id
 
 -- the ids below a group are held, and so are the first n of the group, whose bits are 0
 group : (holders : List ℕ) (height id n : ℕ) → ((k : ℕ) → 1 ≤ k → k < id → 1 ≤ heldAt holders height k) → ((k : ℕ) → k < n → vacantBit (getD holders (height * 257 + id + k) 0) ≡ 0)

@@ -34,7 +34,7 @@ idOf t = getD (t .args .rows .now) (t .args .slot * 16 + t .args .height) 0
 abbrev heldOf : tie.Start → ℕ
 heldOf t = getD (t .args .holders .now) (t .args .height * 257 + idOf t) 0
 
-low : (t : tie.Start) → idOf t ≤ t .args .most
+low : (t : tie.Start) → idOf t ≤ t .args .arrays
 unfolding idAt
 low t = t .pre .1 .low
 
@@ -77,7 +77,7 @@ abbrev start : tie.After-first-free → tie.Start
 start c = c .before .before .before .before .before .before .before
 
 -- what first_free answers is the definition's choice, and one of the first ids
-chosen : (c : tie.After-first-free) (x : Shared (start c .args .holders .now) (start c .args .height) (start c .args .most) (idOf (start c))) →
+chosen : (c : tie.After-first-free) (x : Shared (start c .args .holders .now) (start c .args .height) (start c .args .arrays) (idOf (start c))) →
     c .first-free .result ≡ ownOf (idOf (start c)) (x .others)
 unfolding heldAt
 chosen c x =
@@ -86,12 +86,12 @@ chosen c x =
     let f = c .first-free .ensures in
     takes x w (c .first-free .result) (f .0) (f .2) (f .3)
 
-small : (c : tie.After-first-free) → c .first-free .result ≤ start c .args .most
+small : (c : tie.After-first-free) → c .first-free .result ≤ start c .args .arrays
 unfolding idAt
 small c =
     let t = start c in
     let x = t .pre .1 in
-    omega (arith, chosen c x, own-most (t .args .most) (idOf t) (x .others) (x .low) (x .few))
+    omega (arith, chosen c x, own-most (t .args .arrays) (idOf t) (x .others) (x .low) (x .few))
 
 sub-holders : tie.Need-sub-holders
 sub-holders c = omega (arith, some (start c))

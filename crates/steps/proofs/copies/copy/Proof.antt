@@ -31,28 +31,31 @@ at-start s = memory (s .args .rows .now) (s .args .holders .now) (s .args .numbe
 abbrev Copy : tie.Start → ℕ → Type 0
 Copy s b =
     let a = s .args in
-    Copying (a .s .m) (a .s .paths) (at-start s) (a .e) (queueOf (a .order .now) (a .t .queued)) (queueOf (a .vacant .now) (a .s .paths - (a .t .queued + 1)))
+    Copying (a .m) (a .s .paths) (a .arrays) (at-start s) (a .e) (queueOf (a .order .now) (a .t .queued)) (queueOf (a .vacant .now) (a .s .paths - (a .t .queued + 1)))
     (a .kinds .now) (a .terms .now) (a .last) (a .kept .now) b
 
 own : (s : tie.Start) → Copy s (s .pre .1 .1 .0 .0)
 own s = s .pre .1 .1 .0 .2
 
+cast-paths : tie.Need-cast-paths
+cast-paths c = search needs
+
 other-word-requires : tie.Need-other-word-requires
 unfolding memory
 other-word-requires c κs =
-    let s = c .before .before .before .before .before .before .before .before .before in
+    let s = c .before .before .before .before .before .before .before .before .before .before in
     let l = s .pre .0 .0 in
     let o = own s in
     let low = slot-low (o .hand .stands) in
-    let few : slotAt (s .args .e) < 256 = omega (arith, low, l .many) in
-    (((few, omega (arith, low, l .rows)), l .deep, copy-low o, copy-id o (l .many), (few, omega (arith, low, s .pre .0 .3))), (copy-searchable o l, (s .pre .1 .0 .0, copy-cost o)))
+    let few : slotAt (s .args .e) < 256 = omega (arith, low, l .few) in
+    (((few, omega (arith, low, l .rows)), l .has .deep, copy-low o, copy-id o (l .has .many), (few, omega (arith, low, s .pre .0 .3))), (copy-searchable o l, (s .pre .1 .0 .0, copy-cost o)))
 
 same-length : tie.Need-same-length
 same-length c = search needs
 
 -- the word found, for any state
 abbrev start : tie.After-other-word → tie.Start
-start c = c .before .before .before .before .before .before .before .before .before .before
+start c = c .before .before .before .before .before .before .before .before .before .before .before
 
 found-is : (c : tie.After-other-word) (b : ℕ) (o : Copy (start c) b) → Answers o (c .other-word .result) (seen o)
 unfolding memory
@@ -86,8 +89,8 @@ unfolding memory
 crowd-requires c κs =
     let s = start (c .before .before .before .before .before .before) in
     let l = s .pre .0 .0 in (
-      (l .rows, l .held, s .pre .0 .1, s .pre .0 .2, l .deep),
-      ((s .pre .1 .0 .1, l .many, s .pre .1 .0 .2), ((s .args .e, s .args .numbers .now, s .args .bytes .now, own s .hand), s .pre .1 .1 .1)),
+      (l .rows, l .has .held, s .pre .0 .1, s .pre .0 .2, l .has .deep),
+      ((s .pre .1 .0 .1, l .few, s .pre .1 .0 .2), ((s .args .arrays, l .has .many, s .args .e, s .args .numbers .now, s .args .bytes .now, own s .hand), s .pre .1 .1 .1)),
     )
 
 -- the search before the queue was cut
@@ -96,14 +99,14 @@ searched c = c .before .before .before .before .before .before .before
 
 add-to : tie.Need-add-to
 unfolding memory
-add-to c = let s = start (searched c) in omega (arith, c .crowd .ensures .0 .4, s .pre .0 .0 .many)
+add-to c = let s = start (searched c) in omega (arith, c .crowd .ensures .0 .4, s .pre .0 .0 .few)
 
 sub-to : tie.Need-sub-to
 sub-to c = search needs
 
 element-copy-out-to : tie.Need-element-copy-out-to
 unfolding memory
-element-copy-out-to c = let s = start (searched c) in omega (arith, c .crowd .ensures .0 .4, s .pre .0 .0 .many)
+element-copy-out-to c = let s = start (searched c) in omega (arith, c .crowd .ensures .0 .4, s .pre .0 .0 .few)
 
 some-there : (c : tie.After-crowd) → searched c .other-word .result .first .some ≡ true
 some-there c = not-false _ (c .before .before .before .before .before .if1 .left)
@@ -129,19 +132,19 @@ vacant-is c =
 -- what memory stands for once the queue is cut
 count : (c : tie.After-crowd) (b : ℕ) (o : Copy (start (searched c)) b) → c .crowd .result ≡ length (roomFor (start (searched c) .args .s .paths) (o .hand .rest))
 unfolding memory
-count c b o = let a = start (searched c) .args in c .crowd .ensures .1 .0 (a .e) (a .numbers .now) (a .bytes .now) (o .hand) .0
+count c b o = let a = start (searched c) .args in c .crowd .ensures .1 .0 (a .arrays) (a .e) (a .numbers .now) (a .bytes .now) (o .hand) (start (searched c) .pre .0 .0 .has .many) .0
 
 left : (c : tie.After-crowd) (b : ℕ) (o : Copy (start (searched c)) b) → let a = start (searched c) .args in
-    Stands (o .hand .book) (a .s .paths) (at-crowd c) (a .e ∷ queueOf (c .crowd .last .1 .1 .0) (c .crowd .result)) (slot c ∷ queueOf (c .crowd .last .1 .1 .1 .0) (top c))
+    Stands (o .hand .book) (a .s .paths) (a .arrays) (at-crowd c) (a .e ∷ queueOf (c .crowd .last .1 .1 .0) (c .crowd .result)) (slot c ∷ queueOf (c .crowd .last .1 .1 .1 .0) (top c))
     (o .hand .arrays) (o .hand .taken ∷ roomFor (a .s .paths) (o .hand .rest))
 unfolding memory
 left c b o =
     let a = start (searched c) .args in
-    rw (vacant-is c) at (c .crowd .ensures .1 .0 (a .e) (a .numbers .now) (a .bytes .now) (o .hand) .1)
+    rw (vacant-is c) at (c .crowd .ensures .1 .0 (a .arrays) (a .e) (a .numbers .now) (a .bytes .now) (o .hand) (start (searched c) .pre .0 .0 .has .many) .1)
 
 -- what fork needs
 forking : (c : tie.After-crowd) (b : ℕ) (o : Copy (start (searched c)) b) → let a = start (searched c) .args in
-    Forking (a .s .m) (a .s .paths) (at-crowd c) (a .e) (slot c) (queueOf (c .crowd .last .1 .1 .0) (c .crowd .result)) (queueOf (c .crowd .last .1 .1 .1 .0) (top c)) (a .last)
+    Forking (a .m) (a .s .paths) (a .arrays) (at-crowd c) (a .e) (slot c) (queueOf (c .crowd .last .1 .1 .0) (c .crowd .result)) (queueOf (c .crowd .last .1 .1 .1 .0) (top c)) (a .last)
     (searched c .other-word .result) b
 forking c b o = copy-fork o (found-is (searched c) b o) (some-there c) (count c b o) (c .crowd .ensures .0 .4) (left c b o)
 
@@ -150,7 +153,7 @@ unfolding memory
 cast-to c =
     let t = c .before in
     let s = start (searched t) in
-    omega (arith, fork-apart (forking t _ (own s)) .1, s .pre .0 .0 .many)
+    omega (arith, fork-apart (forking t _ (own s)) .1, s .pre .0 .0 .few)
 
 fork-requires : tie.Need-fork-requires
 unfolding memory
@@ -161,7 +164,7 @@ fork-requires c κs =
     let o = own s in
     let f = t .crowd .ensures .0 in (
       (
-        record { deep = l .deep; many = l .many; rows = l .rows; held = f .0; numbers = l .numbers; bytes = l .bytes },
+        record { few = l .few; rows = l .rows; has = record { deep = l .has .deep; many = l .has .many; held = f .0; numbers = l .has .numbers; bytes = l .has .bytes }; enough = l .enough },
         f .1,
         f .4,
         omega (arith, s .pre .1 .0 .3),
@@ -175,7 +178,7 @@ unfolding memory
 tallied-requires c κs =
     let t = c .before .before .before .before .before .before .before .before .before .before .before .before in
     let s = start (searched t) in
-    (t .crowd .ensures .0 .3, omega (arith, s .pre .1 .0 .2, s .pre .0 .0 .many), s .pre .1 .0 .3, s .pre .1 .0 .4)
+    (t .crowd .ensures .0 .3, omega (arith, s .pre .1 .0 .2, s .pre .0 .0 .few), s .pre .1 .0 .3, s .pre .1 .0 .4)
 
 same-length-2 : tie.Need-same-length-2
 same-length-2 c = search needs
@@ -186,7 +189,7 @@ Ends c b o i j =
     let t = c .before .before .before .before .before .before .before in
     let a = start (searched t) .args in
     let k = R.copy (o .hand .book) (a .s .paths) (o .hand .arrays) (o .hand .taken) (o .hand .rest) (a .t .next) (suc b) in
-    Stands (o .hand .book) (a .s .paths) (memory (c .fork .last .0) (c .fork .last .1 .0) (c .fork .last .1 .1 .1 .0) (a .bytes .now))
+    Stands (o .hand .book) (a .s .paths) (a .arrays) (memory (c .fork .last .0) (c .fork .last .1 .0) (c .fork .last .1 .1 .1 .0) (a .bytes .now))
     (a .e ∷ queueOf (c .fork .last .1 .1 .0) i) (queueOf (t .crowd .last .1 .1 .1 .0) j) (k .arrays) (o .hand .taken ∷ k .queue)
 
 -- the words kept in the end, with so many queued
@@ -240,4 +243,4 @@ same-length-6 c = search needs
 pub copy-spec : {M : Type 1} → statement M
 copy-spec =
     tie.close
-    (tie.spec other-word-requires same-length same-length-2 same-length-3 returns crowd-requires add-to sub-to element-copy-out-to cast-to fork-requires tallied-requires same-length-4 same-length-5 same-length-6 returns-2)
+    (tie.spec cast-paths other-word-requires same-length same-length-2 same-length-3 returns crowd-requires add-to sub-to element-copy-out-to cast-to fork-requires tallied-requires same-length-4 same-length-5 same-length-6 returns-2)

@@ -25,7 +25,7 @@ returns c =
     let s = c .before .before .pre .0 in (
       (s .1, s .2, s .3, omega arith, omega arith, sym (room-all (a .paths) (queueOf (a .order .now) (a .queued)) (omega (arith, queue-length (a .queued) (a .order .now))))),
       (
-        λ e numbers bytes x.
+        λ arrays e numbers bytes x small.
             let level : length (x .rest) ≡ a .queued = omega (arith, stands-length (x .stands), queue-length (a .queued) (a .order .now)) in
             let room : roomFor (a .paths) (x .rest) ≡ x .rest = room-all (a .paths) (x .rest) (omega arith) in
             (rw room (sym level), rw room (x .stands)),
@@ -44,7 +44,7 @@ unfolding memory
 release-requires c κs =
     let t = c .before .before .before .before .before in
     let a = t .args in
-    let x = t .pre .1 .1 .0 .3 in
+    let x = t .pre .1 .1 .0 .5 in
     let full : a .paths ≡ suc (a .queued) = omega arith in
     let q : a .queued ≡ suc (a .queued - 1) = omega arith in
     let low = last-slot (a .order .now) (a .queued) (a .queued - 1) q (x .stands) in
@@ -91,7 +91,7 @@ returns-2 c =
     ap (queueOf (set (a .vacant .now) v (slot .result))) u ∙ queue-put v (a .vacant .now) (slot .result) (omega arith) in (
       (c .before .before .release .ensures .0, c .cut .ensures .0 .0, simp length-set (t .pre .0 .3), omega arith, omega arith, c .cut .ensures .0 .1 ∙ sym (room-cut (a .paths) (a .queued - 1) (queueOf (a .order .now) (a .queued)) d)),
       (
-        λ e numbers bytes x.
+        λ arrays e numbers bytes x small.
             let level : length (x .rest) ≡ a .queued = omega (arith, stands-length (x .stands), queue-length (a .queued) (a .order .now)) in
             let less = rw (sym (x .deep), slot .ensures .0) at (c .before .before .release .ensures .1) in
             let left = last-remove (a .order .now) (a .queued) (a .queued - 1) q (x .stands) (c .before .before .release .last .1 .0) (omega arith) less in

@@ -65,7 +65,7 @@ wide-requires c κs = search needs
 follow-requires : tie.Need-follow-requires
 follow-requires c κs =
     let s = c .before .before .before .before .before in
-    (s .pre .0, s .pre .1, omega (arith, other-room _ _ (c .before .before .before .before .if1 .left) (s .pre .2)), omega (arith, c .wide .ensures))
+    (s .pre .0, s .pre .1, omega (arith, other-room _ _ (c .before .before .before .before .if1 .left) (s .pre .2)), omega (arith, c .wide .ensures .0))
 
 returns-3 : tie.Need-returns-3
 returns-3 c =
@@ -73,7 +73,7 @@ returns-3 c =
     let a = s .args in
     let t = c .before .wide .result in
     let f = c .follow .ensures in
-    let q : a .code ≡ suc (suc t) = omega (arith, c .before .wide .ensures, c .before .before .before .before .if2 .left, c .before .before .before .before .before .if1 .left) in (
+    let q : a .code ≡ suc (suc t) = omega (arith, c .before .wide .ensures .0, c .before .before .before .before .if2 .left, c .before .before .before .before .before .if1 .left) in (
       f .0,
       f .1,
       sym (grown-other (a .code) (2 ^ a .free) (c .before .before .before .before .before .if1 .left)),

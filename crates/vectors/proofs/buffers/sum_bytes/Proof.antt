@@ -21,6 +21,9 @@ shared-slice-read-wide c = omega arith
 wide-requires : tie.Need-wide-requires Inv-loop μ-loop
 wide-requires c κs = search needs
 
+cast-added : tie.Need-cast-added Inv-loop μ-loop
+cast-added c = search needs
+
 added-requires : tie.Need-added-requires Inv-loop μ-loop
 added-requires c κs = search needs
 
@@ -45,6 +48,7 @@ sum-bytes-spec =
     loop-holds
     shared-slice-read-wide
     wide-requires
+    cast-added
     added-requires
     add-i
     loop-less

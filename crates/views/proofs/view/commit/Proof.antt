@@ -15,7 +15,7 @@ use Rattle.heights.proofs.Spots.{spot-room}
 use Rattle.heights.proofs.Words.{bits-bits}
 use Rattle.standing.specs.Seen.{memory, StepSeen}
 use Rattle.views.specs.Steps.{Joined}
-use Rattle.views.proofs.Seeing.{Took, took, lent-on, ids-only, seen-shared}
+use Rattle.views.proofs.Seeing.{Took, took, has-on, ids-only, seen-shared}
 use Rattle.views.proofs.Inside.{joined-room}
 use Rattle.views.proofs.Committing.{put-joined, put-word, lower-id, lower-bits, seen-commit}
 use Rattle.views.proofs.view.commit.Statement.{statement}
@@ -26,7 +26,7 @@ unfolding memory
 take-requires c κs =
     let s = c .before .before .before .before in
     let p = s .pre .0 in
-    ((p .0 .held, (omega (arith, p .0 .many), omega (arith, p .0 .rows)), omega (arith, p .0 .deep), p .0 .many), seen-shared (s .pre .1 .seen) (p .3))
+    ((p .0 .held, p .1, omega (arith, p .0 .deep), p .0 .many), seen-shared (s .pre .1 .seen) (p .3))
 
 power-requires : tie.Need-power-requires
 power-requires c κs = search needs
@@ -42,7 +42,7 @@ abbrev start : tie.After-take → tie.Start
 start c = c .before .before .before .before .before
 
 taken : (c : tie.After-take) →
-    Took (start c .args .most) (start c .args .slot) (start c .args .h) (start c .args .rows .now) (start c .args .holders .now) (c .take .last .0) (c .take .last .1 .0) (c .take .result)
+    Took (start c .args .arrays) (start c .args .slot) (start c .args .h) (start c .args .rows .now) (start c .args .holders .now) (c .take .last .0) (c .take .last .1 .0) (c .take .result)
 taken c = let a = start c .args in took (a .slot) (a .h) (a .rows .now) (a .holders .now) (c .take .ensures)
 
 -- the slot's row is there still
@@ -51,7 +51,7 @@ unfolding memory
 row-there c =
     let a = start c .args in
     let p = start c .pre .0 in
-    (omega (arith, p .0 .many), omega (arith, p .0 .rows, ap length (taken c .stored), length-set (a .rows .now) (a .slot * 16 + a .h) (c .take .result)))
+    (omega arith, omega (arith, ap length (taken c .stored), length-set (a .rows .now) (a .slot * 16 + a .h) (c .take .result)))
 
 -- the array's cells lie within the bytes
 room : (c : tie.After-take) → spot (start c .args .m) (c .take .result) (start c .args .h) + 2 ^ start c .args .h ≤ length (start c .args .bytes .now)
@@ -129,7 +129,7 @@ returns c =
     let a = s .args in
     let p = s .pre .0 in (
       (
-        lent-on (a .numbers .now) (f .last .1 .0) (p .0) (taken t) refl (f .ensures .0 .size ∙ inside u .size),
+        has-on (a .numbers .now) (f .last .1 .0) (p .0) (taken t) refl (f .ensures .0 .size ∙ inside u .size),
         ids-only (t .take .result) (a .rows .now) (p .3) (taken t .stored),
       ),
       λ others v seen met.

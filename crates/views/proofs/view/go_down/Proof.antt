@@ -4,7 +4,7 @@ use mathlib.Core.Path.{_≡_, refl, sym, subst}
 use Prim.Native.Nat.{ℕ, suc, _-_, _≤_}
 use native.Mathlib.Omega.{arith}
 use lib.ListN.{length}
-use Rattle.standing.specs.Seen.{memory, Lent, Viewed, StepSeen, IdsOnly}
+use Rattle.standing.specs.Seen.{memory, HasArrays, Viewed, StepSeen, IdsOnly}
 use Rattle.views.specs.Steps.{Upper}
 use Rattle.views.proofs.Seeing.{ids-on}
 use Rattle.views.proofs.Down.{down, down-upper, viewed-on, turned-none, turned-more}
@@ -12,15 +12,15 @@ use Rattle.views.proofs.view.go_down.Statement.{statement}
 use Rattle.views.proofs.view.go_down.Tie as tie
 
 abbrev Inv-loop : tie.InvT-loop
-Inv-loop rows₀ holders₀ numbers₀ bytes m most slot top low h₀ rows holders numbers h =
-    (low ≤ h) × (h ≤ top) × ((length rows ≡ length rows₀) × (length numbers ≡ length numbers₀)) × Lent m most (memory rows holders numbers bytes) × IdsOnly m slot rows₀ rows
-    × StepSeen m most slot (memory rows₀ holders₀ numbers₀ bytes) (memory rows holders numbers bytes) (Upper top) (down top h)
+Inv-loop rows₀ holders₀ numbers₀ bytes m arrays slot top low h₀ rows holders numbers h =
+    (low ≤ h) × (h ≤ top) × (length numbers ≡ length numbers₀) × HasArrays m arrays (memory rows holders numbers bytes) × IdsOnly m slot rows₀ rows
+    × StepSeen m arrays slot (memory rows₀ holders₀ numbers₀ bytes) (memory rows holders numbers bytes) (Upper top) (down top h)
 
 abbrev μ-loop : tie.MeasureT-loop
-μ-loop rows₀ holders₀ numbers₀ bytes m most slot top low h₀ rows holders numbers h = h
+μ-loop rows₀ holders₀ numbers₀ bytes m arrays slot top low h₀ rows holders numbers h = h
 
 loop-holds : tie.Need-loop-holds Inv-loop μ-loop
-loop-holds c = (omega arith, omega arith, (refl, refl), c .before .before .pre .0 .0, record { before = λ k b. refl; after = λ k b. refl }, turned-none _ _ _ _ _)
+loop-holds c = (omega arith, omega arith, refl, c .before .before .pre .0 .0, record { size = refl; before = λ k b. refl; after = λ k b. refl }, turned-none _ _ _ _ _)
 
 sub-h : tie.Need-sub-h Inv-loop μ-loop
 sub-h c = omega arith
@@ -31,8 +31,8 @@ lower-requires c κs =
     let s = t .before .before .before in
     let i = t .loop .inv in
     let e : suc (t .loop .h - 1) ≡ t .loop .h = omega arith in (
-      (i .3, s .pre .0 .1, omega arith),
-      subst (λ (n : ℕ). Viewed (s .args .m) (s .args .most) (s .args .slot) (memory (t .loop .rows) (t .loop .holders) (t .loop .numbers) (s .args .bytes .now)) (Upper n)) (sym e)
+      (i .3, (omega arith, omega (arith, i .4 .size)), omega arith),
+      subst (λ (n : ℕ). Viewed (s .args .m) (s .args .arrays) (s .args .slot) (memory (t .loop .rows) (t .loop .holders) (t .loop .numbers) (s .args .bytes .now)) (Upper n)) (sym e)
           (viewed-on _ _ _ _ (down (s .args .top) (t .loop .h)) (s .pre .1) (i .5) (λ others v u. down-upper (i .1) others v u)),
     )
 
@@ -50,15 +50,15 @@ loop-again c =
     let y = memory (t .loop .rows) (t .loop .holders) (t .loop .numbers) (a .bytes .now) in (
       omega arith,
       omega arith,
-      (omega arith, omega arith),
+      omega arith,
       f .0 .0,
       ids-on (a .rows .now) (t .loop .rows) (i .4) (f .0 .1),
-      turned-more (a .m) (a .most) (a .slot) x y _ (omega arith)
-          (subst (λ (n : ℕ). StepSeen (a .m) (a .most) (a .slot) x y (Upper (a .top)) (down (a .top) n)) (sym e) (i .5)) (f .1),
+      turned-more (a .m) (a .arrays) (a .slot) x y _ (omega arith)
+          (subst (λ (n : ℕ). StepSeen (a .m) (a .arrays) (a .slot) x y (Upper (a .top)) (down (a .top) n)) (sym e) (i .5)) (f .1),
     )
 
 same-length : tie.Need-same-length Inv-loop μ-loop
-same-length c = omega arith
+same-length c = c .before .loop .inv .4 .size
 
 same-length-2 : tie.Need-same-length-2 Inv-loop μ-loop
 same-length-2 c = omega arith
@@ -69,7 +69,7 @@ returns c =
     let a = t .before .before .before .args in
     let i = t .loop .inv in
     let e : t .loop .h ≡ a .low = omega arith in
-    ((i .3, i .4), subst (λ (n : ℕ). StepSeen (a .m) (a .most) (a .slot) (memory (a .rows .now) (a .holders .now) (a .numbers .now) (a .bytes .now)) (memory (t .loop .rows) (t .loop .holders) (t .loop .numbers) (a .bytes .now)) (Upper (a .top)) (down (a .top) n)) e (i .5))
+    ((i .3, i .4), subst (λ (n : ℕ). StepSeen (a .m) (a .arrays) (a .slot) (memory (a .rows .now) (a .holders .now) (a .numbers .now) (a .bytes .now)) (memory (t .loop .rows) (t .loop .holders) (t .loop .numbers) (a .bytes .now)) (Upper (a .top)) (down (a .top) n)) e (i .5))
 
 pub go-down-spec : {M : Type 1} → statement M
 go-down-spec =

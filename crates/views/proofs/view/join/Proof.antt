@@ -16,10 +16,10 @@ use Rattle.views.proofs.view.join.Statement.{statement}
 use Rattle.views.proofs.view.join.Tie as tie
 
 abbrev Inv-loop : tie.InvT-loop
-Inv-loop rows bytes₀ m most slot j h id end k₀ bytes k = Progress m h id j (idAt rows slot) bytes₀ k bytes
+Inv-loop rows bytes₀ m arrays slot j h id end k₀ bytes k = Progress m h id j (idAt rows slot) bytes₀ k bytes
 
 abbrev μ-loop : tie.MeasureT-loop
-μ-loop rows bytes₀ m most slot j h id end k₀ bytes k = h - k
+μ-loop rows bytes₀ m arrays slot j h id end k₀ bytes k = h - k
 
 spot-of-requires : tie.Need-spot-of-requires Inv-loop μ-loop
 spot-of-requires c κs = search needs
@@ -69,7 +69,7 @@ sub-add-sums-2 c = omega (arith, twice-fits (below (c .before)))
 
 -- the slot's array of this height; its place, the end of the cells and the size of the word
 own : (c : tie.After-spot-of2 Inv-loop μ-loop) → let s = start c .args in let i = idAt (s .rows .now) (s .slot) (turn c .loop .k) in
-    Id (s .most) i × All Bit (part (spot (s .m) i (turn c .loop .k)) (2 ^ turn c .loop .k) (s .bytes .now))
+    Id (s .arrays) i × All Bit (part (spot (s .m) i (turn c .loop .k)) (2 ^ turn c .loop .k) (s .bytes .now))
 own c = start c .pre .1 .0 (turn c .loop .k) (turn c .loop .inv .low) (below c)
 
 low-is : (c : tie.After-spot-of2 Inv-loop μ-loop) → c .spot-of2 .result ≡ spot (start c .args .m) (idAt (start c .args .rows .now) (start c .args .slot) (turn c .loop .k)) (turn c .loop .k)

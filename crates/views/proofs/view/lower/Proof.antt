@@ -11,7 +11,7 @@ use Rattle.reader.specs.Arrays.{store}
 use Rattle.sharing.specs.Sharing.{idAt}
 use Rattle.heights.specs.Workspace.{Parts}
 use Rattle.standing.specs.Seen.{memory, StepSeen}
-use Rattle.views.proofs.Seeing.{Took, took, lent-on, ids-only, seen-id, seen-some, seen-vals, seen-shared, seen-put}
+use Rattle.views.proofs.Seeing.{Took, took, has-on, ids-only, seen-id, seen-some, seen-vals, seen-shared, seen-put}
 use Rattle.views.proofs.view.lower.Statement.{statement}
 use Rattle.views.proofs.view.lower.Tie as tie
 
@@ -22,7 +22,7 @@ id-of-requires : tie.Need-id-of-requires
 unfolding memory
 id-of-requires c κs =
     let p = c .before .before .before .pre .0 in
-    ((omega (arith, p .0 .many), omega (arith, p .0 .rows)), omega (arith, p .0 .deep))
+    (p .1, omega (arith, p .0 .deep))
 
 take-requires : tie.Need-take-requires
 unfolding memory
@@ -30,14 +30,14 @@ take-requires c κs =
     let s = c .before .before .before .before .before .before in
     let p = s .pre .0 in
     let l : s .args .h ≤ s .args .m = omega arith in
-    ((p .0 .held, (omega (arith, p .0 .many), omega (arith, p .0 .rows)), omega (arith, p .0 .deep), p .0 .many), seen-shared (s .pre .1 .seen) l)
+    ((p .0 .held, p .1, omega (arith, p .0 .deep), p .0 .many), seen-shared (s .pre .1 .seen) l)
 
 -- where the call began
 abbrev start : tie.After-take → tie.Start
 start c = c .before .before .before .before .before .before .before
 
 taken : (c : tie.After-take) →
-    Took (start c .args .most) (start c .args .slot) (start c .args .h) (start c .args .rows .now) (start c .args .holders .now) (c .take .last .0) (c .take .last .1 .0) (c .take .result)
+    Took (start c .args .arrays) (start c .args .slot) (start c .args .h) (start c .args .rows .now) (start c .args .holders .now) (c .take .last .0) (c .take .last .1 .0) (c .take .result)
 taken c = let a = start c .args in took (a .slot) (a .h) (a .rows .now) (a .holders .now) (c .take .ensures)
 
 -- the id of the height above
@@ -72,11 +72,11 @@ returns c =
     let p = s .pre .0 in
     let h = a .h in
     let l : h ≤ a .m = omega arith in (
-      (lent-on (f .last .0) (a .bytes .now) (p .0) (taken t) (f .ensures .0) refl, ids-only (t .take .result) (a .rows .now) l (taken t .stored)),
+      (has-on (f .last .0) (a .bytes .now) (p .0) (taken t) (f .ensures .0) refl, ids-only (t .take .result) (a .rows .now) l (taken t .stored)),
       λ others v seen met.
           let g = v .arrays .vals in
           seen-put seen (p .0) (p .1) l (taken t) (f .last .0) _
-          (subst (λ (i : ℕ). Parts (a .m) (a .most) (f .last .0) (store g h (t .take .result) (Qs (take (2 ^ h) (g (suc h) i)) (drop (2 ^ h) (g (suc h) i)))))
+          (subst (λ (i : ℕ). Parts (a .m) (a .arrays) (f .last .0) (store g h (t .take .result) (Qs (take (2 ^ h) (g (suc h) i)) (drop (2 ^ h) (g (suc h) i)))))
           (above t ∙ seen-id seen (p .2)) (f .ensures .1 g (seen .vals))),
     )
 

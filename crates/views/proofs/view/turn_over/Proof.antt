@@ -11,7 +11,7 @@ use Rattle.reader.specs.Arrays.{store}
 use Rattle.sharing.specs.Sharing.{idAt}
 use Rattle.heights.specs.Workspace.{Id, Parts}
 use Rattle.standing.specs.Seen.{memory, StepSeen}
-use Rattle.views.proofs.Seeing.{Took, took, lent-on, ids-only, seen-id, seen-some, seen-vals, seen-shared, seen-put}
+use Rattle.views.proofs.Seeing.{Took, took, has-on, ids-only, seen-id, seen-some, seen-vals, seen-shared, seen-put}
 use Rattle.views.proofs.view.turn_over.Statement.{statement}
 use Rattle.views.proofs.view.turn_over.Tie as tie
 
@@ -22,13 +22,13 @@ id-of-requires : tie.Need-id-of-requires
 unfolding memory
 id-of-requires c κs =
     let p = c .before .before .before .pre .0 in
-    ((omega (arith, p .0 .many), omega (arith, p .0 .rows)), omega (arith, p .0 .deep))
+    (p .1, omega (arith, p .0 .deep))
 
 id-of-requires-2 : tie.Need-id-of-requires-2
 unfolding memory
 id-of-requires-2 c κs =
     let p = c .before .before .before .before .before .pre .0 in
-    ((omega (arith, p .0 .many), omega (arith, p .0 .rows)), omega (arith, p .0 .deep))
+    (p .1, omega (arith, p .0 .deep))
 
 take-requires : tie.Need-take-requires
 unfolding memory
@@ -36,14 +36,14 @@ take-requires c κs =
     let s = c .before .before .before .before .before .before .before .before in
     let p = s .pre .0 in
     let l : s .args .h ≤ s .args .m = omega arith in
-    ((p .0 .held, (omega (arith, p .0 .many), omega (arith, p .0 .rows)), omega (arith, p .0 .deep), p .0 .many), seen-shared (s .pre .1 .seen) l)
+    ((p .0 .held, p .1, omega (arith, p .0 .deep), p .0 .many), seen-shared (s .pre .1 .seen) l)
 
 -- where the call began
 abbrev start : tie.After-take → tie.Start
 start c = c .before .before .before .before .before .before .before .before .before
 
 taken : (c : tie.After-take) →
-    Took (start c .args .most) (start c .args .slot) (start c .args .h) (start c .args .rows .now) (start c .args .holders .now) (c .take .last .0) (c .take .last .1 .0) (c .take .result)
+    Took (start c .args .arrays) (start c .args .slot) (start c .args .h) (start c .args .rows .now) (start c .args .holders .now) (c .take .last .0) (c .take .last .1 .0) (c .take .result)
 taken c = let a = start c .args in took (a .slot) (a .h) (a .rows .now) (a .holders .now) (c .take .ensures)
 
 -- the id of the height above
@@ -60,8 +60,8 @@ second-half-requires c κs =
     let p = s .pre .0 in
     let w = s .pre .1 in
     let l : s .args .h ≤ s .args .m = omega arith in
-    let up = subst (Id (s .args .most)) (sym (above t)) (seen-some (w .seen) (p .2) (w .met .upper)) in
-    let here = subst (Id (s .args .most)) (sym (t .before .before .before .id-of2 .ensures)) (seen-some (w .seen) l (w .met .has)) in
+    let up = subst (Id (s .args .arrays)) (sym (above t)) (seen-some (w .seen) (p .2) (w .met .upper)) in
+    let here = subst (Id (s .args .arrays)) (sym (t .before .before .before .id-of2 .ensures)) (seen-some (w .seen) l (w .met .has)) in
     let new = taken t .id in (
       (p .0 .deep, p .2, p .0 .many, p .0 .numbers, p .0 .bytes),
       ((search, search, search), rw (above t, seen-vals (w .seen) (p .2) (w .met .upper)) (w .met .range)),
@@ -83,13 +83,13 @@ returns c =
     let p = s .pre .0 in
     let h = a .h in
     let l : h ≤ a .m = omega arith in (
-      (lent-on (f .last .0) (a .bytes .now) (p .0) (taken t) (f .ensures .0) refl, ids-only (t .take .result) (a .rows .now) l (taken t .stored)),
+      (has-on (f .last .0) (a .bytes .now) (p .0) (taken t) (f .ensures .0) refl, ids-only (t .take .result) (a .rows .now) l (taken t .stored)),
       λ others v seen met.
           let g = v .arrays .vals in
           let b = v .arrays .sums in
           seen-put seen (p .0) (p .1) l (taken t) (f .last .0) _
           (subst₂
-          (λ (i k : ℕ). Parts (a .m) (a .most) (f .last .0) (store g h (t .take .result) (Ps (b h k) (take (2 ^ h) (g (suc h) i)) (drop (2 ^ h) (g (suc h) i)))))
+          (λ (i k : ℕ). Parts (a .m) (a .arrays) (f .last .0) (store g h (t .take .result) (Ps (b h k) (take (2 ^ h) (g (suc h) i)) (drop (2 ^ h) (g (suc h) i)))))
           (above t ∙ seen-id seen (p .2)) (t .before .before .before .id-of2 .ensures ∙ seen-id seen l) (f .ensures .1 g b (seen .vals) (seen .sums))),
     )
 

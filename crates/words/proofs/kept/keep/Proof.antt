@@ -7,7 +7,7 @@ use lib.Dec.{eqb}
 use lib.ListN.{getD, length-set}
 use Rattle.laws.proofs.Stores.{stored-none}
 use Rattle.words.specs.Kept.{keptCell, keptAt}
-use Rattle.words.proofs.Cells.{store-next, store-read}
+use Rattle.standing.proofs.Cells.{store-next, store-read}
 use Rattle.words.proofs.Kepts.{one-kept}
 use borrow.Author.Needs.{needs}
 use Rattle.words.proofs.kept.keep.Statement.{statement}
