@@ -1,4 +1,4 @@
-// Values of one height from those of the height above, and a block's word, written into arrays of the workspace. Relies on the crate polar;
+// Values of one height from those of the height above, and a block's word, written into arrays of the workspace. Relies on the crates numerals and polar;
 // specs/Workspace.antt says where an array stands, reader/specs/Arrays what a write leaves.
 ghost use mathlib.Core.Path.{_≡_};
 ghost use mathlib.Core.List.{List};
@@ -10,17 +10,10 @@ ghost use Rattle.polar.specs.Soft.{Qs, Ps};
 ghost use Rattle.polar.specs.Layers.{part, overAt, Within};
 ghost use Rattle.reader.specs.Arrays.{store};
 ghost use Rattle.heights.specs.Workspace.{spot, Room, Id, Parts, bitsOf};
+use numerals::power;
 use polar::layers::copy_values;
 use polar::layers::lower_p;
 use polar::layers::lower_q;
-
-// 2^h.
-pub fn power(h: usize) -> usize
-    requires { ⌜ h ≤ 10 ⌝ }
-    ensures { λ r. ⌜ r ≡ 2 ^ h ⌝ }
-{
-    1 << h
-}
 
 // Where height h of array `id` begins.
 pub fn spot_of(m: usize, id: usize, h: usize) -> usize

@@ -19,6 +19,14 @@ pub fn power(h: usize) -> usize
     1 << h
 }
 
+// 2^e as a word of 32 bits.
+pub fn word_power(e: u32) -> u32
+    requires { ⌜ e < 32 ⌝ }
+    ensures { λ r. ⌜ r ≡ 2 ^ e ⌝ }
+{
+    1 << e
+}
+
 // The number that one, two or four bytes make.
 pub fn one(s: &[u8], at: usize) -> u32
     requires { ⌜ at + 1 ≤ length (now s) ⌝ }

@@ -1,15 +1,15 @@
 // One command of a code book is judged and obeyed, after those before it: document 01, "The code book" and "Refusal table". The loader takes
-// out the case that it expects, or else refuses. Relies on stores.rt and the crate codebook; codebook/specs/Progress says what the numbers and tables stand for.
+// out the case that it expects, or else refuses. Relies on stores.rt and the crates numerals and codebook; codebook/specs/Progress says what the numbers and tables stand for.
 mod stores;
 
 use crate::stores::clear;
 use crate::stores::count_free;
 use crate::stores::fill;
-use crate::stores::power;
 use codebook::Command;
 use codebook::Progress;
 use codebook::Refusal;
 use codebook::Step;
+use numerals::word_power;
 ghost use mathlib.Core.Path.{_≡_};
 ghost use mathlib.Core.Bool.{true};
 ghost use mathlib.Core.List.{List};
@@ -36,7 +36,7 @@ fn begin(c: Command, whole: bool, p: Progress, terms: &mut [u32; 512]) -> Step
     if 9 < m {
         return Step::Refused(Refusal::OutOfRange);
     }
-    let n = power(m);
+    let n = word_power(m);
     clear(terms, n as usize);
     Step::Next(Progress {
         m,
@@ -90,7 +90,7 @@ fn tie(p: Progress, whole: bool, i: u32, kinds: &mut [u8; 512], terms: &mut [u32
     let at = p.filled as usize;
     let term = i as usize;
     kinds[at] = (2 + p.ties) as u8;
-    terms[term] = terms[term] | power(p.ties);
+    terms[term] = terms[term] | word_power(p.ties);
     let mut q = p;
     q.filled = p.filled + 1;
     q.ties = p.ties + 1;
@@ -116,7 +116,7 @@ fn term(p: Progress, whole: bool, i: u32, terms: &mut [u32; 512]) -> Step
         return Step::Refused(Refusal::OutOfRange);
     }
     let term = i as usize;
-    let bit = power(p.ties - 1);
+    let bit = word_power(p.ties - 1);
     if bit <= terms[term] {
         return Step::Refused(Refusal::OutOfRange);
     }
@@ -166,7 +166,7 @@ fn fits(covered: u32, n: u32, j: u32, bias: i32) -> bool
     if 5 < j {
         return false;
     }
-    let length = power(j);
+    let length = word_power(j);
     if covered % length != 0 {
         return false;
     }
@@ -191,7 +191,7 @@ fn place_block(
     requires { ⌜ blockFits (p .covered) (p .n) j bias ≡ true ⌝ }
     ensures { λ r. ⌜ ((terms : List ℕ) → Obeys p (Command.Block j bias) true (tables (now (kinds .entry)) terms (now (heights .entry)) (now (starts .entry)) (now (biases .entry))) (tables (now (kinds .entry)) terms (now (heights .exit)) (now (starts .exit)) (now (biases .exit))) r) ⌝ }
 {
-    let length = power(j);
+    let length = word_power(j);
     let start = p.covered;
     let free = count_free(kinds, start as usize, length as usize);
     if 8 < free {

@@ -1,18 +1,9 @@
-// What the loader's steps compute and store: powers of two, runs of codes, sets of ties cleared, free indices counted. Relies on no other
-// file.
+// What the loader's steps compute and store: runs of codes, sets of ties cleared, free indices counted. Relies on no other file.
 
 ghost use mathlib.Core.Path.{_≡_};
-ghost use Prim.Native.Nat.{_+_, _^_, _<_, _≤_};
+ghost use Prim.Native.Nat.{_+_, _≤_};
 ghost use lib.ListN.{length, take, drop, replicate};
 ghost use Rattle.codebook.specs.Progress.{Extends, freeCodes};
-
-// 2^e.
-pub fn power(e: u32) -> u32
-    requires { ⌜ e < 32 ⌝ }
-    ensures { λ r. ⌜ r ≡ 2 ^ e ⌝ }
-{
-    1 << e
-}
 
 // The codes of `count` indices from `from` on are `code`.
 pub fn fill(kinds: &mut [u8; 512], from: usize, count: usize, code: u8)

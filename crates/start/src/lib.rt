@@ -13,7 +13,7 @@ ghost use Rattle.sharing.specs.Sharing.{heldAt, Held, Rows};
 ghost use Rattle.order.specs.Entries.{keyAt};
 ghost use Rattle.steps.specs.Steps.{BlockIs};
 ghost use Rattle.start.specs.Start.{firstHeld, InTables};
-use heights::arrays::power;
+use numerals::power;
 use order::entries::blocks_of;
 use order::entries::number_of;
 use order::entries::score_of;

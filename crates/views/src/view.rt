@@ -11,10 +11,10 @@ ghost use Rattle.standing.specs.Seen.{memory, HasArrays, Viewed, StepSeen, IdsO
 ghost use Rattle.views.specs.Steps.{Upper, Turning, Joinable, Claimable, Joined};
 use heights::arrays::copy_half;
 use heights::arrays::first_half;
-use heights::arrays::power;
 use heights::arrays::put_word;
 use heights::arrays::second_half;
 use heights::arrays::spot_of;
+use numerals::power;
 use polar::layers::add_sums;
 use sharing::holders::take;
 use standing::row::id_of;

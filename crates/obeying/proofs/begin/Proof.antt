@@ -50,8 +50,8 @@ returns-4 c t n old s h =
     let whole = operands-whole (a .whole) (fault s (Length m)) (not-false (a .whole) (d .if1 .left)) in
     rw (g .1) (refuse _ _ _ _ OutOfRange (length-stands (a .p) s (h .counts) (a .whole) (start .pre) m ∙ whole ∙ length-high (a .p) s (h .counts) m (c .before .if2 .left) (c .if3 .taken)))
 
-power-requires : tie.Need-power-requires
-power-requires c κs = search needs
+word-power-requires : tie.Need-word-power-requires
+word-power-requires c κs = search needs
 
 cast-clear : tie.Need-cast-clear
 cast-clear c = search needs
@@ -59,7 +59,7 @@ cast-clear c = search needs
 clear-requires : tie.Need-clear-requires
 clear-requires c κs =
     let m = c .before .before .before .before .before .before .c .given .0 .0 in
-    omega (arith, c .before .power .ensures, pow-mono {i = m} {j = 9} (c .before .before .if3 .left))
+    omega (arith, c .before .word-power .ensures, pow-mono {i = m} {j = 9} (c .before .before .if3 .left))
 
 returns-5 : tie.Need-returns-5
 unfolding isEnd byteOf
@@ -71,7 +71,7 @@ returns-5 c t n old s h =
     let m = g .0 .0 in
     let low = c .before .before .before .before .if2 .left in
     let high = c .before .before .before .if3 .left in
-    let power = c .before .before .power .ensures in
+    let power = c .before .before .word-power .ensures in
     let whole = operands-whole (a .whole) (fault s (Length m)) (not-false (a .whole) (d .if1 .left)) in
     rw (g .1) (proceed _ _ _ _ (length-stands (a .p) s (h .counts) (a .whole) (start .pre) m ∙ whole ∙ length-fits (a .p) s (h .counts) m low high)
     (rw power (begin-holds (a .p) (withIndices t (t .kinds) (a .terms .now)) old s h m _ (start .pre) low high (rw power at (c .clear .ensures)))))
@@ -85,7 +85,7 @@ begin-spec =
     returns-2
     returns-3
     returns-4
-    power-requires
+    word-power-requires
     cast-clear
     clear-requires
     returns-5)

@@ -14,17 +14,17 @@ returns : tie.Need-returns
 unfolding blockFits
 returns c = rw (lt-leb (c .before .args .j) 5 (c .if1 .taken))
 
-power-requires : tie.Need-power-requires
-power-requires c κs = search needs
+word-power-requires : tie.Need-word-power-requires
+word-power-requires c κs = search needs
 
 rem-if2 : tie.Need-rem-if2
-rem-if2 c = omega (arith, c .power .ensures, pow-pos (c .before .before .args .j))
+rem-if2 c = omega (arith, c .word-power .ensures, pow-pos (c .before .before .args .j))
 
 returns-2 : tie.Need-returns-2
 unfolding blockFits
 returns-2 c =
     let a = c .before .before .before .args in
-    let e = ne-eqb (a .covered % 2 ^ (a .j)) 0 (rw (c .before .power .ensures) at (c .if2 .taken)) in
+    let e = ne-eqb (a .covered % 2 ^ (a .j)) 0 (rw (c .before .word-power .ensures) at (c .if2 .taken)) in
     rw (le-leb (a .j) 5 (c .before .before .if1 .left), e)
 
 sub-if3 : tie.Need-sub-if3
@@ -34,7 +34,7 @@ returns-3 : tie.Need-returns-3
 unfolding blockFits
 returns-3 c =
     let a = c .before .before .before .before .args in
-    let power = c .before .before .power .ensures in
+    let power = c .before .before .word-power .ensures in
     let e = eq-eqb (a .covered % 2 ^ (a .j)) 0 (rw power at (c .before .if2 .left)) in
     rw (le-leb (a .j) 5 (c .before .before .before .if1 .left), e, lt-leb (a .covered + 2 ^ (a .j)) (a .n) (omega (arith, power)))
 
@@ -45,7 +45,7 @@ returns-4 : tie.Need-returns-4
 unfolding blockFits
 returns-4 c =
     let a = c .before .before .before .before .before .args in
-    let power = c .before .before .before .power .ensures in
+    let power = c .before .before .before .word-power .ensures in
     let e = eq-eqb (a .covered % 2 ^ (a .j)) 0 (rw power at (c .before .before .if2 .left)) in
     rw (c .in-range .ensures, toZ-ofZ w32 (a .bias) (c .before .before .before .before .before .fits .bias), le-leb (a .j) 5 (c .before .before .before .before .if1 .left), e, le-leb (a .covered + 2 ^ (a .j)) (a .n) (omega (arith, power)))
 
@@ -54,7 +54,7 @@ fits-spec =
     tie.close
     (tie.spec
     returns
-    power-requires
+    word-power-requires
     rem-if2
     returns-2
     sub-if3

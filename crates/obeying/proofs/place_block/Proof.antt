@@ -18,8 +18,8 @@ use Rattle.codebook.proofs.Placing.{block-free, block-holds}
 use Rattle.obeying.proofs.place_block.Statement.{statement}
 use Rattle.obeying.proofs.place_block.Tie as tie
 
-power-requires : tie.Need-power-requires
-power-requires c κs =
+word-power-requires : tie.Need-word-power-requires
+word-power-requires c κs =
     let start = c in
     let p = start .args .p in
     omega (arith, fits-facts (p .covered) (p .n) (start .args .j) (start .args .bias) (start .pre .1 .1))
@@ -34,7 +34,7 @@ count-free-requires : tie.Need-count-free-requires
 count-free-requires c κs =
     let start = c .before in
     let p = start .args .p in
-    omega (arith, fits-facts (p .covered) (p .n) (start .args .j) (start .args .bias) (start .pre .1 .1), c .power .ensures)
+    omega (arith, fits-facts (p .covered) (p .n) (start .args .j) (start .args .bias) (start .pre .1 .1), c .word-power .ensures)
 
 returns : tie.Need-returns
 unfolding unless
@@ -45,7 +45,7 @@ returns c terms old s h =
     let fit = block-fit (a .p) s (h .counts) (a .j) (a .bias) (start .pre .1 .1) in
     let stands = block-stands (a .p) s (h .counts) true (start .pre .1 .0 .0) (start .pre .1 .0 .1) (a .j) (a .bias) in
     let room = fits-facts (a .p .covered) (a .p .n) (a .j) (a .bias) (start .pre .1 .1) .1 in
-    let count = block-free (a .p) table old s h (a .j) (a .bias) _ (start .pre .1 .0 .0) room (rw (c .before .before .power .ensures) at (c .before .count-free .ensures)) in
+    let count = block-free (a .p) table old s h (a .j) (a .bias) _ (start .pre .1 .0 .0) room (rw (c .before .before .word-power .ensures) at (c .before .count-free .ensures)) in
     refuse _ _ _ _ TooManyFree (stands ∙ fit ∙ rw (lt-leb (freeCount (take (2 ^ (a .j)) (drop (s .covered) (s .kinds)))) 8 (rw count at (c .if1 .taken))))
 
 cast-b : tie.Need-cast-b
@@ -82,7 +82,7 @@ add-q-2 : tie.Need-add-q-2
 add-q-2 c =
     let start = c .before .before .before .before .before in
     let p = start .args .p in
-    omega (arith, fits-facts (p .covered) (p .n) (start .args .j) (start .args .bias) (start .pre .1 .1), c .before .before .before .before .power .ensures)
+    omega (arith, fits-facts (p .covered) (p .n) (start .args .j) (start .args .bias) (start .pre .1 .1), c .before .before .before .before .word-power .ensures)
 
 add-q-3 : tie.Need-add-q-3
 add-q-3 c = search needs
@@ -97,7 +97,7 @@ returns-2 c terms old s h =
     let fit = block-fit (a .p) s (h .counts) (a .j) (a .bias) (start .pre .1 .1) in
     let stands = block-stands (a .p) s (h .counts) true (start .pre .1 .0 .0) (start .pre .1 .0 .1) (a .j) (a .bias) in
     let room = fits-facts (a .p .covered) (a .p .n) (a .j) (a .bias) (start .pre .1 .1) .1 in
-    let power = d .before .before .power .ensures in
+    let power = d .before .before .word-power .ensures in
     let count = block-free (a .p) table old s h (a .j) (a .bias) _ (start .pre .1 .0 .0) room (rw power at (d .before .count-free .ensures)) in
     proceed _ _ _ _ (stands ∙ fit ∙ rw (le-leb (freeCount (take (2 ^ (a .j)) (drop (s .covered) (s .kinds)))) 8 (rw count at (d .if1 .left))))
     (rw (power, toZ-ofZ w32 (a .bias) (start .fits .bias)) (block-holds (a .p) table old s h (a .j) (a .bias) _ (omega (arith, h .counts .filled, h .counts .n, start .pre .1 .0 .0)) room (start .pre .1 .0 .1) count))
@@ -106,7 +106,7 @@ pub place-block-spec : {M : Type 1} → statement M
 place-block-spec =
     tie.close
     (tie.spec
-    power-requires
+    word-power-requires
     cast-count-free
     cast-count-free-2
     count-free-requires

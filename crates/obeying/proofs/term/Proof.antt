@@ -44,15 +44,15 @@ returns-4 c t old s h =
     let whole = operands-whole (a .whole) (fault s (Term (a .i))) (not-false (a .whole) (d .if2 .left)) in
     refuse _ _ _ _ OutOfRange (stands ∙ whole ∙ term-later (a .p) s (h .counts) (a .i) (omega (arith, c .if4 .taken)))
 
-sub-power : tie.Need-sub-power
-sub-power c =
+sub-word-power : tie.Need-sub-word-power
+sub-word-power c =
     let d = c .before .before .before .before .before .before in
     let start = d .before .before in
     let y = subst T (sym (not-false (start .args .p .tying) (d .if1 .left))) tt in
     omega (arith, start .pre .tie y)
 
-power-requires : tie.Need-power-requires
-power-requires c κs = search needs
+word-power-requires : tie.Need-word-power-requires
+word-power-requires c κs = search needs
 
 mul-if5 : tie.Need-mul-if5
 mul-if5 c = search needs
@@ -69,7 +69,7 @@ returns-5 c t old s h =
     let y = subst T (sym (sym (h .counts .tying) ∙ tying)) tt in
     let stands = term-stands (a .p) s (h .counts) (a .whole) tying (a .i) in
     let whole = operands-whole (a .whole) (fault s (Term (a .i))) (not-false (a .whole) (d .if2 .left)) in
-    let member = named (a .p) (withIndices t (t .kinds) (a .terms .now)) old s h y (a .i) (omega (arith, e .before .before .if3 .left, h .counts .safe .within)) (rw (c .before .before .power .ensures) at (c .if5 .taken)) in
+    let member = named (a .p) (withIndices t (t .kinds) (a .terms .now)) old s h y (a .i) (omega (arith, e .before .before .if3 .left, h .counts .safe .within)) (rw (c .before .before .word-power .ensures) at (c .if5 .taken)) in
     refuse _ _ _ _ OutOfRange (stands ∙ whole ∙ term-again (a .p) s (h .counts) (a .i) (omega (arith, e .if4 .left)) member)
 
 mul-terms : tie.Need-mul-terms
@@ -96,9 +96,9 @@ returns-6 c t old s h =
     let stands = term-stands (a .p) s (h .counts) (a .whole) tying (a .i) in
     let whole = operands-whole (a .whole) (fault s (Term (a .i))) (not-false (a .whole) (d .if2 .left)) in
     let within : a .i < a .p .n = omega (arith, e .before .before .if3 .left, h .counts .safe .within) in
-    let fresh = unnamed (a .p) (withIndices t (t .kinds) (a .terms .now)) old s h y (a .i) within (rw (f .before .before .power .ensures) at (f .if5 .left)) in
+    let fresh = unnamed (a .p) (withIndices t (t .kinds) (a .terms .now)) old s h y (a .i) within (rw (f .before .before .word-power .ensures) at (f .if5 .left)) in
     proceed _ _ _ _ (stands ∙ whole ∙ term-fits (a .p) s (h .counts) (a .i) (omega (arith, e .if4 .left)) fresh)
-    (rw (f .before .before .power .ensures) (term-holds (a .p) (withIndices t (t .kinds) (a .terms .now)) old s h y (a .i) within fresh))
+    (rw (f .before .before .word-power .ensures) (term-holds (a .p) (withIndices t (t .kinds) (a .terms .now)) old s h y (a .i) within fresh))
 
 pub term-spec : {M : Type 1} → statement M
 term-spec =
@@ -109,8 +109,8 @@ term-spec =
     returns-3
     sub-if4
     returns-4
-    sub-power
-    power-requires
+    sub-word-power
+    word-power-requires
     mul-if5
     element-copy-out-if5
     returns-5

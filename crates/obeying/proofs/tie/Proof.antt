@@ -53,8 +53,8 @@ mul-terms c = search needs
 element-copy-out-terms : tie.Need-element-copy-out-terms
 element-copy-out-terms c = search needs
 
-power-requires : tie.Need-power-requires
-power-requires c κs = search needs
+word-power-requires : tie.Need-word-power-requires
+word-power-requires c κs = search needs
 
 mul-terms-2 : tie.Need-mul-terms-2
 mul-terms-2 c = search needs
@@ -78,7 +78,7 @@ returns-4 c t old s h =
     let stands = tie-stands (a .p) s (h .counts) (a .whole) (start .pre .1) (a .i) in
     let whole = operands-whole (a .whole) (fault s (Tie (a .i))) (not-false (a .whole) (d .before .before .if1 .left)) in
     proceed _ _ _ _ (stands ∙ whole ∙ tie-fits (a .p) s (h .counts) (a .i) (d .if2 .left) (e .if3 .left))
-    (rw (c .before .before .power .ensures) (tie-holds (a .p) (withIndices t (a .kinds .now) (a .terms .now)) old s h (a .i) (start .pre .1) (d .if2 .left) (e .if3 .left)))
+    (rw (c .before .before .word-power .ensures) (tie-holds (a .p) (withIndices t (a .kinds .now) (a .terms .now)) old s h (a .i) (start .pre .1) (d .if2 .left) (e .if3 .left)))
 
 pub tie-spec : {M : Type 1} → statement M
 tie-spec =
@@ -93,7 +93,7 @@ tie-spec =
     element-write-kinds
     mul-terms
     element-copy-out-terms
-    power-requires
+    word-power-requires
     mul-terms-2
     element-write-terms
     add-q
