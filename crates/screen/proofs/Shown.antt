@@ -20,7 +20,7 @@ use Rattle.decoder.proofs.Walked.{extracted}
 use Rattle.steprecords.specs.declared.StepRecord.{StepRecord}
 use Rattle.steprecords.specs.Records.{recorded, copied}
 use Rattle.steprecords.proofs.Copied.{copied-recorded}
-use Rattle.screen.specs.Screen.{showing, Fitting, Shows}
+use Rattle.screen.specs.Screen.{showing, Fitting, DecodesSteps}
 
 -- a call's extractions, where it makes a run, are the reader's
 pub reader-steps : (k : Manner) (c : Input) (l : Lent) (B : Book) → Made k c l B → callOf k c l .steps ≡ readerRun B (c .settings) (readied k c) l .steps
@@ -36,10 +36,10 @@ Leaves r c l room answer after = Decodes (showing r room) c l answer after × Fi
 abbrev pub copies : List StepRecord → HookDecoded → Lent → List StepRecord
 copies old answer after = copied old (after .walkPath) (after .walkBlocks) (after .walkScore) (answer .counts .extractions)
 
-pub shows : (r : Reads) (c : Input) (l : Lent) (old : List StepRecord) (answer : HookDecoded) (after : Lent) → Leaves r c l (length old) answer after
-    → Shows r c l old answer after (copies old answer after)
+pub decodes-steps : (r : Reads) (c : Input) (l : Lent) (old : List StepRecord) (answer : HookDecoded) (after : Lent) → Leaves r c l (length old) answer after
+    → DecodesSteps r c l old answer after (copies old answer after)
 unfolding Fitting
-shows r c l old answer after h = record { decodes = d; shown = shown; whole = λ B m. shown ∙ ap (λ (s : List Step). recorded s old) (reader-steps k c l B m) }
+decodes-steps r c l old answer after h = record { decodes = d; shown = shown; whole = λ B m. shown ∙ ap (λ (s : List Step). recorded s old) (reader-steps k c l B m) }
   where
     k : Manner
     k = showing r (length old)

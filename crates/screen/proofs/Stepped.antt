@@ -16,7 +16,7 @@ use Rattle.decoder.proofs.Walked.{extracted, left-long}
 use Rattle.steprecords.specs.declared.StepRecord.{StepRecord}
 use Rattle.steprecords.specs.Records.{blank, nthRecord, recordAt}
 use Rattle.steprecords.proofs.Copied.{past, record-at}
-use Rattle.screen.specs.Screen.{ShowsOne}
+use Rattle.screen.specs.Screen.{DecodesStep}
 use Rattle.screen.proofs.Shown.{reader-steps}
 
 -- the call's answer and what it leaves
@@ -40,5 +40,5 @@ module _ (c : Input) (l : Lent) (r : Decoded) (after : Lent) (d : Decodes plain 
             let a = extracted plain c l (unread r) after d in
             past steps i (omega (arith, ltb-false i (r .counts .extractions) t, a .counted))
 
-    pub step-shows : ShowsOne c l i (record { outcome = r .outcome; counts = r .counts; step = s }) after
-    step-shows = record { decodes = d; shown = stepped; whole = λ B m. stepped ∙ ap (λ (ss : List Step). nthRecord ss i) (reader-steps plain c l B m) }
+    pub decodes-step : DecodesStep c l i (record { outcome = r .outcome; counts = r .counts; step = s }) after
+    decodes-step = record { decodes = d; shown = stepped; whole = λ B m. stepped ∙ ap (λ (ss : List Step). nthRecord ss i) (reader-steps plain c l B m) }

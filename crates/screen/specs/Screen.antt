@@ -32,7 +32,7 @@ Fitting counts room l =
 
 -- A call with step records, `old` before and `steps` after: it is a decoding call with so many of them beside; a record for each extraction of its run stands from entry 0 on, the rest as it was. And demand 3 of the records: where
 -- a run is made, they are those of the reader's extractions.
-pub record Shows (r : Reads) (c : Input) (l : Lent) (old : List StepRecord) (answer : HookDecoded) (after : Lent) (steps : List StepRecord) : Type 0 where
+pub record DecodesSteps (r : Reads) (c : Input) (l : Lent) (old : List StepRecord) (answer : HookDecoded) (after : Lent) (steps : List StepRecord) : Type 0 where
   pub decodes : Decodes (showing r (length old)) c l answer after
   pub shown : steps ≡ recorded (callOf (showing r (length old)) c l .steps) old
   pub whole : (B : Book) → Made (showing r (length old)) c l B → steps ≡ recorded (readerRun B (c .settings) (readied (showing r (length old)) c) l .steps) old
@@ -44,7 +44,7 @@ abbrev pub unstepped : StepDecoded → HookDecoded
 unstepped a = record { outcome = a .outcome; counts = a .counts; hook = noRecord }
 
 -- the plain call, and the record of extraction i, zeros where there is none; where a run is made, that of the reader's extraction i
-pub record ShowsOne (c : Input) (l : Lent) (i : ℕ) (answer : StepDecoded) (after : Lent) : Type 0 where
+pub record DecodesStep (c : Input) (l : Lent) (i : ℕ) (answer : StepDecoded) (after : Lent) : Type 0 where
   pub decodes : Decodes plain c l (unstepped answer) after
   pub shown : answer .step ≡ nthRecord (callOf plain c l .steps) i
   pub whole : (B : Book) → Made plain c l B → answer .step ≡ nthRecord (readerRun B (c .settings) (readied plain c) l .steps) i

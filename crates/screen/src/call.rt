@@ -9,7 +9,7 @@ use steprecords::StepRecord;
 use steprecords::copy_steps;
 ghost use Rattle.machine.specs.declared.Reads.the-variants.{Data, Record};
 ghost use Rattle.machine.specs.Calls.{given, lentBefore, lentAfter, unread};
-ghost use Rattle.screen.specs.Screen.{Shows};
+ghost use Rattle.screen.specs.Screen.{DecodesSteps};
 
 // The plain decoding call.
 pub fn decode_steps(
@@ -25,7 +25,7 @@ pub fn decode_steps(
     walk_score: &mut [i32],
     steps: &mut [StepRecord],
 ) -> Decoded
-    ensures { λ r. ⌜ Shows Data (given (now (book .entry)) s (now (values .entry))) (lentBefore word bits numbers bytes «walk_path» «walk_blocks» «walk_score») (now (steps .entry))
+    ensures { λ r. ⌜ DecodesSteps Data (given (now (book .entry)) s (now (values .entry))) (lentBefore word bits numbers bytes «walk_path» «walk_blocks» «walk_score») (now (steps .entry))
         (unread r) (lentAfter word bits numbers bytes «walk_path» «walk_blocks» «walk_score») (now (steps .exit)) ⌝ }
 {
     let room = steps.len();
@@ -61,7 +61,7 @@ pub fn decode_hook_steps(
     walk_score: &mut [i32],
     steps: &mut [StepRecord],
 ) -> HookDecoded
-    ensures { λ r. ⌜ Shows Record (given (now (book .entry)) s (now (values .entry))) (lentBefore word bits numbers bytes «walk_path» «walk_blocks» «walk_score») (now (steps .entry))
+    ensures { λ r. ⌜ DecodesSteps Record (given (now (book .entry)) s (now (values .entry))) (lentBefore word bits numbers bytes «walk_path» «walk_blocks» «walk_score») (now (steps .entry))
         r (lentAfter word bits numbers bytes «walk_path» «walk_blocks» «walk_score») (now (steps .exit)) ⌝ }
 {
     let room = steps.len();

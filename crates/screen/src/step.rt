@@ -7,7 +7,7 @@ use settings::Settings;
 use steprecords::StepRecord;
 use steprecords::record_at;
 ghost use Rattle.machine.specs.Calls.{given, lentBefore, lentAfter};
-ghost use Rattle.screen.specs.Screen.{ShowsOne};
+ghost use Rattle.screen.specs.Screen.{DecodesStep};
 
 // What the plain decoding call answers (machine's Decoded), and one record.
 pub struct StepDecoded {
@@ -30,7 +30,7 @@ pub fn decode_step(
     walk_score: &mut [i32],
     i: usize,
 ) -> StepDecoded
-    ensures { λ r. ⌜ ShowsOne (given (now (book .entry)) s (now (values .entry))) (lentBefore word bits numbers bytes «walk_path» «walk_blocks» «walk_score») i
+    ensures { λ r. ⌜ DecodesStep (given (now (book .entry)) s (now (values .entry))) (lentBefore word bits numbers bytes «walk_path» «walk_blocks» «walk_score») i
         r (lentAfter word bits numbers bytes «walk_path» «walk_blocks» «walk_score») ⌝ }
 {
     let r = decode(

@@ -15,8 +15,8 @@ use Rattle.machine.specs.declared.Counts.{Counts}
 use Rattle.machine.specs.declared.HookDecoded.{HookDecoded}
 use Rattle.machine.proofs.HookDecoded as N
 use Rattle.machine.proofs.HookDecoded.Laws as N′
-use Rattle.screen.specs.Screen.{Shows}
-use Rattle.screen.proofs.Shown.{Leaves, shows}
+use Rattle.screen.specs.Screen.{DecodesSteps}
+use Rattle.screen.proofs.Shown.{Leaves, decodes-steps}
 use Rattle.screen.proofs.Thin.{Answered, thin-meets}
 use Rattle.screen.proofs.within.decode_hook_within as within
 use Rattle.screen.proofs.within.decode_hook_within.Symbol as within-def
@@ -52,7 +52,7 @@ unfolding code.routine tablesOf
 decode-hook-steps-spec 𝓤 H 𝓜 𝓖 𝓡 =
     entered 𝓤 H (tripleOf 𝓤 H (𝓖 .A) f.signature (f.spec 𝓤 H (𝓖 .A) (𝓜 .mem) (𝓡 .run)))
     (tables 𝓤 H 𝓜 𝓡 code.env .C) (tables 𝓤 H 𝓜 𝓡 code.env .Λ) #decode-hook-steps code.function (code.unfolded 𝓤 H 𝓜 𝓡)
-    (thin-meets N.the-row answered (λ c l room r after. Leaves Record c l room r after) (λ c l old r after steps. Shows Record c l old r after steps) (λ c l room r after h. h .1) (λ c l old r after h. shows Record c l old r after h)
+    (thin-meets N.the-row answered (λ c l room r after. Leaves Record c l room r after) (λ c l old r after steps. DecodesSteps Record c l old r after steps) (λ c l room r after h. h .1) (λ c l old r after h. decodes-steps Record c l old r after h)
     𝓤 H (𝓖 .A) (givenOf 𝓤 H 𝓜 𝓖) (𝓜 .mem) (𝓡 .run) (tablesOf 𝓤 H 𝓜 (tables 𝓤 H 𝓜 𝓡 code.env)) #within
     (cited 𝓤 H (tripleOf 𝓤 H (𝓖 .A) within.signature (within.spec 𝓤 H (𝓖 .A) (𝓜 .mem) (𝓡 .run))) 𝓜 𝓡 code.env #within within-def.routine code.calls-screen·within·decode-hook-within (within-thm.met 𝓤 H 𝓜 𝓖 𝓡))
     (cited 𝓤 H (tripleOf 𝓤 H (𝓖 .A) copies.signature (copies.spec 𝓤 H (𝓖 .A) (𝓜 .mem) (𝓡 .run))) 𝓜 𝓡 code.env #copy-steps copies-def.routine code.calls-steprecords·copy-steps (copies-thm.met 𝓤 H 𝓜 𝓖 𝓡)))

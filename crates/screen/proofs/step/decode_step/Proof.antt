@@ -2,7 +2,7 @@
 -- Assumes nothing.
 use borrow.Author.Needs.{needs}
 use Rattle.machine.specs.Calls.{Input, Lent, given, lent}
-use Rattle.screen.proofs.Stepped.{step-fits, step-shows}
+use Rattle.screen.proofs.Stepped.{step-fits, decodes-step}
 use Rattle.screen.proofs.step.decode_step.Statement.{statement}
 use Rattle.screen.proofs.step.decode_step.Tie as tie
 
@@ -57,7 +57,7 @@ returns c =
     let d = c .before .before .before .before .before .before .before .before .before .before .before .before .before .before .before .before in
     let s = start d in
     let x = c .before .record-at in
-    step-shows (call s) (buffers s) (d .decode .result) (after d) (d .decode .ensures) (s .args .i) (x .result) (x .ensures)
+    decodes-step (call s) (buffers s) (d .decode .result) (after d) (d .decode .ensures) (s .args .i) (x .result) (x .ensures)
 
 pub decode-step-spec : {M : Type 1} → statement M
 decode-step-spec =
