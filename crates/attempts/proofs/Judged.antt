@@ -1,7 +1,7 @@
 -- What a run and its verdict stand on: a book in tables gives the run's input and fits the buffers, the final word has the data that is read from it,
 -- and what is judged and handed out is the call's. By the limits of a loaded book and the exactness of the run. Assumes nothing.
 use mathlib.Core.Path.{_≡_, refl, sym, ap, ap₂, _∙_, subst}
-use mathlib.Core.Bool.{Bool, true, false, cond}
+use mathlib.Core.Bool.{true, cond}
 use mathlib.Core.List.{List, _++_}
 use mathlib.Core.Option.{Option, none, some}
 use Prim.Native.Nat.{ℕ, _+_, _*_, _^_, _≤_, _<_}
@@ -9,12 +9,11 @@ use native.Mathlib.Nat.{mul-le-mul-left}
 use native.Mathlib.Omega.{arith}
 use lib.IntN.{ℤ, pos}
 use lib.ListN.{length, take, drop, replicate}
-use lib.Seq.{take-at, take-all, length-take-le}
+use lib.Seq.{take-all, length-take-le}
 use lib.Dec.{T, eqb→eq}
 use lib.Pow.{pow-mono}
 use borrow.Author.Tests.{le-leb, lt-leb}
 use Rattle.laws.specs.Lists.{All}
-use Rattle.laws.proofs.Tests.{T-true, cond-same}
 use Rattle.polar.specs.Bits.{Bit}
 use Rattle.polar.specs.Layers.{part}
 use Rattle.polar.proofs.Transform.{transform-length, transform-bits}
@@ -53,11 +52,6 @@ use Rattle.attempts.specs.Attempt.{Ready, judgedAs, judgedFinal, RecordI
 -- a lent part has the length that it is lent at
 pub lent-length : {A : Type 0} (n : ℕ) (l : List A) → n ≤ length l → n ≡ length (take n l)
 lent-length n l h = sym (length-take-le n l h)
-
--- a part at the start, written over
-pub written-part : {A : Type 0} (n : ℕ) (new rest : List A) → length new ≡ n → part 0 n (new ++ rest) ≡ new
-unfolding part
-written-part n new rest e = take-at new rest n e
 
 -- a part at the start, cleared
 pub part-cleared : {A : Type 0} (v : A) (n : ℕ) (l : List A) {new : List A} → n ≤ length l → new ≡ replicate (length (take n l)) v → new ++ drop n l ≡ replicate n v ++ drop n l

@@ -1,6 +1,6 @@
 -- Demand 3 of a call that makes a run: the reader's run of the call is the machine's (the whole-run theorem), its extractions remove what they say, and the counts and the walk
 -- that the call leaves are those of that run. So the call by the reader's run is document 01's, by the machine's. Assumes nothing.
-use mathlib.Core.Path.{_≡_, refl, sym, ap, ap₂, _∙_, subst₂}
+use mathlib.Core.Path.{_≡_, refl, ap, ap₂}
 use mathlib.Core.List.{List}
 use mathlib.Core.Option.{Option, none, some}
 use Prim.Native.Nat.{_+_, _*_, _^_}
@@ -15,16 +15,15 @@ use Rattle.codebook.specs.Loading.{Load, refused, loaded, load, bookShape}
 use Rattle.codebook.proofs.Loaded.{loaded-valid}
 use Rattle.settings.specs.declared.Settings.{Settings}
 use Rattle.machine.specs.declared.Manner.{Manner}
-use Rattle.queue.specs.Queue.{Step, Final, End, Run}
-use Rattle.machine.specs.Calls.{Input, Lent, lengthsOf, numbersNeeded, barred, readied, machineRun, finalIn, countsOf, afterRun, verdict, outcomeOf, isDone, ranCall, unbarred, callWith, callBy, callOf}
+use Rattle.queue.specs.Queue.{Step, Final, End}
+use Rattle.machine.specs.Calls.{Input, Lent, lengthsOf, numbersNeeded, barred, readied, machineRun, afterRun, ranCall, unbarred, callWith, callBy, callOf}
 use Rattle.machine.proofs.Unbarred.{Free}
 use Rattle.machine.proofs.Called.{call-ran}
-use Rattle.runs.specs.Runs.{Exact}
 use Rattle.runs.specs.Handed.{Made}
 use Rattle.runs.proofs.Handed.{made-free}
 use Rattle.heights.specs.Workspace.{Room}
 use Rattle.reader.specs.Agree.{Agree}
-use Rattle.reader.proofs.Agree.{agree, reader-exact}
+use Rattle.reader.proofs.Agree.{agree}
 use Rattle.reader.proofs.Moments.{run-steps-are}
 use Rattle.reader.proofs.Removed.{run-removed}
 use Rattle.reader.proofs.Bounds.{steps-most, entries-most}
@@ -61,11 +60,6 @@ module _ (k : Manner) (c : Input) (l : Lent) (B : Book) (m : Made k c l B) where
   pub runs-same : readerRun B s ys l ≡ machineRun B s ys l
   unfolding readerRun machineRun
   runs-same = ap₂ (λ (steps : List Step) (end : End Final). record { steps = steps; end = end }) (runs-agree .steps) (runs-agree .end)
-
-  -- its final word is in the code, with its own data and its exact discrepancy
-  pub lent-exact : Exact B ys (finalIn (readerRun B s ys l .end))
-  unfolding readerRun
-  lent-exact = reader-exact B (loaded-valid (c .book) B (m .loads)) (s .visits) (s .paths) ys (arraysLent x s ys l) (free .ranged .visited) (free .sized .values) lent-root
 
   agreed : let w = ranCall (k .reads) x s l (readerRun B s ys l) in Agreed B s ys l (w .answer .counts) (w .lent)
   unfolding readerRun ranCall afterRun

@@ -2,7 +2,7 @@
 ghost use mathlib.Core.Path.{_≡_};
 ghost use Prim.Native.Nat.{_≤_};
 ghost use Rattle.settings.specs.Settings.{Ranged};
-ghost use Rattle.machine.specs.Calls.{atLeast, exactly, besideOk, holds, countsSize, recordSize};
+ghost use Rattle.machine.specs.Calls.{atLeast, exactly, besideOk, holds};
 use crate::tests::walk_needed;
 use codebook::Shape;
 use machine::Beside;

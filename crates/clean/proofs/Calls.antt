@@ -1,14 +1,13 @@
 -- A clean hook in each call that makes a run: the run is clean (Run.antt), its discrepancy 0 is within every limit, and the call's definition says the rest; the
 -- reader's run is the machine's by demand 3. Assumes nothing.
-use mathlib.Core.Path.{_≡_, refl, sym, ap, ap₂, _∙_, subst, subst₂}
-use mathlib.Core.Bool.{Bool, true, false, cond}
-use mathlib.Core.List.{List, [], _∷_, _++_, map, map-map}
+use mathlib.Core.Path.{_≡_, refl, sym, ap, ap₂, _∙_, subst}
+use mathlib.Core.Bool.{Bool}
+use mathlib.Core.List.{List, _++_, map, map-map}
 use mathlib.Core.Option.{Option, none, some}
 use Prim.Native.Nat.{ℕ}
 use native.Mathlib.Omega.{arith}
 use lib.ListN.{length, getD, drop, length-map}
 use lib.IntN.{ℤ}
-use lib.Dec.{leb}
 use borrow.Author.Tests.{le-leb, eq-eqb}
 use Rattle.laws.specs.Lists.{over}
 use Rattle.codebook.specs.declared.Refusal.the-variants.{Unreadable}
@@ -26,7 +25,7 @@ use Rattle.machine.specs.declared.Reads.{Reads}
 use Rattle.machine.specs.declared.Reads.the-variants.{Data, Record}
 use Rattle.machine.specs.declared.Manner.{Manner}
 use Rattle.machine.specs.declared.HookDecoded.{HookDecoded}
-use Rattle.machine.specs.Calls.{Input, Lent, readied, machineRun, finalIn, firstFailed, within, isRead, recordTests, verdicts, verdict, outcomeOf, isDone, recordOr, hookOf, countsOf, walked, afterRun, ranCall, callOf, plain}
+use Rattle.machine.specs.Calls.{Input, Lent, readied, machineRun, finalIn, firstFailed, within, isRead, recordTests, verdicts, verdict, outcomeOf, isDone, recordOr, hookOf, walked, afterRun, ranCall, callOf}
 use Rattle.machine.proofs.Called.{call-ran}
 use Rattle.runs.specs.Handed.{Made}
 use Rattle.runs.proofs.Handed.{made-free}
@@ -35,7 +34,7 @@ use Rattle.attempts.proofs.Whole.{runs-same}
 use Rattle.steprecords.specs.declared.StepRecord.{StepRecord}
 use Rattle.steprecords.specs.Records.{recordOf, blank, nthRecord, recorded}
 use Rattle.answers.specs.Slices.{countsSlice, recordSlice, filled}
-use Rattle.clean.specs.Clean.{Clean, cleanWalk, cleanCounts, cleanFinal, RunsClean}
+use Rattle.clean.specs.Clean.{Clean, cleanWalk, cleanFinal, RunsClean}
 use Rattle.clean.specs.Calls.{cleanRead, cleanAnswer, cleanLent, ReadsClean, cleanRecords}
 use Rattle.clean.proofs.Run.{machine-clean}
 

@@ -1,6 +1,6 @@
 -- There are clean hooks, at the least L, D and T: two of the marked table, one with biases 3, 2, 2 and 0 and values from 1 to 2,047 in magnitude, one with k = 0. By computing.
 -- Assumes nothing.
-use mathlib.Core.Path.{_≡_, refl}
+use mathlib.Core.Path.{refl}
 use mathlib.Core.List.{List, [], _∷_, _++_}
 use Prim.Native.Nat.{ℕ, zero, suc, _<_}
 use native.Mathlib.Omega.{arith}

@@ -9,8 +9,7 @@ use lib.Dec.{eqb}
 use lib.IntN.{ℤ}
 use Rattle.laws.specs.Lists.{tab, over}
 use Rattle.codebook.specs.declared.Refusal.{Refusal}
-use Rattle.codebook.specs.declared.Outcome.the-variants.{Done, Refused}
-use Rattle.codebook.specs.Book.{Kind, free, frozen, tied, Block, Book, freeCount, startOf}
+use Rattle.codebook.specs.Book.{Kind, free, frozen, tied, Block, Book, startOf}
 use Rattle.codebook.specs.Loading.{Loading, Load, refused, loaded, start, total, member, width, command, refusal, next}
 
 -- the codes of kinds, after so many ties: 0 is free, 1 zero, 2 + t the t-th tie

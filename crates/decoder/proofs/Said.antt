@@ -1,5 +1,5 @@
 -- What a decoding call promises, from its answer and buffers by the reader's run: the calls agree, the run is the whole run, and the rest follows. Assumes nothing.
-use mathlib.Core.Path.{_≡_, refl, sym, ap, _∙_, subst, subst₂}
+use mathlib.Core.Path.{_≡_, sym, ap, _∙_, subst, subst₂}
 use Rattle.codebook.specs.Refusals.{outcomeNumber}
 use Rattle.codec.specs.Record.{noRecord}
 use Rattle.machine.specs.declared.Reads.the-variants.{Data}

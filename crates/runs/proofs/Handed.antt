@@ -20,7 +20,6 @@ use Rattle.codebook.specs.Book.{Book}
 use Rattle.codebook.specs.Loading.{Load, refused, loaded, load, bookShape}
 use Rattle.codebook.proofs.Loaded.{loaded-valid}
 use Rattle.codebook.proofs.Refused.{load-refuses}
-use Rattle.settings.specs.declared.Settings.{Settings}
 use Rattle.codec.specs.declared.HookRecord.{HookRecord}
 use Rattle.codec.specs.Record.{readRecord}
 use Rattle.machine.specs.declared.Reads.{Reads}
@@ -39,7 +38,7 @@ use Rattle.runs.proofs.Ends.{run-ends}
 use Rattle.runs.proofs.Final.{run-exact}
 
 -- where a word is found, the limit alone decides
-pub found-within : (limit : ℕ) (e : End Final) (f : Final) → e ≡ found f → within limit e ≡ leb (finalIn e .discrepancy) limit
+found-within : (limit : ℕ) (e : End Final) (f : Final) → e ≡ found f → within limit e ≡ leb (finalIn e .discrepancy) limit
 unfolding within finalIn
 found-within limit e f q = subst (λ (o : End Final). within limit o ≡ leb (finalIn o .discrepancy) limit) (sym q) refl
 

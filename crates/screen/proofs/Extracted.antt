@@ -10,13 +10,12 @@ use lib.Dec.{leb, leb→le}
 use Rattle.laws.proofs.Tests.{and-left}
 use Rattle.codebook.specs.declared.Refusal.{Refusal}
 use Rattle.codebook.specs.Book.{Book}
-use Rattle.codebook.specs.Loading.{Load, refused, loaded, load, bookShape}
+use Rattle.codebook.specs.Loading.{Load, refused, loaded, load}
 use Rattle.queue.specs.Run.{mostExtractions}
 use Rattle.machine.specs.declared.Reads.{Reads}
 use Rattle.machine.specs.declared.Beside.the-variants.{Absent}
-use Rattle.machine.specs.declared.Counts.{Counts}
 use Rattle.machine.specs.declared.HookDecoded.{HookDecoded}
-use Rattle.machine.specs.Calls.{Input, Lent, walkNeeded, atLeast, exactly, countsSize, recordSize, besideOk, barred, readied, machineRun, walked, refusedCall, ranCall, unbarred, callWith, callBy, callOf}
+use Rattle.machine.specs.Calls.{Input, Lent, walkNeeded, atLeast, exactly, countsSize, recordSize, besideOk, barred, readied, machineRun, refusedCall, ranCall, unbarred, callWith, callBy, callOf}
 use Rattle.runs.specs.Handed.{Made}
 use Rattle.runs.proofs.Handed.{made-free}
 use Rattle.runs.proofs.Ends.{run-steps}

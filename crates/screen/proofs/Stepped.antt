@@ -1,6 +1,6 @@
 -- What decode_step says, from what the decoding call leaves: entry i of the walk's buffers is the record of extraction i, of the machine's and so of the
 -- reader's. By whether there is such an extraction. Assumes nothing.
-use mathlib.Core.Path.{_≡_, refl, sym, ap, _∙_}
+use mathlib.Core.Path.{_≡_, refl, ap, _∙_}
 use mathlib.Core.Bool.{Bool, true, false, cond}
 use mathlib.Core.List.{List}
 use Prim.Native.Nat.{ℕ, _≤_}

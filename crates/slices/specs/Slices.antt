@@ -9,7 +9,7 @@ use Rattle.machine.specs.declared.Reads.the-variants.{Data, Record}
 use Rattle.machine.specs.declared.Beside.the-variants.{Absent, Entries}
 use Rattle.machine.specs.declared.Manner.{Manner}
 use Rattle.machine.specs.declared.HookDecoded.{HookDecoded}
-use Rattle.machine.specs.Calls.{Input, Lent, callOf}
+use Rattle.machine.specs.Calls.{Input, Lent}
 use Rattle.decoder.specs.Decodes.{Decodes}
 use Rattle.answers.specs.Slices.{countsSlice, recordSlice, filled}
 

@@ -6,8 +6,8 @@ use borrow.Author.Tests.{not-true, not-false}
 use lib.ListN.{length}
 use lib.Dec.{eqb}
 use Rattle.codebook.specs.declared.Outcome.the-variants.{Done}
-use Rattle.codebook.specs.Book.{Book, freeCount}
-use Rattle.codebook.specs.Loading.{load, loaded}
+use Rattle.codebook.specs.Book.{freeCount}
+use Rattle.codebook.specs.Loading.{load}
 use Rattle.codec.proofs.Numbers.{make-record-number}
 use Rattle.coding.proofs.Told.{Known, shape-refused, shape-known, both-fit, told, make-refused, make-mismatch, make-bad, make-good}
 use Rattle.coding.proofs.make_record.Statement.{statement}

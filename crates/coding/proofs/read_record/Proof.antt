@@ -5,8 +5,8 @@ use borrow.Author.Needs.{needs}
 use borrow.Author.Tests.{not-true, not-false}
 use lib.ListN.{length}
 use lib.Dec.{eqb}
-use Rattle.codebook.specs.Book.{Book, freeCount}
-use Rattle.codebook.specs.Loading.{load, loaded}
+use Rattle.codebook.specs.Book.{freeCount}
+use Rattle.codebook.specs.Loading.{load}
 use Rattle.coding.proofs.Told.{Known, shape-refused, shape-known, both-fit, are-bits, record-told, record-refused, record-mismatch, record-bad, record-good}
 use Rattle.coding.proofs.read_record.Statement.{statement}
 use Rattle.coding.proofs.read_record.Tie as tie

@@ -1,7 +1,7 @@
 -- `attempts::attempt::attempt` meets its contract: by the outcome of loading, then of the tests; else the run is made and decided on, and what it leaves is the call's.
 -- Assumes nothing.
-use mathlib.Core.Path.{_≡_, refl, sym, ap, ap₂, _∙_, subst}
-use mathlib.Core.Option.{none, some}
+use mathlib.Core.Path.{_≡_, sym, ap, ap₂, _∙_, subst}
+use mathlib.Core.Option.{none}
 use Prim.Native.Nat.{ℕ}
 use native.Mathlib.Omega.{arith}
 use lib.IntN.{ℤ, pos}
@@ -12,7 +12,7 @@ use Rattle.codebook.specs.Progress.{tables}
 use Rattle.settings.specs.declared.Settings.{Settings}
 use Rattle.coding.proofs.Told.{shape-refused}
 use Rattle.machine.specs.declared.HookDecoded.{HookDecoded}
-use Rattle.machine.specs.Calls.{Input, Lent, given, lent, lengthsOf, firstFailed, testsBefore, barred, refusedCall, ranCall, Called, callBy}
+use Rattle.machine.specs.Calls.{Input, Lent, given, lent, lengthsOf, firstFailed, testsBefore, refusedCall, ranCall, Called}
 use Rattle.machine.proofs.Unbarred.{Free, nothing-bars}
 use Rattle.machine.proofs.Called.{call-refused, call-barred, call-ran}
 use Rattle.attempts.specs.Reading.{readerRun}

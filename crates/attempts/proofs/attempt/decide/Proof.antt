@@ -1,9 +1,8 @@
 -- `attempts::attempt::decide` meets its contract: the run is the reader's on the lent part of the workspace, its word is of the code and the data are that word's, the verdict is the
 -- call's, and so is what is handed out. Assumes nothing.
-use mathlib.Core.Path.{_≡_, refl, sym, ap, ap₂, _∙_, subst}
-use mathlib.Core.Bool.{true}
+use mathlib.Core.Path.{_≡_, sym, ap, ap₂, _∙_, subst}
 use mathlib.Core.List.{List, _++_}
-use Prim.Native.Nat.{ℕ, _+_, _*_, _^_, _≤_}
+use Prim.Native.Nat.{ℕ, _+_, _*_, _≤_}
 use native.Mathlib.Nat.{mul-le-mul}
 use native.Mathlib.Omega.{arith}
 use lib.IntN.{pos}
@@ -24,9 +23,9 @@ use Rattle.runs.specs.Runs.{Exact}
 use Rattle.reader.specs.Arrays.{Arrays}
 use Rattle.reader.specs.Reader as R
 use Rattle.reading.proofs.Received.{received-root}
-use Rattle.attempts.specs.Reading.{arraysLent, readerRun}
+use Rattle.attempts.specs.Reading.{arraysLent}
 use Rattle.attempts.specs.Attempt.{Ready}
-use Rattle.attempts.proofs.Judged.{lent-length, written-part, part-cleared, ready-deep, ready-size, ready-own, ready-bits, ready-small, ready-free, ready-running, numbers-room, bytes-room, exact, finds, data-bits, data-length, record-in, judged-same, reader-same, ran-answer, ran-lent}
+use Rattle.attempts.proofs.Judged.{lent-length, part-cleared, ready-deep, ready-size, ready-own, ready-bits, ready-small, ready-free, ready-running, numbers-room, bytes-room, exact, finds, data-bits, data-length, record-in, judged-same, reader-same, ran-answer, ran-lent}
 use Rattle.attempts.proofs.attempt.decide.Statement.{statement}
 use Rattle.attempts.proofs.attempt.decide.Tie as tie
 

@@ -3,7 +3,6 @@
 use borrow.Author.Needs.{needs}
 use Rattle.machine.specs.declared.Reads.the-variants.{Record}
 use Rattle.machine.specs.Calls.{Input, Lent, given, lent}
-use Rattle.screen.specs.Screen.{showing}
 use Rattle.screen.proofs.Extracted.{left-fits}
 use Rattle.screen.proofs.within.decode_hook_within.Statement.{statement}
 use Rattle.screen.proofs.within.decode_hook_within.Tie as tie
