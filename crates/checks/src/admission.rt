@@ -35,7 +35,7 @@ pub fn admit(k: Manner, x: Shape, asked: Settings, l: Lengths, values: &[i16]) -
     requires { ⌜ (x .n ≤ 512) × (x .blocks ≤ 512) ⌝ }
     ensures { λ r. ⌜ r ≡ admittedAs (firstFailed (testsBefore k x asked l (now (values .entry)))) asked ⌝ }
 {
-    let checked = Settings::checked(asked.visits, asked.paths, asked.limit);
+    let checked = Settings::checked(asked);
     let Checked::Good(s) = checked else {
         return checked;
     };

@@ -2,9 +2,9 @@
 // the call to the run. specs/Settings.antt says which are in range, and what their check answers.
 use codebook::Refusal;
 ghost use mathlib.Core.Path.{_≡_};
-ghost use Rattle.settings.specs.Settings.{asked, checkedAs};
+ghost use Rattle.settings.specs.Settings.{checkedAs};
 
-// What a decoding call is to go by. Anyone can make one of any numbers; `checked` makes those that lie in their ranges.
+// What a decoding call is to go by. Anyone can make one of any numbers; `checked` tells those that lie in their ranges.
 pub struct Settings {
     pub visits: u32,
     pub paths: u32,
@@ -30,23 +30,19 @@ impl Settings {
 
     pub const MOST_LIMIT: u32 = 1048576;
 
-    // The settings with these numbers, if each is in its range.
-    pub fn checked(visits: u32, paths: u32, limit: u32) -> Checked
-        ensures { λ r. ⌜ r ≡ checkedAs (asked visits paths limit) ⌝ }
+    // These settings, if each is in its range.
+    pub fn checked(s: Settings) -> Checked
+        ensures { λ r. ⌜ r ≡ checkedAs s ⌝ }
     {
-        if visits < Settings::LEAST_VISITS || Settings::MOST_VISITS < visits {
+        if s.visits < Settings::LEAST_VISITS || Settings::MOST_VISITS < s.visits {
             return Checked::Bad(Refusal::BadSetting);
         }
-        if paths < Settings::LEAST_PATHS || Settings::MOST_PATHS < paths {
+        if s.paths < Settings::LEAST_PATHS || Settings::MOST_PATHS < s.paths {
             return Checked::Bad(Refusal::BadSetting);
         }
-        if limit < Settings::LEAST_LIMIT || Settings::MOST_LIMIT < limit {
+        if s.limit < Settings::LEAST_LIMIT || Settings::MOST_LIMIT < s.limit {
             return Checked::Bad(Refusal::BadSetting);
         }
-        Checked::Good(Settings {
-            visits,
-            paths,
-            limit,
-        })
+        Checked::Good(s)
     }
 }
