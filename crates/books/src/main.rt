@@ -2,6 +2,9 @@
 // word for it and the byte where it stands. What is right or wrong is the proved loader's word alone: a command is good when the book up to its end is
 // refused only because it ends there. So it costs a load for every command. The longest good book has 52,083 bytes; of a longer input the bytes read here
 // are enough to judge it. Relies on loading::load and crate text.
+
+#![tactic(auto)]
+
 mod command;
 
 ghost use Rattle.std.specs.Prelude.{◌+◌, ◌≤◌, ◌<◌, length};
@@ -13,7 +16,7 @@ use loading::load;
 use text::{print_number, print_words};
 
 // What the book up to a command's end comes to.
-#[derive(Drop)]
+#[derive(Clone, Copy)]
 enum Verdict {
     Good,
     Last,

@@ -1,5 +1,8 @@
 // The calls as C sees them: slices are a pointer and a length, and each function answers 0 or the number of the refusal. include/saddlemint.h
 // declares them. Relies on the crates numbered and slices, whose calls these are, and adds the names.
+
+#![tactic(auto)]
+
 ghost use Rattle.std.specs.Prelude.{◌≡◌};
 ghost use Rattle.codebook.specs.Refusals.{outcome_number};
 ghost use Rattle.codec.specs.Record.{status_of};

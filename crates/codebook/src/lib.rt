@@ -1,8 +1,10 @@
 // The code book: its types, and the numbers of refusals. specs/Refusals.antt gives document 01's number and word for each refusal; specs/Loading.antt
 // says what loading is, specs/Tables.antt what the loader (the crate loading) fills.
 
+#![tactic(auto)]
+
 // Why a call is refused: document 01, "Refusal table".
-#[derive(Drop)]
+#[derive(Clone, Copy)]
 pub enum Refusal {
     // 1, short: the book ends in a command, or where one is due.
     Truncated,
@@ -29,14 +31,14 @@ pub enum Refusal {
 }
 
 // Whether a call did what it is for.
-#[derive(Drop)]
+#[derive(Clone, Copy)]
 pub enum Outcome {
     Done,
     Refused(Refusal),
 }
 
 // A command of a code book with its operands: document 01, "The code book".
-#[derive(Drop)]
+#[derive(Clone, Copy)]
 pub enum Command {
     // 10: the length is 2^m.
     Length(u32),
@@ -53,7 +55,7 @@ pub enum Command {
 }
 
 // What loading answers: m, the length n = 2^m, the number of free indices k, the number of blocks V; zeros where it is refused.
-#[derive(Drop)]
+#[derive(Clone, Copy)]
 pub struct Shape {
     pub outcome: Outcome,
     pub m: u32,
@@ -63,7 +65,7 @@ pub struct Shape {
 }
 
 // What stands at a place of a code book.
-#[derive(Drop)]
+#[derive(Clone, Copy)]
 pub enum Read {
     // A listed command, the place after it, and whether its operands are whole: where the book ends in them, they are read as 0.
     Found(Command, usize, bool),
@@ -73,7 +75,7 @@ pub enum Read {
 
 // How far a code book is loaded: m and n, 0 before the length; the indices filled, the ties among them, and whether the last command was a
 // tie or a term; the blocks, the indices in them, and the free ones of these.
-#[derive(Drop)]
+#[derive(Clone, Copy)]
 pub struct Progress {
     pub m: u32,
     pub n: u32,
@@ -86,7 +88,7 @@ pub struct Progress {
 }
 
 // What one command comes to.
-#[derive(Drop)]
+#[derive(Clone, Copy)]
 pub enum Step {
     Next(Progress),
     // The end command.

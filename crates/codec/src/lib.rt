@@ -1,9 +1,12 @@
 // The types of encoding, testing and reading, and of hook records; no code. The crates filling, hooks and coding have it.
 // specs/Record.antt gives document 01's number for each status; specs/Calls.antt says what each call answers.
+
+#![tactic(auto)]
+
 use codebook::{Outcome, Refusal};
 
 // The status of a carcass: document 01, "The hook record".
-#[derive(Drop)]
+#[derive(Clone, Copy)]
 pub enum Status {
     // 0
     Passed,
@@ -18,7 +21,7 @@ pub enum Status {
 }
 
 // A hook record. The side is 0 for left, 1 for right.
-#[derive(Drop)]
+#[derive(Clone, Copy)]
 pub struct HookRecord {
     pub plant: u32,
     pub carcass: u32,
@@ -27,7 +30,7 @@ pub struct HookRecord {
 }
 
 // What testing a word answers. A word outside the code is no refusal.
-#[derive(Drop)]
+#[derive(Clone, Copy)]
 pub enum Tested {
     InCode,
     NotInCode,
@@ -35,7 +38,7 @@ pub enum Tested {
 }
 
 // What reading a record answers: the record is zeros, passed, where it is refused.
-#[derive(Drop)]
+#[derive(Clone, Copy)]
 pub struct RecordRead {
     pub outcome: Outcome,
     pub hook: HookRecord,

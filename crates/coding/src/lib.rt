@@ -1,6 +1,9 @@
 // The calls: encode, test, read data, make record, read record. Each takes a book's bytes, which are loaded first; then lengths, then values are
 // tested, and a lent buffer is written on success alone. Relies on the crates loading, filling and hooks and on polar's transform; codec/specs/Calls
 // says what each call answers, codec/specs/Numbers its number in document 01, codec/specs/Testing what a test means by encoding.
+
+#![tactic(auto)]
+
 ghost use Rattle.std.specs.Prelude.{◌≡◌, ◌&&◌, List, ◌^◌, length, eqb};
 ghost use Rattle.laws.specs.Lists.{All};
 ghost use Rattle.polar.specs.Bits.{Bit};

@@ -1,4 +1,7 @@
 // A command of a code book is read: document 01, "The code book". Relies on the crates numerals and codebook; codebook/specs/Loading says what the bytes mean.
+
+#![tactic(auto)]
+
 ghost use Rattle.std.specs.Prelude.{◌≡◌, [], ◌+◌, ◌<◌, ◌≤◌, length, take, drop};
 ghost use Rattle.codebook.specs.Loading.{listed, width, signed, command};
 ghost use Rattle.codebook.specs.Progress.{read_at};

@@ -2,6 +2,8 @@
 // t-th tie, and the set of the ties that it is a term of. Relies on the crate codec: codec/specs/Code says what is filled, tested and read,
 // codec/specs/Tabled what the tables hold. Contracts speak of all kinds that the tables hold; that there are some keeps the indices in range.
 
+#![tactic(auto)]
+
 ghost use Rattle.std.specs.Prelude.{◌≡◌, List, [], ◌<◌, length};
 ghost use Rattle.laws.specs.Lists.{All};
 ghost use Rattle.polar.specs.Bits.{Bit};

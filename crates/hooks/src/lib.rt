@@ -1,4 +1,7 @@
 // Hook records made into data bits and read from them. Relies on the crate codec, whose definitions say what the bits are.
+
+#![tactic(auto)]
+
 mod fields;
 mod hook;
 

@@ -1,1 +1,3 @@
 // Definitions and laws alone: specs/ and proofs/.
+
+#![tactic(auto)]

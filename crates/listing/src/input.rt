@@ -17,7 +17,7 @@ fn signed(s: &[u8], at: usize) -> i16
 }
 
 // The length of the book, where the input holds it and L, D and T whole; else the input is short.
-#[derive(Drop)]
+#[derive(Clone, Copy)]
 pub enum Cut {
     Whole(usize),
     Short,

@@ -1,5 +1,8 @@
 // Replays recorded load cases: reads a stream of operations on standard input (reference/README.md has its format), and prints for each case what
 // the load call answers. The output is held to what the independent reference printed. Relies on loading::load and numerals::two.
+
+#![tactic(auto)]
+
 ghost use Rattle.std.specs.Prelude.{◌+◌, ◌<◌, ◌≤◌, length};
 
 use codebook::Shape;

@@ -1,23 +1,26 @@
 // What the decoding calls are told apart by, and what they answer. specs/Calls.antt says what that is for each input.
+
+#![tactic(auto)]
+
 use codebook::Outcome;
 use codec::HookRecord;
 
 // What a decoding call reads of the final word: its data, or the hook record that these hold besides.
-#[derive(Drop)]
+#[derive(Clone, Copy)]
 pub enum Reads {
     Data,
     Record,
 }
 
 // A slice beside the buffers that every decoding call is lent: none, or one of so many entries.
-#[derive(Drop)]
+#[derive(Clone, Copy)]
 pub enum Beside {
     Absent,
     Entries(usize),
 }
 
 // The manner of a decoding call: what it reads, and what it is lent beside word, data, workspace and walk: step records, and counts and record as slices.
-#[derive(Drop)]
+#[derive(Clone, Copy)]
 pub struct Manner {
     pub reads: Reads,
     pub steps: Beside,
@@ -26,7 +29,7 @@ pub struct Manner {
 }
 
 // The lengths of what is given and lent: values, word and data; the workspace's numbers and bytes; the walk's paths, blocks and scores.
-#[derive(Drop)]
+#[derive(Clone, Copy)]
 pub struct Lengths {
     pub values: usize,
     pub word: usize,
@@ -39,7 +42,7 @@ pub struct Lengths {
 }
 
 // The counts of a run: extractions, paths crowded out, paths outrun, and the discrepancy of the final word. Zeros where no run was made.
-#[derive(Drop)]
+#[derive(Clone, Copy)]
 pub struct Counts {
     pub extractions: u32,
     pub crowded: u32,
@@ -48,14 +51,14 @@ pub struct Counts {
 }
 
 // What the plain decoding call answers.
-#[derive(Drop)]
+#[derive(Clone, Copy)]
 pub struct Decoded {
     pub outcome: Outcome,
     pub counts: Counts,
 }
 
 // What the hook call answers: the record is zeros, passed, where it is refused.
-#[derive(Drop)]
+#[derive(Clone, Copy)]
 pub struct HookDecoded {
     pub outcome: Outcome,
     pub counts: Counts,

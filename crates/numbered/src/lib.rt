@@ -1,5 +1,8 @@
 // The calls but for decoding as C calls them: a number as the answer, shape and record in lent slices. Relies on the crates answers, loading and coding;
 // specs/Answers.antt says what each answers and leaves.
+
+#![tactic(auto)]
+
 pub mod book;
 pub mod records;
 pub mod words;

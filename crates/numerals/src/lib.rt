@@ -1,4 +1,7 @@
 // A byte widened, powers of two, and numbers from bytes, the highest first. Relies on the crate codebook for its definition of bytes as a number.
+
+#![tactic(auto)]
+
 ghost use Rattle.std.specs.Prelude.{◌≡◌, ◌+◌, ◌^◌, ◌<◌, ◌≤◌, length, take, drop};
 ghost use Rattle.codebook.specs.Loading.{big_endian};
 

@@ -1,5 +1,8 @@
 // One command of a code book is judged and obeyed, after those before it: document 01, "The code book" and "Refusal table". The loader takes
 // out the case that it expects, or else refuses. Relies on stores.rt and the crates numerals and codebook; codebook/specs/Progress says what the numbers and tables stand for.
+
+#![tactic(auto)]
+
 mod stores;
 
 ghost use Rattle.std.specs.Prelude.{◌≡◌, true, List, ℕ, ◌<◌, ◌≤◌, nat_abs, leb};

@@ -1,8 +1,10 @@
 // Words of a block: the definitions by the values of its node, and that these are the machine's words. The search for them stands in the crates
 // above: tables, passes, short, search. Here are the types that it answers with.
 
+#![tactic(auto)]
+
 // A word of a block: the setting of the free bits that makes it, the set of the parities after it, its cost and its number; zeros for none.
-#[derive(Drop)]
+#[derive(Clone, Copy)]
 pub struct Candidate {
     pub some: bool,
     pub setting: u32,
@@ -12,14 +14,14 @@ pub struct Candidate {
 }
 
 // The nearest word of a block and the next after it.
-#[derive(Drop)]
+#[derive(Clone, Copy)]
 pub struct Pair {
     pub first: Candidate,
     pub second: Candidate,
 }
 
 // The next word of a block after one and, where that is known too, the next after it.
-#[derive(Drop)]
+#[derive(Clone, Copy)]
 pub struct Next {
     pub first: Candidate,
     pub second: Candidate,

@@ -10,7 +10,7 @@ use settings::Settings;
 use steprecords::{StepRecord, record_at};
 
 // What the plain decoding call answers (machine's Decoded), and one record.
-#[derive(Drop)]
+#[derive(Clone, Copy)]
 pub struct StepDecoded {
     pub outcome: Outcome,
     pub counts: Counts,

@@ -1,2 +1,5 @@
 // The nearest word of a block, and the next after one.
+
+#![tactic(auto)]
+
 pub mod find;

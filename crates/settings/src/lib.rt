@@ -1,12 +1,15 @@
 // The settings of a decoding call: how often a block may be visited (L), how many paths may be alive (D), and the limit of the discrepancy (T). They go by value from
 // the call to the run. specs/Settings.antt says which are in range, and what their check answers.
+
+#![tactic(auto)]
+
 ghost use Rattle.std.specs.Prelude.{◌≡◌};
 ghost use Rattle.settings.specs.Settings.{checked_as};
 
 use codebook::Refusal;
 
 // What a decoding call is to go by. Anyone can make one of any numbers; `checked` tells those that lie in their ranges.
-#[derive(Drop)]
+#[derive(Clone, Copy)]
 pub struct Settings {
     pub visits: u32,
     pub paths: u32,
@@ -14,7 +17,7 @@ pub struct Settings {
 }
 
 // Settings, or why there are none.
-#[derive(Drop)]
+#[derive(Clone, Copy)]
 pub enum Checked {
     Good(Settings),
     Bad(Refusal),

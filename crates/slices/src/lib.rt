@@ -1,5 +1,8 @@
 // The decoding calls with a number as the answer, and counts and record in lent slices: what C calls, but for the names. Relies on the crates decoder and
 // answers; specs/Slices.antt says what each answers and leaves.
+
+#![tactic(auto)]
+
 ghost use Rattle.machine.specs.Calls.{given, lent_before, lent_after};
 ghost use Rattle.slices.specs.Slices.{PlainSlices, HookSlices};
 

@@ -1,5 +1,8 @@
 // A run's first state: path 0 holds array 1, the other slots are vacant, the received values are at the root. And what each extraction begins with:
 // a block read off the tables, and an entry of the walk written.
+
+#![tactic(auto)]
+
 ghost use Rattle.std.specs.Prelude.{◌≡◌, List, ℕ, suc, ◌+◌, ◌^◌, ◌≤◌, ◌<◌, pos, length, get_or, set, replicate};
 ghost use Rattle.polar.specs.Layers.{over_at};
 ghost use Rattle.codebook.specs.Book.{Book};

@@ -1,10 +1,13 @@
 // Step records: number buffers copied into a slice of them, and one entry of the buffers as a record. A slice of structs is proved by hand, so the functions
 // that have one are few (copy_steps, and first_record, whose signature is plain). Relies on no other file; specs/Records.antt says what is copied.
+
+#![tactic(auto)]
+
 ghost use Rattle.std.specs.Prelude.{◌≡◌, cond, ◌≤◌, ltb, length};
 ghost use Rattle.steprecords.specs.Records.{blank, record_at, copied};
 
 // One extraction as the screen shows it: the path taken, its blocks and its score.
-#[derive(Drop)]
+#[derive(Clone, Copy)]
 pub struct StepRecord {
     pub path: i32,
     pub blocks: i32,

@@ -1,5 +1,8 @@
 // What the programs print on standard output: words, numbers, bytes, bits. No contract can speak of output; what is proved is that every index is in
 // range and every call returns. Relies on crate io and polar::values::magnitude.
+
+#![tactic(auto)]
+
 ghost use Rattle.std.specs.Prelude.{◌+◌, ◌≤◌, length};
 
 use libc::STDOUT_FILENO;

@@ -9,7 +9,7 @@ use numerals::{four, two};
 use settings::Settings;
 
 // Which call it is, and L, D and T.
-#[derive(Drop)]
+#[derive(Clone, Copy)]
 pub struct Call {
     pub hook: bool,
     pub visits: u32,
@@ -18,7 +18,7 @@ pub struct Call {
 }
 
 // A case's fields: the call and the lengths of the lent buffers.
-#[derive(Drop)]
+#[derive(Clone, Copy)]
 struct Fields {
     call: Call,
     word: usize,

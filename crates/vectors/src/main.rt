@@ -1,6 +1,9 @@
 // Replays recorded cases of every call but load: reads a stream of operations on standard input (reference/README.md has its format) and prints what
 // each case answers and leaves in the lent buffers. The output is held to what the independent reference printed. Relies on the crates coding, decoder,
 // text and numerals.
+
+#![tactic(auto)]
+
 mod answers;
 mod buffers;
 mod codewords;

@@ -1,5 +1,8 @@
 // Program `walk`: decodes the input on standard input and prints its walk. Relies on crate listing. The longest input that is not refused as 7 or before has
 // 65,672 bytes; of a longer one the bytes read here are enough to judge it.
+
+#![tactic(auto)]
+
 use libc::STDIN_FILENO;
 
 fn main() {

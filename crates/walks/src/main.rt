@@ -1,5 +1,8 @@
 // Replays recorded inputs of program `walk`: reads a stream of operations on standard input (reference/README.md has its format), and prints for each case
 // the listing that `walk` prints. The output is held to what the independent reference printed. Relies on crates listing, text and numerals.
+
+#![tactic(auto)]
+
 ghost use Rattle.std.specs.Prelude.{◌+◌, ◌<◌, ◌≤◌, length};
 
 use libc::STDIN_FILENO;
@@ -15,7 +18,7 @@ fn field_at(s: &[u8], at: usize) -> usize
 }
 
 // Where the stream stands, and how long the current input is.
-#[derive(Drop)]
+#[derive(Clone, Copy)]
 struct Place {
     at: usize,
     size: usize,

@@ -1,4 +1,7 @@
 // The words of a path's block, found from what its row and the workspace hold; and its score.
+
+#![tactic(auto)]
+
 ghost use Rattle.std.specs.Prelude.{◌≡◌, ℕ, suc, ◌+◌, ◌^◌, ◌≤◌, ◌<◌, pos, neg_ℤ, ◌-ℤ◌, length};
 ghost use Rattle.std.proofs.Math.Option.{some};
 ghost use Rattle.polar.specs.Layers.{part, Within};
@@ -25,7 +28,7 @@ use standing::row::{cost_of, earlier_of, id_of, parities_of, word_of};
 pub mod kept;
 
 // A block: its first index, its height, its bias, and the height where its word goes.
-#[derive(Drop)]
+#[derive(Clone, Copy)]
 pub struct Block {
     pub start: usize,
     pub height: usize,
