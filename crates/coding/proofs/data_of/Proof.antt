@@ -18,42 +18,34 @@ copy-requires c κs = search rules
 
 transform-requires : tie.Need-transform-requires
 transform-requires c κs =
-    let C = c.before.before.before in
-    let s = C.before.before.before.before.before in
-    subst (λ l. (length l ≡ 2 ^ s.args.m) × All Bit l) (sym C.copy.ensures) (s.requires.1.1, s.requires.1.2)
+    subst (λ l. (length l ≡ 2 ^ c.before.before.before.before.before.before.before.before.args.m) × All Bit l) (sym c.before.before.before.copy.ensures) (c.before.before.before.before.before.before.before.before.requires.1.1, c.before.before.before.before.before.before.before.before.requires.1.2)
 
 -- u is what the word turns back into
-back : (X : tie.After-transform) → let s = X.before.before.before.before.before.before.before.before.before in
-    X.transform.new.0 ≡ transform s.args.m s.args.word.now
+back : (X : tie.After-transform) → X.transform.new.0 ≡ transform X.before.before.before.before.before.before.before.before.before.args.m X.before.before.before.before.before.before.before.before.before.args.word.now
 back X =
-    let s = X.before.before.before.before.before.before.before.before.before in
-    X.transform.ensures ∙ ap (transform s.args.m) X.before.before.before.before.copy.ensures
+    X.transform.ensures ∙ ap (transform X.before.before.before.before.before.before.before.before.before.args.m) X.before.before.before.before.copy.ensures
 
-free-bits-requires : tie.Need-free-bits-requires
+free-bits-requires : tie.Need-free_bits-requires
 free-bits-requires c κs =
-    let X = c.before.before.before.before in
-    let s = X.before.before.before.before.before.before.before.before.before in
-    subst (λ l. Some (λ ks. Coded ks s.args.kinds.now × (length ks ≡ length l) × (free_count ks ≡ length s.args.bits.now))) (sym (back X))
-    (s.requires.0.0, (s.requires.0.1.0, s.requires.0.1.1 ∙ s.requires.1.1 ∙ sym (transform-length s.args.m s.args.word.now s.requires.1.1), s.requires.0.1.2))
+    subst (λ l. Some (λ ks. Coded ks c.before.before.before.before.before.before.before.before.before.before.before.before.args.kinds.now × (length ks ≡ length l) × (free_count ks ≡ length c.before.before.before.before.before.before.before.before.before.before.before.before.args.bits.now))) (sym (back c.before.before.before))
+    (c.before.before.before.before.before.before.before.before.before.before.before.before.requires.0.0, (c.before.before.before.before.before.before.before.before.before.before.before.before.requires.0.1.0, c.before.before.before.before.before.before.before.before.before.before.before.before.requires.0.1.1 ∙ c.before.before.before.before.before.before.before.before.before.before.before.before.requires.1.1 ∙ sym (transform-length c.before.before.before.before.before.before.before.before.before.before.before.before.args.m c.before.before.before.before.before.before.before.before.before.before.before.before.args.word.now c.before.before.before.before.before.before.before.before.before.before.before.before.requires.1.1), c.before.before.before.before.before.before.before.before.before.before.before.before.requires.0.1.2))
 
-same_length : tie.Need-same-length
+same_length : tie.Need-shape_of-u
 same_length c = search rules
 
-same-length-2 : tie.Need-same-length-2
+same-length-2 : tie.Need-shape_of-bits
 same-length-2 c = search rules
 
 returns : tie.Need-returns
 returns c =
-    let F = c.before.before in
-    let X = F.before.before.before.before.before in
-    let s = X.before.before.before.before.before.before.before.before.before in (
+    (
       λ ks C w f.
-          F.free-bits.ensures ks C (w ∙ s.requires.1.1 ∙ sym (transform-length s.args.m s.args.word.now s.requires.1.1) ∙ ap length (sym (back X))) f ∙ ap (free_bits ks) (back X),
-      back X,
+          c.before.before.free_bits.ensures ks C (w ∙ c.before.before.before.before.before.before.before.before.before.before.before.before.before.before.before.requires.1.1 ∙ sym (transform-length c.before.before.before.before.before.before.before.before.before.before.before.before.before.before.before.args.m c.before.before.before.before.before.before.before.before.before.before.before.before.before.before.before.args.word.now c.before.before.before.before.before.before.before.before.before.before.before.before.before.before.before.requires.1.1) ∙ ap length (sym (back c.before.before.before.before.before.before))) f ∙ ap (free_bits ks) (back c.before.before.before.before.before.before),
+      back c.before.before.before.before.before.before,
     )
 
-pub data-of-spec : {M : Type 1} → statement M
-data-of-spec =
+pub data_of_spec : {M : Type 1} → statement M
+data_of_spec =
     tie.close
     (tie.spec
     copy-requires

@@ -22,81 +22,71 @@ use Rattle.coding.proofs.encode.Statement.{statement}
 use Rattle.coding.proofs.encode.Tie as tie
 
 -- where the book is loaded, and where the call begins
-abbrev start : tie.After-load-kinds → tie.Start
+abbrev start : tie.After-load_kinds-x → tie.Start
 start l = l.before.before.before.before.before.before
 
 -- the book that is loaded, and its test of the lengths
-known : (t : tie.After-enum-told) → let x = t.before.before.load-kinds.result in Known (start t.before.before).args.book.now x.m x.n x.k
+known : (t : tie.In_default) → let x = t.before.before.load_kinds-x.result in Known (start t.before.before).args.book.now x.m x.n x.k
 known t =
-    let l = t.before.before in
-    shape-known (start l).args.book.now l.load-kinds.result l.load-kinds.ensures.0 t.enum_told.given.1
+    shape-known (start t.before.before).args.book.now t.before.before.load_kinds-x.result t.before.before.load_kinds-x.ensures.0 t.enum_told-1.given.1
 
-fits : (t : tie.After-both-fit) → let B = (known t.before).is in
+fits : (t : tie.After-both_fit) → let B = (known t.before).is in
     let a = (start t.before.before.before).args in
-    t.both-fit.result ≡ (eqb (length a.bits.now) (free_count B.kinds) && eqb (length a.word.now) (2 ^ B.m))
+    t.both_fit.result ≡ (eqb (length a.bits.now) (free_count B.kinds) && eqb (length a.word.now) (2 ^ B.m))
 fits t =
     let K = known t.before in
     let a = (start t.before.before.before).args in
-    t.both-fit.ensures ∙ ap₂ (λ k n. eqb (length a.bits.now) k && eqb (length a.word.now) n) K.free K.size
+    t.both_fit.ensures ∙ ap₂ (λ k n. eqb (length a.bits.now) k && eqb (length a.word.now) n) K.free K.size
 
 -- where the tests are passed: the tables hold the book's kinds, the lengths are right, and the data are bits
-passed : (q : tie.Else2) → let l = q.before.before.before.before.before.before in
-    let a = (start l).args in
+passed : (q : tie.Else-not-are_bits) → let a = (start q.before.before.before.before.before.before).args in
     let ks = (known q.before.before.before.before).is.kinds in
-    Tabled ks l.load-kinds.new.1.0 l.load-kinds.new.1.1.0 × (length ks ≡ length a.word.now) × (free_count ks ≡ length a.bits.now) × All Bit a.bits.now
+    Tabled ks q.before.before.before.before.before.before.load_kinds-x.new.1.0 q.before.before.before.before.before.before.load_kinds-x.new.1.1.0 × (length ks ≡ length a.word.now) × (free_count ks ≡ length a.bits.now) × All Bit a.bits.now
 passed q =
-    let b = q.before in
-    let t = b.before.before in
-    let K = known t.before in
-    let l = t.before.before.before in
-    let f = both-fit _ _ _ _ (sym (fits t) ∙ not-false _ b.before.if1.false) in
-    (l.load-kinds.ensures.1 K.is K.loads, K.valid.indices ∙ sym f.1, sym f.0, are-bits _ (sym b.are-bits.ensures ∙ not-false _ q.if2.false))
+    let K = known q.before.before.before.before in
+    let f = both-fit _ _ _ _ (sym (fits q.before.before.before) ∙ not-false _ q.before.before.if-not-both_fit.false) in
+    (q.before.before.before.before.before.before.load_kinds-x.ensures.1 K.is K.loads, K.valid.indices ∙ sym f.1, sym f.0, are-bits _ (sym q.before.are_bits.ensures ∙ not-false _ q.if-not-are_bits.false))
 
 -- the word is filled with u
-filled : (w : tie.After-fill) → let q = w.before.before.before.before in
-    w.fill.new.1.1.1.0 ≡ fill [] (known q.before.before.before.before).is.kinds (start q.before.before.before.before.before.before).args.bits.now
+filled : (w : tie.After-fill) → w.fill.new.1.1.1.0 ≡ fill [] (known w.before.before.before.before.before.before.before.before).is.kinds (start w.before.before.before.before.before.before.before.before.before.before).args.bits.now
 filled w =
     let z = passed w.before.before.before.before in
     w.fill.ensures _ z.0 z.1 z.2
 
-load-kinds-requires : tie.Need-load-kinds-requires
+load-kinds-requires : tie.Need-load_kinds-x-requires
 load-kinds-requires c κs = search rules
 
-enum-known-outcome : tie.Need-enum-known-outcome
+enum-known-outcome : tie.Need-enum_known-outcome
 enum-known-outcome c = search rules
 
-returns : tie.Need-returns
+returns : tie.Need-returns-in-Refused
 returns c =
-    let l = c.before.before.before in
-    let a = (start l).args in
-    let o = c.before.outcome.given in
+    let a = (start c.before.before.before).args in
+    let o = c.before.outcome-1.given in
     told _ a.word.now (encode-number a.book.now a.bits.now a.word.now)
-    (encode-refused a.book.now a.bits.now a.word.now o.0.0 (shape-refused a.book.now l.load-kinds.result o.0.0 l.load-kinds.ensures.0 o.1))
+    (encode-refused a.book.now a.bits.now a.word.now o.0.0 (shape-refused a.book.now c.before.before.before.load_kinds-x.result o.0.0 c.before.before.before.load_kinds-x.ensures.0 o.1))
 
-enum_told : tie.Need-enum-told
+enum_told : tie.Need-enum_told-1
 enum_told c = search rules
 
-both-fit-requires : tie.Need-both-fit-requires
+both-fit-requires : tie.Need-both_fit-requires
 both-fit-requires c κs = search rules
 
-returns-2 : tie.Need-returns-2
+returns-2 : tie.Need-returns-then-not-both_fit
 returns-2 c =
-    let t = c.before in
-    let K = known t.before in
-    let a = (start t.before.before.before).args in
-    told _ a.word.now (encode-number a.book.now a.bits.now a.word.now) (encode-mismatch a.book.now a.bits.now a.word.now K.is K.loads (fits t) (not-true _ c.if1.true))
+    let K = known c.before.before in
+    let a = (start c.before.before.before.before).args in
+    told _ a.word.now (encode-number a.book.now a.bits.now a.word.now) (encode-mismatch a.book.now a.bits.now a.word.now K.is K.loads (fits c.before) (not-true _ c.if-not-both_fit.true))
 
-are-bits-requires : tie.Need-are-bits-requires
+are-bits-requires : tie.Need-are_bits-requires
 are-bits-requires c κs = search rules
 
-returns-3 : tie.Need-returns-3
+returns-3 : tie.Need-returns-then-not-are_bits
 returns-3 c =
-    let b = c.before in
-    let t = b.before.before in
-    let K = known t.before in
-    let a = (start t.before.before.before).args in
+    let K = known c.before.before.before.before in
+    let a = (start c.before.before.before.before.before.before).args in
     told _ a.word.now (encode-number a.book.now a.bits.now a.word.now)
-    (encode-bad a.book.now a.bits.now a.word.now K.is K.loads (fits t) (not-false _ b.before.if1.false) (sym b.are-bits.ensures ∙ not-true _ c.if2.true))
+    (encode-bad a.book.now a.bits.now a.word.now K.is K.loads (fits c.before.before.before) (not-false _ c.before.before.if-not-both_fit.false) (sym c.before.are_bits.ensures ∙ not-true _ c.if-not-are_bits.true))
 
 fill-requires : tie.Need-fill-requires
 fill-requires c κs =
@@ -105,34 +95,26 @@ fill-requires c κs =
 
 transform-requires : tie.Need-transform-requires
 transform-requires c κs =
-    let w = c.before.before.before in
-    let q = w.before.before.before.before in
-    let K = known q.before.before.before.before in
-    let l = q.before.before.before.before.before.before in
-    let f = fill-after [] K.is.kinds (start l).args.bits.now (unfold All in tt) (passed q).3 in
-    let e : length (fill [] K.is.kinds (start l).args.bits.now) ≡ 2 ^ K.is.m = omega (arith, f.size, K.valid.indices) in
-    subst (λ v. (length v ≡ 2 ^ l.load-kinds.result.m) × All Bit v) (sym (filled w)) (e ∙ ap (λ n. 2 ^ n) (sym K.height), f.bits)
+    let K = known c.before.before.before.before.before.before.before.before.before.before.before in
+    let f = fill-after [] K.is.kinds (start c.before.before.before.before.before.before.before.before.before.before.before.before.before).args.bits.now (unfold All in tt) (passed c.before.before.before.before.before.before.before).3 in
+    let e : length (fill [] K.is.kinds (start c.before.before.before.before.before.before.before.before.before.before.before.before.before).args.bits.now) ≡ 2 ^ K.is.m = omega (arith, f.size, K.valid.indices) in
+    subst (λ v. (length v ≡ 2 ^ c.before.before.before.before.before.before.before.before.before.before.before.before.before.load_kinds-x.result.m) × All Bit v) (sym (filled c.before.before.before)) (e ∙ ap (λ n. 2 ^ n) (sym K.height), f.bits)
 
-same_length : tie.Need-same-length
+same_length : tie.Need-shape_of-word
 same_length c = search rules
 
-returns-4 : tie.Need-returns-4
+returns-4 : tie.Need-returns
 unfolding encode
 returns-4 c =
-    let x = c.before.before in
-    let w = x.before.before.before.before in
-    let q = w.before.before.before.before in
-    let b = q.before in
-    let t = b.before.before in
-    let K = known t.before in
-    let a = (start t.before.before.before).args in
-    let e = x.transform.ensures ∙ ap₂ transform K.height (filled w) in
-    told Done x.transform.new.0 (encode-number a.book.now a.bits.now a.word.now)
-    (encode-good a.book.now a.bits.now a.word.now K.is K.loads (fits t) (not-false _ b.before.if1.false) (sym b.are-bits.ensures ∙ not-false _ q.if2.false)
+    let K = known c.before.before.before.before.before.before.before.before.before.before.before.before.before.before in
+    let a = (start c.before.before.before.before.before.before.before.before.before.before.before.before.before.before.before.before).args in
+    let e = c.before.before.transform.ensures ∙ ap₂ transform K.height (filled c.before.before.before.before.before.before) in
+    told Done c.before.before.transform.new.0 (encode-number a.book.now a.bits.now a.word.now)
+    (encode-good a.book.now a.bits.now a.word.now K.is K.loads (fits c.before.before.before.before.before.before.before.before.before.before.before.before.before) (not-false _ c.before.before.before.before.before.before.before.before.before.before.before.before.if-not-both_fit.false) (sym c.before.before.before.before.before.before.before.before.before.before.before.are_bits.ensures ∙ not-false _ c.before.before.before.before.before.before.before.before.before.before.if-not-are_bits.false)
     ∙ ap (λ v. record { outcome = Done; buffer = v }) (sym e))
 
-pub encode-spec : {M : Type 1} → statement M
-encode-spec =
+pub encode_spec : {M : Type 1} → statement M
+encode_spec =
     tie.close
     (tie.spec
     load-kinds-requires

@@ -17,34 +17,32 @@ copy-requires c κs = search rules
 
 transform-requires : tie.Need-transform-requires
 transform-requires c κs =
-    let C = c.before.before.before in
-    let s = C.before.before.before.before in
-    subst (λ l. (length l ≡ 2 ^ s.args.m) × All Bit l) (sym C.copy.ensures) (s.requires.1.1, s.requires.1.2)
+    subst (λ l. (length l ≡ 2 ^ c.before.before.before.before.before.before.before.args.m) × All Bit l) (sym c.before.before.before.copy.ensures) (c.before.before.before.before.before.before.before.requires.1.1, c.before.before.before.before.before.before.before.requires.1.2)
 
 -- u is what the word turns back into
-back : (X : tie.After-transform) → let s = X.before.before.before.before.before.before.before.before in
-    X.transform.new.0 ≡ transform s.args.m s.args.word.now
+back : (X : tie.After-transform) → X.transform.new.0 ≡ transform X.before.before.before.before.before.before.before.before.args.m X.before.before.before.before.before.before.before.before.args.word.now
 back X =
-    let s = X.before.before.before.before.before.before.before.before in
-    X.transform.ensures ∙ ap (transform s.args.m) X.before.before.before.before.copy.ensures
+    X.transform.ensures ∙ ap (transform X.before.before.before.before.before.before.before.before.args.m) X.before.before.before.before.copy.ensures
 
-obeys-all-requires : tie.Need-obeys-all-requires
+obeys-all-requires : tie.Need-obeys_all-requires
 obeys-all-requires c κs =
-    let X = c.before.before.before in
-    let s = X.before.before.before.before.before.before.before.before in
-    let w = s.args.word.now in
-    subst (λ l. Some (λ ks. Tabled ks s.args.kinds.now s.args.terms.now × (length ks ≡ length l)) × All Bit l) (sym (back X))
-    ((s.requires.0.0, (s.requires.0.1.0, s.requires.0.1.1 ∙ s.requires.1.1 ∙ sym (transform-length s.args.m w s.requires.1.1))), transform-bits s.args.m w s.requires.1.2)
+    let w = c.before.before.before.before.before.before.before.before.before.before.args.word.now in
+    subst (λ l. Some (λ ks. Tabled ks c.before.before.before.before.before.before.before.before.before.before.args.kinds.now c.before.before.before.before.before.before.before.before.before.before.args.terms.now × (length ks ≡ length l)) × All Bit l) (sym (back c.before.before))
+    ((c.before.before.before.before.before.before.before.before.before.before.requires.0.0, (c.before.before.before.before.before.before.before.before.before.before.requires.0.1.0, c.before.before.before.before.before.before.before.before.before.before.requires.0.1.1 ∙ c.before.before.before.before.before.before.before.before.before.before.requires.1.1 ∙ sym (transform-length c.before.before.before.before.before.before.before.before.before.before.args.m w c.before.before.before.before.before.before.before.before.before.before.requires.1.1))), transform-bits c.before.before.before.before.before.before.before.before.before.before.args.m w c.before.before.before.before.before.before.before.before.before.before.requires.1.2)
 
-same_length : tie.Need-same-length
+same_length : tie.Need-shape_of-u
 same_length c = search rules
 
 returns : tie.Need-returns
 returns c = λ ks T w.
-    let X = c.before.before.before.before in
-    let s = X.before.before.before.before.before.before.before.before in
-    c.obeys-all.ensures ks T (w ∙ s.requires.1.1 ∙ sym (transform-length s.args.m s.args.word.now s.requires.1.1) ∙ ap length (sym (back X))) ∙ ap (λ l. obeys_all l 0 ks) (back X)
+    c.obeys_all.ensures ks T (w ∙ c.before.before.before.before.before.before.before.before.before.before.before.requires.1.1 ∙ sym (transform-length c.before.before.before.before.before.before.before.before.before.before.before.args.m c.before.before.before.before.before.before.before.before.before.before.before.args.word.now c.before.before.before.before.before.before.before.before.before.before.before.requires.1.1) ∙ ap length (sym (back c.before.before.before))) ∙ ap (λ l. obeys_all l 0 ks) (back c.before.before.before)
 
-pub in-code-spec : {M : Type 1} → statement M
-in-code-spec =
-    tie.close (tie.spec copy-requires transform-requires obeys-all-requires same_length returns)
+pub in_code_spec : {M : Type 1} → statement M
+in_code_spec =
+    tie.close
+    (tie.spec
+    copy-requires
+    transform-requires
+    obeys-all-requires
+    same_length
+    returns)

@@ -12,96 +12,87 @@ use Rattle.coding.proofs.read_record.Statement.{statement}
 use Rattle.coding.proofs.read_record.Tie as tie
 
 -- where the book is loaded, and where the call begins
-abbrev start : tie.After-load → tie.Start
+abbrev start : tie.After-load-x → tie.Start
 start l = l.before.before.before
 
 -- the book that is loaded, and its test of the length
-known : (t : tie.After-enum-told) → let l = t.before.before in
-    Known (start l).args.book.now l.load.result.m l.load.result.n l.load.result.k
+known : (t : tie.In_default) → Known (start t.before.before).args.book.now t.before.before.load-x.result.m t.before.before.load-x.result.n t.before.before.load-x.result.k
 known t =
-    let l = t.before.before in
-    shape-known (start l).args.book.now l.load.result l.load.ensures.0 t.enum_told.given.1
+    shape-known (start t.before.before).args.book.now t.before.before.load-x.result t.before.before.load-x.ensures.0 t.enum_told-1.given.1
 
-fits : (t : tie.After-both-fit) → let k = free_count (known t.before.before).is.kinds in
-    t.both-fit.result ≡ (eqb k 32 && eqb (length (start t.before.before.before.before).args.bits.now) k)
+fits : (t : tie.After-both_fit) → let k = free_count (known t.before.before).is.kinds in
+    t.both_fit.result ≡ (eqb k 32 && eqb (length (start t.before.before.before.before).args.bits.now) k)
 fits t =
-    t.both-fit.ensures ∙ ap (λ k. eqb k 32 && eqb (length (start t.before.before.before.before).args.bits.now) k) (known t.before.before).free
+    t.both_fit.ensures ∙ ap (λ k. eqb k 32 && eqb (length (start t.before.before.before.before).args.bits.now) k) (known t.before.before).free
 
 -- where the test is passed there are 32 bits
-holds : (e : tie.Else1) → length (start e.before.before.before.before.before).args.bits.now ≡ 32
+holds : (e : tie.Else-not-both_fit) → length (start e.before.before.before.before.before).args.bits.now ≡ 32
 holds e =
-    let t = e.before in
-    let k = free_count (known t.before.before).is.kinds in
-    let f = both-fit k 32 _ k (sym (fits t) ∙ not-false _ e.if1.false) in
+    let k = free_count (known e.before.before.before).is.kinds in
+    let f = both-fit k 32 _ k (sym (fits e.before) ∙ not-false _ e.if-not-both_fit.false) in
     f.1 ∙ f.0
 
-load-requires : tie.Need-load-requires
+load-requires : tie.Need-load-x-requires
 load-requires c κs = search rules
 
-enum-known-outcome : tie.Need-enum-known-outcome
+enum-known-outcome : tie.Need-enum_known-outcome
 enum-known-outcome c = search rules
 
-not-read-requires : tie.Need-not-read-requires
+not-read-requires : tie.Need-not_read-requires
 not-read-requires c κs = search rules
 
-cast-both-fit : tie.Need-overflow-cast-both-fit
+cast-both-fit : tie.Need-overflow_cast-x
 cast-both-fit c = search rules
 
-both-fit-requires : tie.Need-both-fit-requires
+both-fit-requires : tie.Need-both_fit-requires
 both-fit-requires c κs = search rules
 
-not-read-requires-2 : tie.Need-not-read-requires-2
+not-read-requires-2 : tie.Need-not_read-requires-then-not-both_fit
 not-read-requires-2 c κs = search rules
 
-are-bits-requires : tie.Need-are-bits-requires
+are-bits-requires : tie.Need-are_bits-requires
 are-bits-requires c κs = search rules
 
-not-read-requires-3 : tie.Need-not-read-requires-3
+not-read-requires-3 : tie.Need-not_read-requires-then-not-are_bits
 not-read-requires-3 c κs = search rules
 
-returns : tie.Need-returns
+returns : tie.Need-returns-in-Refused
 returns c =
-    let l = c.before.before.before.before in
-    let a = (start l).args in
-    let o = c.before.before.outcome.given in
-    record-told a.book.now a.bits.now (c.not-read.ensures ∙ record-refused a.book.now a.bits.now o.0.0 (shape-refused a.book.now l.load.result o.0.0 l.load.ensures.0 o.1))
+    let a = (start c.before.before.before.before).args in
+    let o = c.before.before.outcome-1.given in
+    record-told a.book.now a.bits.now (c.not_read.ensures ∙ record-refused a.book.now a.bits.now o.0.0 (shape-refused a.book.now c.before.before.before.before.load-x.result o.0.0 c.before.before.before.before.load-x.ensures.0 o.1))
 
-enum_told : tie.Need-enum-told
+enum_told : tie.Need-enum_told-1
 enum_told c = search rules
 
-returns-2 : tie.Need-returns-2
+returns-2 : tie.Need-returns-then-not-both_fit
 returns-2 c =
-    let t = c.before.before in
-    let K = known t.before.before in
-    let a = (start t.before.before.before.before).args in
-    record-told a.book.now a.bits.now (c.not-read2.ensures ∙ record-mismatch a.book.now a.bits.now K.is K.loads (fits t) (not-true _ c.before.if1.true))
+    let K = known c.before.before.before.before in
+    let a = (start c.before.before.before.before.before.before).args in
+    record-told a.book.now a.bits.now (c.not_read-then-not-both_fit.ensures ∙ record-mismatch a.book.now a.bits.now K.is K.loads (fits c.before.before) (not-true _ c.before.if-not-both_fit.true))
 
-returns-3 : tie.Need-returns-3
+returns-3 : tie.Need-returns-then-not-are_bits
 returns-3 c =
-    let b = c.before.before in
-    let t = b.before.before in
-    let K = known t.before.before in
-    let a = (start t.before.before.before.before).args in
+    let K = known c.before.before.before.before.before.before in
+    let a = (start c.before.before.before.before.before.before.before.before).args in
     record-told a.book.now a.bits.now
-    (c.not-read3.ensures
-    ∙ record-bad a.book.now a.bits.now K.is K.loads (fits t) (not-false _ b.before.if1.false) (sym b.are-bits.ensures ∙ not-true _ c.before.if2.true))
+    (c.not_read-then-not-are_bits.ensures
+    ∙ record-bad a.book.now a.bits.now K.is K.loads (fits c.before.before.before.before) (not-false _ c.before.before.before.if-not-both_fit.false) (sym c.before.before.are_bits.ensures ∙ not-true _ c.before.if-not-are_bits.true))
 
-record-of-requires : tie.Need-record-of-requires
+record-of-requires : tie.Need-record_of-requires
+
 record-of-requires c κs = (holds c.before.before, are-bits _ (sym c.before.are-bits.ensures ∙ not-false _ c.if2.false))
 
-returns-4 : tie.Need-returns-4
+returns-4 : tie.Need-returns
 returns-4 c =
-    let q = c.before in
-    let b = q.before in
-    let t = b.before.before in
-    let K = known t.before.before in
-    let a = (start t.before.before.before.before).args in
+    let K = known c.before.before.before.before.before.before in
+    let a = (start c.before.before.before.before.before.before.before.before).args in
     record-told a.book.now a.bits.now
     (c.record_of.ensures
-    ∙ record-good a.book.now a.bits.now K.is K.loads (fits t) (not-false _ b.before.if1.false) (sym b.are-bits.ensures ∙ not-false _ q.if2.false))
+    ∙ record-good a.book.now a.bits.now K.is K.loads (fits c.before.before.before.before) (not-false _ c.before.before.before.if-not-both_fit.false) (sym c.before.before.are_bits.ensures ∙ not-false _ c.before.if-not-are_bits.false))
 
-pub read-record-spec : {M : Type 1} → statement M
-read-record-spec =
+pub read_record_spec : {M : Type 1} → statement M
+read_record_spec =
     tie.close
     (tie.spec
     load-requires

@@ -11,67 +11,65 @@ use Rattle.codec.proofs.Turns.{Reading, read-start, read-end, read-room, read-fr
 use Rattle.filling.proofs.free_bits.Statement.{statement}
 use Rattle.filling.proofs.free_bits.Tie as tie
 
-abbrev invariant-loop : tie.invariant-loop
+abbrev invariant-loop : tie.invariant-loop-i
 invariant-loop kinds u bits₀ next₀ i₀ bits next i =
     (i ≤ length u) × (length bits ≡ length bits₀) × ((ks : List Kind) → Coded ks kinds → length ks ≡ length u → free_count ks ≡ length bits₀ → Reading ks u bits i next)
 
-abbrev decreases-loop : tie.decreases-loop
+abbrev decreases-loop : tie.decreases-loop-i
 decreases-loop kinds u bits₀ next₀ i₀ bits next i = length u - i
 
 -- the caller knows of kinds: the table reaches, and there is room for a free bit
-here : (t : tie.At-loop invariant-loop decreases-loop) → t.loop.i < length t.before.args.u.now → t.loop.i < length t.before.requires.0
+here : (t : tie.At-loop-i invariant-loop decreases-loop) → t.loop-i.i < length t.before.args.u.now → t.loop-i.i < length t.before.requires.0
 here t h = omega (arith, t.before.requires.1.1)
 
-inside : (t : tie.At-loop invariant-loop decreases-loop) → t.loop.i < length t.before.args.u.now → t.loop.i < 512
+inside : (t : tie.At-loop-i invariant-loop decreases-loop) → t.loop-i.i < length t.before.args.u.now → t.loop-i.i < 512
 inside t h = omega (arith, here t h, t.before.requires.1.0.size)
 
-room : (t : tie.At-loop invariant-loop decreases-loop) → t.loop.i < length t.before.args.u.now → get_or t.before.args.kinds.now t.loop.i 0 ≡ 0 → t.loop.next < length t.loop.bits
+room : (t : tie.At-loop-i invariant-loop decreases-loop) → t.loop-i.i < length t.before.args.u.now → get_or t.before.args.kinds.now t.loop-i.i 0 ≡ 0 → t.loop-i.next < length t.loop-i.bits
 room t h z =
     let w = t.before.requires in
-    read-room w.1.0 (t.loop.invariant.2 w.0 w.1.0 w.1.1 w.1.2) (here t h) w.1.1 z
+    read-room w.1.0 (t.loop-i.invariant.2 w.0 w.1.0 w.1.1 w.1.2) (here t h) w.1.1 z
 
-loop-holds : tie.Need-loop-init invariant-loop decreases-loop
+loop-holds : tie.Need-loop-i-init invariant-loop decreases-loop
 loop-holds c = (omega arith, refl, λ ks C w f. read-start ks c.args.u.now c.args.bits.now f)
 
-element-copy-out-if1 : tie.Need-element-copy-out-if1 invariant-loop decreases-loop
-element-copy-out-if1 c = inside c.before c.loop-test.true
+element-copy-out-if1 : tie.Need-bounds-kinds-i invariant-loop decreases-loop
+element-copy-out-if1 c = inside c.before.before c.before.loop-i-test.true
 
-shared-slice-read-bits : tie.Need-shared-slice-read-bits invariant-loop decreases-loop
+shared-slice-read-bits : tie.Need-bounds-u-i invariant-loop decreases-loop
 shared-slice-read-bits c = omega arith
 
-slice-write-bits : tie.Need-slice-write-bits invariant-loop decreases-loop
-slice-write-bits c = room c.before.before.before.before c.before.before.before.loop-test.true c.before.if1.true
+slice-write-bits : tie.Need-bounds-bits-next invariant-loop decreases-loop
+slice-write-bits c = room c.before.before.before.before.before c.before.before.before.before.loop-i-test.true c.before.if-kinds-i-eq0.true
 
-add-next : tie.Need-overflow-add-next invariant-loop decreases-loop
-add-next c = let r = room c.before.before.before.before c.before.before.before.loop-test.true c.before.if1.true in omega (arith, c.before.before.before.before.loop.invariant.1)
+add-next : tie.Need-overflow_add-next invariant-loop decreases-loop
+add-next c = let r = room c.before.before.before.before.before c.before.before.before.before.loop-i-test.true c.before.if-kinds-i-eq0.true in omega (arith, c.before.before.before.before.before.loop-i.invariant.1)
 
-add-i : tie.Need-overflow-add-i invariant-loop decreases-loop
+add-i : tie.Need-overflow_add-i invariant-loop decreases-loop
 add-i c = omega arith
 
-loop-less : tie.Need-loop-smaller invariant-loop decreases-loop
+loop-less : tie.Need-loop-i-smaller invariant-loop decreases-loop
 loop-less c = omega arith
 
-loop-again : tie.Need-loop-preserved invariant-loop decreases-loop
+loop-again : tie.Need-loop-i-preserved invariant-loop decreases-loop
 loop-again c =
-    let t = c.before.before.before in
-    let s = t.before in
-    let x = t.loop in (
+    let x = c.before.before.before.before.loop-i in (
       omega arith,
-      ⊎_elim (λ v. ap length v.2 ∙ length-set x.bits x.next _ ∙ x.invariant.1) (λ v. ap length v.1 ∙ x.invariant.1) c.if1.branch,
+      ⊎_elim (λ v. ap length v.2 ∙ length-set x.bits x.next _ ∙ x.invariant.1) (λ v. ap length v.1 ∙ x.invariant.1) c.if-kinds-i-eq0.branch,
       λ ks C w f.
           let R = x.invariant.2 ks C w f in
           let h : x.i < length ks = omega arith in
-          ⊎_elim (λ v. rw (v.2, v.3) (read-free C R h w v.0.taken)) (λ v. rw (v.1, v.2) (read-other C R h w v.0.left)) c.if1.branch,
+          ⊎_elim (λ v. rw (v.2, v.3) (read-free C R h w v.0.taken)) (λ v. rw (v.1, v.2) (read-other C R h w v.0.left)) c.if-kinds-i-eq0.branch,
     )
 
-same_length : tie.Need-same-length invariant-loop decreases-loop
-same_length c = c.before.loop.invariant.1
+same_length : tie.Need-shape_of-bits invariant-loop decreases-loop
+same_length c = c.before.loop-i.invariant.1
 
 returns : tie.Need-returns invariant-loop decreases-loop
-returns c = λ ks C w f. read-end (c.before.loop.invariant.2 ks C w f) (omega arith)
+returns c = λ ks C w f. read-end (c.before.loop-i.invariant.2 ks C w f) (omega arith)
 
-pub free-bits-spec : {M : Type 1} → statement M
-free-bits-spec =
+pub free_bits_spec : {M : Type 1} → statement M
+free_bits_spec =
     tie.close
     (tie.spec
     invariant-loop

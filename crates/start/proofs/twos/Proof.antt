@@ -22,10 +22,10 @@ most t h b x = go (lt-or 9 h)
 odd : (c : tie.Start) → OddTimes c.args.t (count_trailing_zeros 32 c.args.t)
 odd c = odd-times 32 c.args.t c.requires.0 (omega (arith, c.requires.1))
 
-cast-result : tie.Need-overflow-cast-result
+cast-result : tie.Need-overflow_cast-result
 cast-result c = omega (arith, c.requires.1)
 
-cast-result-2 : tie.Need-overflow-cast-result-2
+cast-result-2 : tie.Need-overflow_cast-result-2
 cast-result-2 c = omega (arith, most c.args.t (count_trailing_zeros 32 c.args.t) c.requires.1 (odd c))
 
 returns : tie.Need-returns
@@ -35,5 +35,10 @@ returns c =
       λ m a b. sym (turn_odd (suc m) (count_trailing_zeros 32 c.args.t) x.left c.args.t x.times x.odd (omega (arith, two-pow-succ m, pow_pos m))),
     )
 
-pub twos-spec : {M : Type 1} → statement M
-twos-spec = tie.close (tie.spec cast-result cast-result-2 returns)
+pub twos_spec : {M : Type 1} → statement M
+twos_spec =
+    tie.close
+    (tie.spec
+    cast-result
+    cast-result-2
+    returns)

@@ -19,51 +19,49 @@ more-abs : (z : ℤ) → SFits w32 z → T (not (non_neg z)) → nat_abs (z +ℤ
 more-abs (pos n) f t = absurd t
 more-abs (negsuc n) f t = cond-case (λ (z : ℤ). nat_abs z < 2147483648) (ltb 1 (suc n)) (λ t. omega (arith, ltb→lt 1 (suc n) t, f.sfits)) (λ t. omega arith)
 
-more : (c : tie.Then1) → nat_abs (back c.before.args.x +ℤ pos 1) < 2147483648
-more c = rw (to_z-of_z c.before.ranges.x) (more-abs c.before.args.x c.before.ranges.x (is_below c.before.ranges.x c.if1.true))
+more : (c : tie.Then-x-lt0) → nat_abs (back c.before.args.x +ℤ pos 1) < 2147483648
+more c = rw (to_z-of_z c.before.ranges.x) (more-abs c.before.args.x c.before.ranges.x (is_below c.before.ranges.x c.if-x-lt0.true))
 
-slice-aggregate-print-words : tie.Need-slice-aggregate-print-words
-slice-aggregate-print-words c = search rules
+-- no goal any more: slice-aggregate-print-words
 
-print-words-requires : tie.Need-print-words-requires
+print-words-requires : tie.Need-print_words-requires
 print-words-requires c κs = search rules
 
-add-magnitude : tie.Need-overflow-add-magnitude
-add-magnitude c = abs-fits _ (more c.before.before)
+add-magnitude : tie.Need-overflow_add-x
+add-magnitude c = abs-fits _ (more c.before.before.before)
 
 magnitude-requires : tie.Need-magnitude-requires
-magnitude-requires c κs = rw (to_z-of_z (abs-fits _ (more c.before.before))) (more c.before.before)
+magnitude-requires c κs = rw (to_z-of_z (abs-fits _ (more c.before.before.before))) (more c.before.before.before)
 
-cast-print-number : tie.Need-overflow-cast-print-number
+cast-print-number : tie.Need-overflow_cast-magnitude
 cast-print-number c = search rules
 
-add-print-number : tie.Need-overflow-add-print-number
+add-print-number : tie.Need-overflow_add-magnitude
 add-print-number c = search rules
 
-print-number-requires : tie.Need-print-number-requires
+print-number-requires : tie.Need-print_number-requires
 print-number-requires c κs = search rules
 
-magnitude-requires-2 : tie.Need-magnitude-requires-2
+magnitude-requires-2 : tie.Need-magnitude-requires-else-x-lt0
 magnitude-requires-2 c κs =
-    rw (to_z-of_z c.before.ranges.x) (fits-abs c.before.args.x c.before.ranges.x (not-below c.before.ranges.x c.if1.false))
+    rw (to_z-of_z c.before.ranges.x) (fits-abs c.before.args.x c.before.ranges.x (not-below c.before.ranges.x c.if-x-lt0.false))
 
-cast-print-number-2 : tie.Need-overflow-cast-print-number-2
+cast-print-number-2 : tie.Need-overflow_cast-magnitude-else-x-lt0
 cast-print-number-2 c = search rules
 
-print-number-requires-2 : tie.Need-print-number-requires-2
+print-number-requires-2 : tie.Need-print_number-requires-else-x-lt0
 print-number-requires-2 c κs = search rules
 
-returns : tie.Need-returns
+returns : tie.Need-returns-then-x-lt0
 returns c = search rules
 
-returns-2 : tie.Need-returns-2
+returns-2 : tie.Need-returns-else-x-lt0
 returns-2 c = search rules
 
-pub print-signed-spec : {M : Type 1} → statement M
-print-signed-spec =
+pub print_signed_spec : {M : Type 1} → statement M
+print_signed_spec =
     tie.close
     (tie.spec
-    slice-aggregate-print-words
     print-words-requires
     add-magnitude
     magnitude-requires

@@ -15,13 +15,13 @@ use Rattle.words.proofs.score.Tie as tie
 abbrev total : tie.Start → ℤ
 total c = pos (c.args.spent + c.args.cost)
 
-add-result : tie.Need-overflow-add-result
+add-result : tie.Need-overflow_add-result
 add-result c = search rules
 
-cast-result : tie.Need-overflow-cast-result
+cast-result : tie.Need-overflow_cast-result
 cast-result c = abs-fits (total c) (omega arith)
 
-sub-result : tie.Need-overflow-sub-result
+sub-result : tie.Need-overflow_sub-result
 sub-result c = neg-fits (cast-result c) (omega arith)
 
 -- its negative, as the code has it
@@ -36,8 +36,15 @@ returns c =
     let e = sub_is (sub-result c) c.ranges.bias (low c) ∙ ap (λ z. z -ℤ c.args.bias) (negative c) in
     (e, omega (arith, ap nat_abs e, add-abs (neg_ℤ (total c)) (neg_ℤ c.args.bias), neg-abs (total c), neg-abs c.args.bias))
 
-sub-result-2 : tie.Need-overflow-sub-result-2
+sub-result-2 : tie.Need-overflow_sub-result-2
 sub-result-2 c = sub-fits (sub-result c) c.ranges.bias (low c)
 
-pub score-spec : {M : Type 1} → statement M
-score-spec = tie.close (tie.spec add-result cast-result sub-result sub-result-2 returns)
+pub score_spec : {M : Type 1} → statement M
+score_spec =
+    tie.close
+    (tie.spec
+    add-result
+    cast-result
+    sub-result
+    sub-result-2
+    returns)

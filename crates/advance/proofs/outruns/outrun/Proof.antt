@@ -17,19 +17,19 @@ use Rattle.advance.proofs.Losses.{stands-numbers, outruns}
 use Rattle.advance.proofs.outruns.outrun.Statement.{statement}
 use Rattle.advance.proofs.outruns.outrun.Tie as tie
 
-mul-seen : tie.Need-overflow-mul-seen
+mul-seen : tie.Need-offset_bounds-visits-b
 mul-seen c = search rules
 
-element-copy-out-seen : tie.Need-element-copy-out-seen
+element-copy-out-seen : tie.Need-bounds-visits-b
 element-copy-out-seen c = search rules
 
-add-seen : tie.Need-overflow-add-seen
+add-seen : tie.Need-overflow_add-seen
 add-seen c = search rules
 
-mul-visits : tie.Need-overflow-mul-visits
+mul-visits : tie.Need-offset_bounds-visits-b-2
 mul-visits c = search rules
 
-element-write-visits : tie.Need-element-write-visits
+element-write-visits : tie.Need-bounds-visits-b-2
 element-write-visits c = search rules
 
 -- one visit more is counted
@@ -37,69 +37,67 @@ visited : (t : tie.Start) → set t.args.visits.now t.args.b (get_or t.args.visi
 unfolding visit
 visited t = rw add-one
 
-returns : tie.Need-returns
+returns : tie.Need-returns-then-seen-s
 returns c =
-    let t = c.before.before.before.before in
-    let a = t.args in
-    let s = t.requires.0 in
+    let a = c.before.before.before.before.before.args in
+    let s = c.before.before.before.before.before.requires.0 in
     let seen = visit-same a.visits.now a.b (omega arith) in
     let entries = queue_of a.order.now a.t.queued in (
       (
         s.1,
         s.2,
         s.3,
-        visited t,
+        visited c.before.before.before.before.before,
         refl,
         refl,
         refl,
         omega arith,
-        sym (stay_all key_at a.s.visits a.b (visit a.visits.now a.b) entries (omega (arith, seen, c.if1.true))).0,
+        sym (stay_all key_at a.s.visits a.b (visit a.visits.now a.b) entries (omega (arith, seen, c.if-seen-s.true))).0,
       ),
       (
         λ arrays values bytes x small.
             let q = x.queued in
-            let stay = stay_all (key_of q.book) a.s.visits a.b (visit a.visits.now a.b) q.paths (omega (arith, seen, c.if1.true)) in
+            let stay = stay_all (key_of q.book) a.s.visits a.b (visit a.visits.now a.b) q.paths (omega (arith, seen, c.if-seen-s.true)) in
             let level : a.t.queued ≡ length q.paths = omega (arith, stands-length q.stands, queue-length a.t.queued a.order.now) in
             (rw stay.0 level, rw stay.1 (omega arith), rw stay.0 q.stands, outruns x entries (stands-numbers q.stands ∙ ap (numbers (key_of q.book)) (sym stay.0))),
-        t.requires.1.1.1,
+        c.before.before.before.before.before.requires.1.1.1,
       ),
     )
 
-cast-paths : tie.Need-overflow-cast-paths
+cast-paths : tie.Need-overflow_cast-paths
 cast-paths c = search rules
 
-cast-dismiss : tie.Need-overflow-cast-dismiss
+cast-dismiss : tie.Need-overflow_cast-b
 cast-dismiss c = search rules
 
-dismiss-requires : tie.Need-dismiss-requires
+dismiss-requires : tie.Need-dismiss-gone-requires
 dismiss-requires c κs = search rules
 
-cast-sift : tie.Need-overflow-cast-sift
+cast-sift : tie.Need-overflow_cast-b-2
 cast-sift c = search rules
 
-sift-requires : tie.Need-sift-requires
+sift-requires : tie.Need-sift-left-requires
 sift-requires c κs = search rules
 
-cast-t18 : tie.Need-overflow-cast-t18
+cast-t18 : tie.Need-overflow_cast-result
 cast-t18 c = search rules
 
-add-t26 : tie.Need-overflow-add-t26
+add-t26 : tie.Need-overflow_add-result
 add-t26 c = search rules
 
-returns-2 : tie.Need-returns-2
+returns-2 : tie.Need-returns
 returns-2 c =
-    let t = c.before.before.before.before.before.before.before.before.before.before.before.before in
-    let a = t.args in
-    let gone = c.before.before.before.dismiss in
-    let left = c.before.sift in
+    let a = c.before.before.before.before.before.before.before.before.before.before.before.before.args in
+    let gone = c.before.before.before.dismiss-gone in
+    let left = c.before.sift-left in
     let seen = visit-same a.visits.now a.b (omega arith) in
-    let lth : get_or (visit a.visits.now a.b) a.b 0 ≡ a.s.visits = omega (arith, seen, c.before.before.before.before.before.before.before.before.if1.false) in
+    let lth : get_or (visit a.visits.now a.b) a.b 0 ≡ a.s.visits = omega (arith, seen, c.before.before.before.before.before.before.before.if-seen-s.false) in
     let entries = queue_of a.order.now a.t.queued in (
       (
         gone.ensures.0.0,
         left.ensures.0.0,
         gone.ensures.0.1,
-        visited t,
+        visited c.before.before.before.before.before.before.before.before.before.before.before.before,
         refl,
         refl,
         refl,
@@ -124,12 +122,12 @@ returns-2 c =
               rw (stay.0, slots, left.ensures.0.2) w.1,
               outruns x _ (same ∙ ap (numbers (key_of q.book)) (sym stay.0)),
             ),
-        left.ensures.1 t.requires.1.1.1,
+        left.ensures.1 c.before.before.before.before.before.before.before.before.before.before.before.before.requires.1.1.1,
       ),
     )
 
-pub outrun-spec : {M : Type 1} → statement M
-outrun-spec =
+pub outrun_spec : {M : Type 1} → statement M
+outrun_spec =
     tie.close
     (tie.spec
     mul-seen

@@ -18,7 +18,7 @@ use Rattle.advance.proofs.Onward.{away, reached, next-heights, first-viewed, fir
 use Rattle.advance.proofs.values.calculate.Statement.{statement}
 use Rattle.advance.proofs.values.calculate.Tie as tie
 
-slot-of-requires : tie.Need-slot-of-requires
+slot-of-requires : tie.Need-slot_of-slot-requires
 slot-of-requires c κs = search rules
 
 -- the memory at the call, and a path in hand there
@@ -35,120 +35,111 @@ hand-row s q z =
     let low = slot-low s.requires.1.2.hand.stands in
     (omega (arith, low, s.requires.0.few), omega (arith, low, s.requires.0.rows))
 
-go-down-requires : tie.Need-go-down-requires
+go-down-requires : tie.Need-go_down-requires
 go-down-requires c κs =
-    let t = c.before.before.before.before in
-    let s = t.before.before.before.before.before in
-    let r = t.before.before.slot_of.ensures in
-    let h = s.requires.1.2 in
-    ((s.requires.0.has, hand-row s r.0 refl, (next-heights h r.0).0, omega arith), first-viewed h r.0 t.if1.true s.requires.0.enough)
+    let r = c.before.before.before.before.before.slot_of-slot.ensures in
+    let h = c.before.before.before.before.before.before.before.before.requires.1.2 in
+    ((c.before.before.before.before.before.before.before.before.requires.0.has, hand-row c.before.before.before.before.before.before.before.before r.0 refl, (next-heights h r.0).0, omega arith), first-viewed h r.0 c.before.before.before.if-at-eq0.true c.before.before.before.before.before.before.before.before.requires.0.enough)
 
-word-of-requires : tie.Need-word-of-requires
-word-of-requires c κs = hand-row c.before.before.before.before.before.before c.before.before.before.slot_of.ensures.0 refl
+word-of-requires : tie.Need-word_of-word-requires
+word-of-requires c κs = hand-row c.before.before.before.before.before c.before.before.slot_of-slot.ensures.0 refl
 
 commit-requires : tie.Need-commit-requires
 commit-requires c κs =
-    let t = c.before.before.before.before.before.before in
-    let s = t.before.before.before.before.before in
-    let r = t.before.before.slot_of.ensures in
-    let h = s.requires.1.2 in
-    let l = later-heights h r.0 t.if1.false in
-    ((s.requires.0.has, hand-row s r.0 refl, l.0, omega arith), own-viewed h.hand s.requires.0.enough r.0 h.valid (later-own h r.0 t.if1.false))
+    let r = c.before.before.before.before.before.before.slot_of-slot.ensures in
+    let h = c.before.before.before.before.before.before.before.before.before.requires.1.2 in
+    let l = later-heights h r.0 c.before.before.before.before.if-at-eq0.false in
+    ((c.before.before.before.before.before.before.before.before.before.requires.0.has, hand-row c.before.before.before.before.before.before.before.before.before r.0 refl, l.0, omega arith), own-viewed h.hand c.before.before.before.before.before.before.before.before.before.requires.0.enough r.0 h.valid (later-own h r.0 c.before.before.before.before.if-at-eq0.false))
 
 -- the way to a later block: where it began, and the last word in the sums
 abbrev start : tie.After-commit → tie.Start
-start u = u.before.before.before.before.before.before.before.before.before.before.before.before
+start u = u.before.before.before.before.before.before.before.before.before.before
 
-abbrev chosen : tie.After-commit → tie.After-slot-of
-chosen u = u.before.before.before.before.before.before.before.before.before
+abbrev chosen : tie.After-commit → tie.After-slot_of-slot
+chosen u = u.before.before.before.before.before.before.before
 
-abbrev left : tie.After-commit → tie.Else1
-left u = u.before.before.before.before.before.before.before
+abbrev left : tie.After-commit → tie.Else-at-eq0
+left u = u.before.before.before.before.before
 
 abbrev summed : tie.After-commit → Memory
 summed u = memory u.commit.new.0 u.commit.new.1.0 (start u).args.numbers.now u.commit.new.1.1.1.0
 
 sum-seen : (u : tie.After-commit) {es vs : List ℕ} (c : Hand (start u) es vs) →
-    Seen (start u).args.m (start u).args.arrays (chosen u).slot_of.result (summed u) (away c.hand) (committed c.hand)
+    Seen (start u).args.m (start u).args.arrays (chosen u).slot_of-slot.result (summed u) (away c.hand) (committed c.hand)
 unfolding memory
 sum-seen u c =
-    let r = (chosen u).slot_of.ensures.0 in
-    commit-seen c.hand (start u).requires.0.enough r c.valid (later-own c r (left u).if1.false) (summed u) _ u.before.before.before.before.before.word_of.ensures u.commit.ensures.1
+    let r = (chosen u).slot_of-slot.ensures.0 in
+    commit-seen c.hand (start u).requires.0.enough r c.valid (later-own c r (left u).if-at-eq0.false) (summed u) _ u.before.before.before.before.word_of-word.ensures u.commit.ensures.1
 
-turn-over-requires : tie.Need-turn-over-requires
+turn-over-requires : tie.Need-turn_over-requires
 turn-over-requires c κs =
-    let u = c.before.before.before.before.before.before.before.before in
-    let r = (chosen u).slot_of.ensures in
-    let h = (start u).requires.1.2 in
-    let n = (left u).if1.false in (
-      (u.commit.ensures.0.0, hand-row (start u) r.0 u.commit.ensures.0.1.size, (later-heights h r.0 n).1),
-      record { others = away h.hand; view = committed h.hand; seen = sum-seen u h; met = committed-turning h r.0 n },
+    let r = (chosen c.before.before.before.before.before.before.before).slot_of-slot.ensures in
+    let h = (start c.before.before.before.before.before.before.before).requires.1.2 in
+    let n = (left c.before.before.before.before.before.before.before).if-at-eq0.false in (
+      (c.before.before.before.before.before.before.before.commit.ensures.0.0, hand-row (start c.before.before.before.before.before.before.before) r.0 c.before.before.before.before.before.before.before.commit.ensures.0.1.size, (later-heights h r.0 n).1),
+      record { others = away h.hand; view = committed h.hand; seen = sum-seen c.before.before.before.before.before.before.before h; met = committed-turning h r.0 n },
     )
 
 -- and the values are turned
-abbrev sums : tie.After-turn-over → tie.After-commit
-sums t = t.before.before.before.before.before.before.before.before.before
+abbrev sums : tie.After-turn_over → tie.After-commit
+sums t = t.before.before.before.before.before.before.before.before
 
-abbrev turned : tie.After-turn-over → Memory
-turned t = memory t.turn-over.new.0 t.turn-over.new.1.0 t.turn-over.new.1.1.0 (sums t).commit.new.1.1.1.0
+abbrev turned : tie.After-turn_over → Memory
+turned t = memory t.turn_over.new.0 t.turn_over.new.1.0 t.turn_over.new.1.1.0 (sums t).commit.new.1.1.1.0
 
-turn-seen : (t : tie.After-turn-over) {es vs : List ℕ} (c : Hand (start (sums t)) es vs) →
+turn-seen : (t : tie.After-turn_over) {es vs : List ℕ} (c : Hand (start (sums t)) es vs) →
     let a = (start (sums t)).args in
-    Seen a.m a.arrays (chosen (sums t)).slot_of.result (turned t) (away c.hand) (by_p (away c.hand) a.last.place (committed c.hand))
+    Seen a.m a.arrays (chosen (sums t)).slot_of-slot.result (turned t) (away c.hand) (by_p (away c.hand) a.last.place (committed c.hand))
 unfolding StepSeen
 turn-seen t c =
     let u = sums t in
-    t.turn-over.ensures.1 (away c.hand) (committed c.hand) (sum-seen u c) (committed-turning c (chosen u).slot_of.ensures.0 (left u).if1.left)
+    t.turn_over.ensures.1 (away c.hand) (committed c.hand) (sum-seen u c) (committed-turning c (chosen u).slot_of-slot.ensures.0 (left u).if-at-eq0.left)
 
-go-down-requires-2 : tie.Need-go-down-requires-2
+go-down-requires-2 : tie.Need-go_down-requires-else-at-eq0
 go-down-requires-2 c κs =
-    let t = c.before.before.before.before.before.before.before in
-    let u = sums t in
-    let r = (chosen u).slot_of.ensures in
-    let h = (start u).pre.1.2 in
-    let n = (left u).if1.left in
+    let u = sums c.before.before.before.before.before.before in
+    let r = (chosen u).slot_of-slot.ensures in
+    let h = (start u).requires.1.2 in
+    let n = (left u).if-at-eq0.left in
     let l = later-heights h r.0 n in (
-      (t.turn-over.ensures.0.0, hand-row (start u) r.0 (t.turn-over.ensures.0.1.size ∙ u.commit.ensures.0.1.size), l.2, omega arith),
+      (c.before.before.before.before.before.before.turn_over.ensures.0.0, hand-row (start u) r.0 (c.before.before.before.before.before.before.turn_over.ensures.0.1.size ∙ u.commit.ensures.0.1.size), l.2, omega arith),
       record {
         others = away h.hand;
         view = by_p (away h.hand) (start u).args.last.place (committed h.hand);
-        seen = turn-seen t h;
+        seen = turn-seen c.before.before.before.before.before.before h;
         met = turned-upper h r.0 n;
       },
     )
 
 -- by either way, the path is at its next block: first for each way at its end, then where the ways meet
-gone-first : (t : tie.After-go-down) →
-    let s = t.before.before.before.before.before.before.before.before.before.before in
-    Gone s.args.m s.args.paths s.args.arrays s.args.e t.before.before.before.before.before.before.before.slot_of.result s.args.last s.args.at (old s)
-    (memory t.go-down.new.0 t.go-down.new.1.0 t.go-down.new.1.1.0 s.args.bytes.now)
+gone-first : (t : tie.After-go_down) →
+    Gone t.before.before.before.before.before.before.before.before.before.args.m t.before.before.before.before.before.before.before.before.before.args.paths t.before.before.before.before.before.before.before.before.before.args.arrays t.before.before.before.before.before.before.before.before.before.args.e t.before.before.before.before.before.before.slot_of-slot.result t.before.before.before.before.before.before.before.before.before.args.last t.before.before.before.before.before.before.before.before.before.args.at (old t.before.before.before.before.before.before.before.before.before)
+    (memory t.go_down.new.0 t.go_down.new.1.0 t.go_down.new.1.1.0 t.before.before.before.before.before.before.before.before.before.args.bytes.now)
 unfolding memory
 gone-first t =
-    let f = t.go-down.ensures in
-    let i = t.before.before.before.before.before.if1.true in
-    let r = t.before.before.before.before.before.before.before.slot_of.ensures in
-    record { has = f.0.0; only = f.0.1; seen = λ c. first-seen c r.0 i t.before.before.before.before.before.before.before.before.before.before.requires.0.enough _ f.1 }
+    let f = t.go_down.ensures in
+    let i = t.before.before.before.before.if-at-eq0.true in
+    let r = t.before.before.before.before.before.before.slot_of-slot.ensures in
+    record { has = f.0.0; only = f.0.1; seen = λ c. first-seen c r.0 i t.before.before.before.before.before.before.before.before.before.requires.0.enough _ f.1 }
 
-gone-later : (t : tie.After-go-down2) →
-    let u = sums t.before.before.before.before.before.before.before.before in
+gone-later : (t : tie.After-go_down-else-at-eq0) →
+    let u = sums t.before.before.before.before.before.before.before in
     let s = start u in
-    Gone s.args.m s.args.paths s.args.arrays s.args.e (chosen u).slot_of.result s.args.last s.args.at (old s)
-    (memory t.go-down2.new.0 t.go-down2.new.1.0 t.go-down2.new.1.1.0 u.commit.last.1.1.1.0)
+    Gone s.args.m s.args.paths s.args.arrays s.args.e (chosen u).slot_of-slot.result s.args.last s.args.at (old s)
+    (memory t.go_down-else-at-eq0.new.0 t.go_down-else-at-eq0.new.1.0 t.go_down-else-at-eq0.new.1.1.0 u.commit.last.1.1.1.0)
 unfolding memory
 gone-later t =
-    let q = t.before.before.before.before.before.before.before.before in
-    let u = sums q in
-    let f = t.go-down2.ensures in
+    let u = sums t.before.before.before.before.before.before.before in
+    let f = t.go_down-else-at-eq0.ensures in
     record {
       has = f.0.0;
-      only = ids-on (start u).args.rows.now q.turn-over.new.0 (ids-on (start u).args.rows.now u.commit.last.0 u.commit.ensures.0.1 q.turn-over.ensures.0.1) f.0.1;
-      seen = λ c. down-seen c (chosen u).slot_of.ensures.0 (left u).if1.left (turned q) _ (turn-seen q c) f.1;
+      only = ids-on (start u).args.rows.now t.before.before.before.before.before.before.before.turn_over.new.0 (ids-on (start u).args.rows.now u.commit.last.0 u.commit.ensures.0.1 t.before.before.before.before.before.before.before.turn_over.ensures.0.1) f.0.1;
+      seen = λ c. down-seen c (chosen u).slot_of-slot.ensures.0 (left u).if-at-eq0.left (turned t.before.before.before.before.before.before.before) _ (turn-seen t.before.before.before.before.before.before.before c) f.1;
     }
 
-gone : (c : tie.Joined1) →
-    let s = c.before.before.before.before.before in
-    Gone s.args.m s.args.paths s.args.arrays s.args.e c.before.before.slot_of.result s.args.last s.args.at (old s)
-    (memory c.if1.rows c.if1.holders c.if1.numbers c.if1.bytes)
+gone : (c : tie.Joined-at-eq0) →
+    Gone c.before.before.before.before.before.args.m c.before.before.before.before.before.args.paths c.before.before.before.before.before.args.arrays c.before.before.before.before.before.args.e c.before.before.slot_of-slot.result c.before.before.before.before.before.args.last c.before.before.before.before.before.args.at (old c.before.before.before.before.before)
+    (memory c.if-at-eq0.rows c.if-at-eq0.holders c.if-at-eq0.numbers c.if-at-eq0.bytes)
 unfolding memory
 gone c =
     ⊎_elim
@@ -187,45 +178,52 @@ gone c =
     let a23 : tie.After-go-down-arg8 = record { before = a22; go-down-arg8 = w.23 } in
     let a24 : tie.After-go-down2 = record { before = a23; go-down2 = w.24 } in
     rw (w.28, w.29, w.30, w.31) (gone-later a24))
-    c.if1.branch
+    c.if-at-eq0.branch
 
 -- an array for the block's word
 claim-requires : tie.Need-claim-requires
 unfolding memory
 claim-requires c κs =
-    let j = c.before.before.before.before in
-    let s = j.before.before.before.before.before in
-    let r = j.before.before.slot_of.ensures in
-    let h = s.requires.1.2 in (
-      ((gone j).has, hand-row s r.0 (gone j).only.size, (next-heights h r.0).1),
-      record { others = away h.hand; view = reached h.hand; seen = (gone j).seen h; met = reached-claimable h r.0 },
+    let r = c.before.before.before.before.before.slot_of-slot.ensures in
+    let h = c.before.before.before.before.before.before.before.before.requires.1.2 in (
+      ((gone c.before.before.before).has, hand-row c.before.before.before.before.before.before.before.before r.0 (gone c.before.before.before).only.size, (next-heights h r.0).1),
+      record { others = away h.hand; view = reached h.hand; seen = (gone c.before.before.before).seen h; met = reached-claimable h r.0 },
     )
 
-same_length : tie.Need-same-length
+same_length : tie.Need-shape_of-rows
 same_length c =
-    ⊎_elim (λ w. omega (arith, ap length w.9, w.6.given)) (λ w. omega (arith, ap length w.28, w.25.given, w.17.given, w.8.given)) c.before.before.before.before.before.before.before.before.if1.branch
+    ⊎_elim (λ w. omega (arith, ap length w.9, w.6.given)) (λ w. omega (arith, ap length w.28, w.25.given, w.17.given, w.8.given)) c.before.before.before.before.before.before.before.if-at-eq0.branch
 
-same-length-2 : tie.Need-same-length-2
+same-length-2 : tie.Need-shape_of-numbers
 same-length-2 c =
-    ⊎_elim (λ w. omega (arith, ap length w.11, w.8.given)) (λ w. omega (arith, ap length w.30, w.27.given, w.19.given)) c.before.before.before.before.before.before.before.before.if1.branch
+    ⊎_elim (λ w. omega (arith, ap length w.11, w.8.given)) (λ w. omega (arith, ap length w.30, w.27.given, w.19.given)) c.before.before.before.before.before.before.before.if-at-eq0.branch
 
-same-length-3 : tie.Need-same-length-3
+same-length-3 : tie.Need-shape_of-bytes
 same-length-3 c =
-    ⊎_elim (λ w. omega (arith, ap length w.12)) (λ w. omega (arith, ap length w.31, w.10.given)) c.before.before.before.before.before.before.before.before.if1.branch
+    ⊎_elim (λ w. omega (arith, ap length w.12)) (λ w. omega (arith, ap length w.31, w.10.given)) c.before.before.before.before.before.before.before.if-at-eq0.branch
 
 returns : tie.Need-returns
 unfolding memory
 returns c =
     let f = c.before.before.before.claim in
-    let j = c.before.before.before.before.before.before.before.before in
-    let s = j.before.before.before.before.before in
-    let r = j.before.before.slot_of.ensures in
-    let only = ids-on s.args.rows.now j.if1.rows (gone j).only f.ensures.0.1 in (
-      (record { few = s.requires.0.few; rows = omega (arith, s.requires.0.rows, only.size); has = f.ensures.0.0; enough = s.requires.0.enough }, subst (λ (k : ℕ). IdsOnly s.args.m k s.args.rows.now f.new.0) r.0 only),
-      λ es vs h. claimed-stands h r.0 _ _ s.requires.0.has.deep ((gone j).seen h) f.ensures.1 only,
+    let r = c.before.before.before.before.before.before.before.before.before.slot_of-slot.ensures in
+    let only = ids-on c.before.before.before.before.before.before.before.before.before.before.before.before.args.rows.now c.before.before.before.before.before.before.before.if-at-eq0.rows (gone c.before.before.before.before.before.before.before).only f.ensures.0.1 in (
+      (record { few = c.before.before.before.before.before.before.before.before.before.before.before.before.requires.0.few; rows = omega (arith, c.before.before.before.before.before.before.before.before.before.before.before.before.requires.0.rows, only.size); has = f.ensures.0.0; enough = c.before.before.before.before.before.before.before.before.before.before.before.before.requires.0.enough }, subst (λ (k : ℕ). IdsOnly c.before.before.before.before.before.before.before.before.before.before.before.before.args.m k c.before.before.before.before.before.before.before.before.before.before.before.before.args.rows.now f.new.0) r.0 only),
+      λ es vs h. claimed-stands h r.0 _ _ c.before.before.before.before.before.before.before.before.before.before.before.before.requires.0.has.deep ((gone c.before.before.before.before.before.before.before).seen h) f.ensures.1 only,
     )
 
-pub calculate-spec : {M : Type 1} → statement M
-calculate-spec =
+pub calculate_spec : {M : Type 1} → statement M
+calculate_spec =
     tie.close
-    (tie.spec slot-of-requires go-down-requires word-of-requires commit-requires turn-over-requires go-down-requires-2 claim-requires same_length same-length-2 same-length-3 returns)
+    (tie.spec
+    slot-of-requires
+    go-down-requires
+    word-of-requires
+    commit-requires
+    turn-over-requires
+    go-down-requires-2
+    claim-requires
+    same_length
+    same-length-2
+    same-length-3
+    returns)

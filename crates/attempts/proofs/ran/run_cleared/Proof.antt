@@ -14,84 +14,78 @@ use Rattle.attempts.proofs.ran.run_cleared.Statement.{statement}
 use Rattle.attempts.proofs.ran.run_cleared.Tie as tie
 
 -- where the run is made, and where the call begins
-abbrev start : tie.After-run → tie.Start
+abbrev start : tie.After-run-r → tie.Start
 start r = r.before.before.before.before.before.before.before.before.before
 
-abbrev made : tie.After-spot-of → tie.After-run
-made p = p.before.before.before.before.before.before.before.before.before
+abbrev made : tie.After-spot_of → tie.After-run-r
+made p = p.before.before.before.before.before.before.before.before
 
 -- the run that there is
-ran : (r : tie.After-run) → let a = (start r).args in let p = (start r).requires.1.1.1.1 in
+ran : (r : tie.After-run-r) → let a = (start r).args in let p = (start r).requires.1.1.1.1 in
     RanIs a.x.m a.s.paths (R.run_of p.book a.s.visits a.s.paths (arrays_of a.x.m (received a.x.m a.values.now a.numbers.now) a.bytes.now))
-    r.run.result r.run.new.1.1.1.1.1.1.1.1.1.0
-ran r = (r.run.ensures (start r).requires.1.1.1.1).0
+    r.run-r.result r.run-r.new.1.1.1.1.1.1.1.1.1.0
+ran r = (r.run-r.ensures (start r).requires.1.1.1.1).0
 
-cast-m : tie.Need-overflow-cast-m
+cast-m : tie.Need-overflow_cast-m
 cast-m c = search rules
 
-run-requires : tie.Need-run-requires
+run-requires : tie.Need-run-r-requires
 run-requires c κs =
     let p = c.before.before.before.before.before.before.before.before.requires in
     (p.0, ((p.1.0.0, p.1.0.1, p.1.0.2), (p.1.1.0, (p.1.1.1.0, p.1.1.1.1))))
 
-spot-of-requires : tie.Need-spot-of-requires
+spot-of-requires : tie.Need-spot_of-requires
 spot-of-requires c κs =
-    let r = c.before.before.before.before.before.before.before.before in
-    let p = (start r).requires in
-    let d = (ran r).id in
+    let p = (start c.before.before.before.before.before.before.before).requires in
+    let d = (ran c.before.before.before.before.before.before.before).id in
     (deep-enough p.1.1.1.1, omega arith, record { some = d.some; most = omega (arith, d.most, p.0.paths) })
 
-hand-out-requires : tie.Need-hand-out-requires
+hand-out-requires : tie.Need-hand_out-requires
 hand-out-requires c κs =
     let r = made c in
-    let p = (start r).pre in
-    let b = c.before.before.before.before.before.before.before in
-    omega (arith, c.spot_of_lem.ensures, spot-room {m = (start r).args.x.m} {h = (start r).args.x.m} (omega arith) (ran r).id (start r).args.bytes.now p.1.1.0.1, p.1.0.3, b.bytes.given)
+    let p = (start r).requires in
+    omega (arith, c.spot_of.ensures, spot-room {m = (start r).args.x.m} {h = (start r).args.x.m} (omega arith) (ran r).id (start r).args.bytes.now p.1.1.0.1, p.1.0.3, c.before.before.before.before.before.before.bytes-1.given)
 
-clear-numbers-requires : tie.Need-clear-numbers-requires
+clear-numbers-requires : tie.Need-clear_numbers-requires
 clear-numbers-requires c κs = search rules
 
-clear-bytes-requires : tie.Need-clear-bytes-requires
+clear-bytes-requires : tie.Need-clear_bytes-requires
 clear-bytes-requires c κs = search rules
 
-same_length : tie.Need-same-length
+same_length : tie.Need-shape_of-numbers
 same_length c = search rules
 
-same-length-2 : tie.Need-same-length-2
+same-length-2 : tie.Need-shape_of-bytes
 same-length-2 c = search rules
 
-same-length-3 : tie.Need-same-length-3
+same-length-3 : tie.Need-shape_of-walk_path
 same-length-3 c = search rules
 
-same-length-4 : tie.Need-same-length-4
+same-length-4 : tie.Need-shape_of-walk_blocks
 same-length-4 c = search rules
 
-same-length-5 : tie.Need-same-length-5
+same-length-5 : tie.Need-shape_of-walk_score
 same-length-5 c = search rules
 
-same-length-6 : tie.Need-same-length-6
+same-length-6 : tie.Need-shape_of-found
 same-length-6 c = search rules
 
 returns : tie.Need-returns
 returns c =
-    let y = c.before.before.before in
-    let n = y.before.before.before in
-    let h = n.before.before.before.before in
-    let r = made h.before in
-    let b = h.before.before.before.before.before.before.before.before in
+    let r = made c.before.before.before.before.before.before.before.before.before.before.before in
     let a = (start r).args in
-    let p = (start r).pre in
-    let l = r.run.last.1.1.1.1.1.1.1.1 in
-    let word = h.hand-out.ensures ∙ ap₂ (λ i n. part i n l.1.0) h.before.spot_of_lem.ensures p.1.0.3 in (
+    let p = (start r).requires in
+    let l = r.run-r.last.1.1.1.1.1.1.1.1 in
+    let word = c.before.before.before.before.before.before.before.before.before.before.hand_out.ensures ∙ ap₂ (λ i c.before.before.before.before.before.before. part i c.before.before.before.before.before.before l.1.0) c.before.before.before.before.before.before.before.before.before.before.before.spot_of.ensures p.1.0.3 in (
       (
-        n.clear-numbers.ensures ∙ all-cleared (pos 0) l.0 (length l.0) refl (length a.numbers.now) (omega (arith, b.before.numbers.given)),
-        y.clear-bytes.ensures ∙ all-cleared 0 l.1.0 (length l.1.0) refl (length a.bytes.now) (omega (arith, b.bytes.given)),
+        c.before.before.before.before.before.before.clear_numbers.ensures ∙ all-cleared (pos 0) l.0 (length l.0) refl (length a.numbers.now) (omega (arith, c.before.before.before.before.before.before.before.before.before.before.before.before.before.before.before.before.before.before.numbers-1.given)),
+        c.before.before.before.clear_bytes.ensures ∙ all-cleared 0 l.1.0 (length l.1.0) refl (length a.bytes.now) (omega (arith, c.before.before.before.before.before.before.before.before.before.before.before.before.before.before.before.before.before.bytes-1.given)),
       ),
-      λ x. let o = r.run.ensures x in (ran-counts o.0, word ∙ ran-word o.0, o.1, o.2, o.3),
+      λ x. let o = r.run-r.ensures x in (ran-counts o.0, word ∙ ran-word o.0, o.1, o.2, o.3),
     )
 
-pub run-cleared-spec : {M : Type 1} → statement M
-run-cleared-spec =
+pub run_cleared_spec : {M : Type 1} → statement M
+run_cleared_spec =
     tie.close
     (tie.spec
     cast-m

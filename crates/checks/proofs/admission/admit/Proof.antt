@@ -14,75 +14,65 @@ use Rattle.checks.proofs.admission.admit.Statement.{statement}
 use Rattle.checks.proofs.admission.admit.Tie as tie
 
 -- the settings were made, and are those asked
-settled : (c : tie.After-known-told) → let a = c.before.before.before.before.args in (settings_ok a.asked ≡ true) × (c.before.checked2.given.0.0 ≡ a.asked)
+settled : (c : tie.In-Good) → let a = c.before.before.before.before.args in (settings_ok a.asked ≡ true) × (c.before.checked-1.given.0.0 ≡ a.asked)
 settled c =
-    let k = c.before.before.before in
-    these-made k.before.args.asked c.before.checked2.given.0.0 (sym k.checked.ensures ∙ c.before.checked2.given.1)
+    these-made c.before.before.before.before.args.asked c.before.checked-1.given.0.0 (sym c.before.before.before.checked-checked.ensures ∙ c.before.checked-1.given.1)
 
 -- so they are in range
-ranged : (c : tie.After-known-told) → Ranged c.before.checked2.given.0.0
+ranged : (c : tie.In-Good) → Ranged c.before.checked-1.given.0.0
 ranged c = let s = settled c in rw s.1 ((settings-tell c.before.before.before.before.args.asked).out (rw s.0 tt))
 
 -- what fits is tested of them
-fitted : (t : tie.After-all-fit) → let a = t.before.before.before.before.before.args in fitting a.k a.x a.asked a.l ≡ t.all_fit.result
+fitted : (t : tie.After-all_fit) → let a = t.before.before.before.before.before.args in fitting a.k a.x a.asked a.l ≡ t.all_fit.result
 fitted t =
     let a = t.before.before.before.before.before.args in
     sym (t.all_fit.ensures ∙ ap (λ (s : Settings). fitting a.k a.x s a.l) (settled t.before).1)
 
-checked-requires : tie.Need-checked-requires
+checked-requires : tie.Need-checked-checked-requires
 checked-requires c κs = search rules
 
-enum-known-checked : tie.Need-enum-known-checked
+enum-known-checked : tie.Need-enum_known-checked
 enum-known-checked c = search rules
 
-enum_told : tie.Need-enum-told
+enum_told : tie.Need-enum_told-1
 enum_told c = search rules
 
-returns : tie.Need-returns
+returns : tie.Need-returns-in_default
 unfolding admitted_by
 returns c =
-    let k = c.before.before in
-    let a = k.before.args in
-    let e = c.enum_told.given in
-    let n = none_made a.asked e.0.0 (sym k.checked.ensures ∙ e.1) in
+    let a = c.before.before.before.args in
+    let e = c.enum_told-1.given in
+    let n = none_made a.asked e.0.0 (sym c.before.before.checked-checked.ensures ∙ e.1) in
     e.1 ∙ ap Bad n.1 ∙ admitted a.k a.x a.asked a.l a.values.now n.0 refl refl
 
-all-fit-requires : tie.Need-all-fit-requires
+all-fit-requires : tie.Need-all_fit-requires
 all-fit-requires c κs =
-    let s = c.before.before.before.before in
-    (s.requires.0, s.requires.1, ranged c)
+    (c.before.before.before.before.requires.0, c.before.before.before.before.requires.1, ranged c)
 
-returns-2 : tie.Need-returns-2
+returns-2 : tie.Need-returns-then-not-all_fit
 unfolding admitted_by
 returns-2 c =
-    let t = c.before in
-    let a = t.before.before.before.before.before.args in
-    admitted a.k a.x a.asked a.l a.values.now (settled t.before).0 (fitted t ∙ not-true _ c.if1.true) refl
+    let a = c.before.before.before.before.before.before.args in
+    admitted a.k a.x a.asked a.l a.values.now (settled c.before.before).0 (fitted c.before ∙ not-true _ c.if-not-all_fit.true) refl
 
-values-ok-requires : tie.Need-values-ok-requires
+values-ok-requires : tie.Need-values_ok-requires
 values-ok-requires c κs = search rules
 
-returns-3 : tie.Need-returns-3
+returns-3 : tie.Need-returns-then-not-values_ok
 unfolding admitted_by
 returns-3 c =
-    let v = c.before in
-    let e = v.before in
-    let t = e.before in
-    let a = t.before.before.before.before.before.args in
-    admitted a.k a.x a.asked a.l a.values.now (settled t.before).0 (fitted t ∙ not-false _ e.if1.false) (sym v.values-ok.ensures ∙ not-true _ c.if2.true)
+    let a = c.before.before.before.before.before.before.before.before.args in
+    admitted a.k a.x a.asked a.l a.values.now (settled c.before.before.before.before).0 (fitted c.before.before.before ∙ not-false _ c.before.before.if-not-all_fit.false) (sym c.before.values_ok.ensures ∙ not-true _ c.if-not-values_ok.true)
 
-returns-4 : tie.Need-returns-4
+returns-4 : tie.Need-returns
 unfolding admitted_by
 returns-4 c =
-    let v = c.before in
-    let e = v.before in
-    let t = e.before in
-    let a = t.before.before.before.before.before.args in
-    ap Good (settled t.before).1
-    ∙ admitted a.k a.x a.asked a.l a.values.now (settled t.before).0 (fitted t ∙ not-false _ e.if1.false) (sym v.values-ok.ensures ∙ not-false _ c.if2.false)
+    let a = c.before.before.before.before.before.before.before.before.args in
+    ap Good (settled c.before.before.before.before).1
+    ∙ admitted a.k a.x a.asked a.l a.values.now (settled c.before.before.before.before).0 (fitted c.before.before.before ∙ not-false _ c.before.before.if-not-all_fit.false) (sym c.before.values_ok.ensures ∙ not-false _ c.if-not-values_ok.false)
 
-pub admit-spec : {M : Type 1} → statement M
-admit-spec =
+pub admit_spec : {M : Type 1} → statement M
+admit_spec =
     tie.close
     (tie.spec
     checked-requires

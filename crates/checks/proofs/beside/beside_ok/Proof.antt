@@ -8,38 +8,36 @@ use Rattle.checks.proofs.beside.beside_ok.Statement.{statement}
 use Rattle.checks.proofs.beside.beside_ok.Tie as tie
 
 -- the first test is of the walk's length
-stepped : (t : tie.After-at-least) → let a = t.before.before.args in t.at-least.result ≡ at_least (walk_needed a.x a.s) a.k.steps
-stepped t = t.at-least.ensures ∙ ap (λ n. at_least n t.before.before.args.k.steps) t.before.walk-needed.ensures
+stepped : (t : tie.After-at_least) → let a = t.before.before.args in t.at_least.result ≡ at_least (walk_needed a.x a.s) a.k.steps
+stepped t = t.at_least.ensures ∙ ap (λ n. at_least n t.before.before.args.k.steps) t.before.walk_needed.ensures
 
-walk-needed-requires : tie.Need-walk-needed-requires
+walk-needed-requires : tie.Need-walk_needed-requires
 walk-needed-requires c κs = search rules
 
-at-least-requires : tie.Need-at-least-requires
+at-least-requires : tie.Need-at_least-requires
 at-least-requires c κs = search rules
 
-returns : tie.Need-returns
+returns : tie.Need-returns-then-not-at_least
 unfolding beside_ok
-returns c = first-fails _ _ _ (sym (stepped c.before) ∙ not-true _ c.if1.true)
+returns c = first-fails _ _ _ (sym (stepped c.before) ∙ not-true _ c.if-not-at_least.true)
 
 exactly-requires : tie.Need-exactly-requires
 exactly-requires c κs = search rules
 
-returns-2 : tie.Need-returns-2
+returns-2 : tie.Need-returns-then-not-exactly
 unfolding beside_ok
-returns-2 c = let e = c.before.before in second-fails _ _ _ (sym (stepped e.before) ∙ not-false _ e.if1.false) (sym c.before.exactly.ensures ∙ not-true _ c.if2.true)
+returns-2 c = second-fails _ _ _ (sym (stepped c.before.before.before) ∙ not-false _ c.before.before.if-not-at_least.false) (sym c.before.exactly.ensures ∙ not-true _ c.if-not-exactly.true)
 
 exactly-requires-2 : tie.Need-exactly-requires-2
 exactly-requires-2 c κs = search rules
 
-returns-3 : tie.Need-returns-3
+returns-3 : tie.Need-returns
 unfolding beside_ok
 returns-3 c =
-    let f = c.before in
-    let e = f.before.before in
-    c.exactly2.ensures ∙ third-decides _ _ _ (sym (stepped e.before) ∙ not-false _ e.if1.false) (sym f.before.exactly.ensures ∙ not-false _ f.if2.false)
+    c.exactly-2.ensures ∙ third-decides _ _ _ (sym (stepped c.before.before.before.before) ∙ not-false _ c.before.before.before.if-not-at_least.false) (sym c.before.before.exactly.ensures ∙ not-false _ c.before.if-not-exactly.false)
 
-pub beside-ok-spec : {M : Type 1} → statement M
-beside-ok-spec =
+pub beside_ok_spec : {M : Type 1} → statement M
+beside_ok_spec =
     tie.close
     (tie.spec
     walk-needed-requires

@@ -15,23 +15,23 @@ use Rattle.checks.proofs.tests.lengths_ok.Statement.{statement}
 use Rattle.checks.proofs.tests.lengths_ok.Tie as tie
 
 -- where the call begins
-abbrev start : tie.After-walk-needed → tie.Start
+abbrev start : tie.After-walk_needed-walk → tie.Start
 start w = w.before.before.before.before
 
-cast-n : tie.Need-overflow-cast-n
+cast-n : tie.Need-overflow_cast-n
 cast-n c = search rules
 
-cast-k : tie.Need-overflow-cast-k
+cast-k : tie.Need-overflow_cast-k
 cast-k c = search rules
 
-cast-paths : tie.Need-overflow-cast-paths
+cast-paths : tie.Need-overflow_cast-paths
 cast-paths c = search rules
 
-walk-needed-requires : tie.Need-walk-needed-requires
+walk-needed-requires : tie.Need-walk_needed-walk-requires
 walk-needed-requires c κs = search rules
 
 -- a length that is not exact
-returns : tie.Need-returns
+returns : tie.Need-returns-then-l-n
 returns c =
     let a = (start c.before.before).args in
     fails (lengths-tell a.x a.s a.l)
@@ -40,27 +40,27 @@ returns c =
     (⊎_elim
     (λ w. eqb-false a.l.word a.x.n (not-true (eqb a.l.word a.x.n) w.2.taken) s.word)
     (λ w. eqb-false a.l.bits a.x.k (not-true (eqb a.l.bits a.x.k) w.4.taken) s.bits))
-    c.if1.branch)
+    c.then-l-n.branch)
 
-mul-if4 : tie.Need-overflow-mul-if4
+mul-if4 : tie.Need-overflow_mul-n
 mul-if4 c = search rules
 
-add-if4 : tie.Need-overflow-add-if4
+add-if4 : tie.Need-overflow_add-n
 add-if4 c = search rules
 
-mul-if4-2 : tie.Need-overflow-mul-if4-2
+mul-if4-2 : tie.Need-overflow_mul-paths
 mul-if4-2 c =
     let s = start c.before.before.before.before.before.before in
-    omega (arith, mul-le-mul {n₁ = s.args.s.paths} {m₁ = 2 * s.args.x.n + 32} {n₂ = 256} {m₂ = 1056} s.pre.2.paths (omega arith))
+    omega (arith, mul-le-mul {n₁ = s.args.s.paths} {m₁ = 2 * s.args.x.n + 32} {n₂ = 256} {m₂ = 1056} s.requires.2.paths (omega arith))
 
-mul-if5 : tie.Need-overflow-mul-if5
+mul-if5 : tie.Need-overflow_mul-n-else-l-paths
 mul-if5 c = search rules
 
-mul-if5-2 : tie.Need-overflow-mul-if5-2
+mul-if5-2 : tie.Need-overflow_mul-paths-else-l-paths
 mul-if5-2 c = search rules
 
 -- a workspace that is short
-returns-2 : tie.Need-returns-2
+returns-2 : tie.Need-returns-then-l-paths
 unfolding numbers_needed bytes_needed
 returns-2 c =
     let a = (start c.before.before.before.before.before.before.before.before).args in
@@ -68,35 +68,28 @@ returns-2 c =
     (λ s. ⊎_elim
     (λ w. not-le_of_lt w.taken s.numbers)
     (λ w. not-le_of_lt (ltb-true a.l.bytes (a.s.paths * (2 * a.x.n)) w.2.taken) s.bytes)
-    c.if4.branch)
+    c.then-l-paths.branch)
 
 -- all but the scores are right: the answer is theirs
-returns-3 : tie.Need-returns-3
+returns-3 : tie.Need-returns-then-walk-l-2
 unfolding numbers_needed bytes_needed
 returns-3 c =
-    let j = c.before.before in
-    let d₅ = j.before.before in
-    let d₄ = d₅.before.before in
-    let d₃ = d₄.before.before in
-    let d₂ = d₃.before.before in
-    let d₁ = d₂.before.before in
-    let k = d₁.before.before in
-    let a = (start k).args in
-    let w = k.walk-needed.result in
-    let e : w ≡ walk_needed a.x a.s = k.walk-needed.ensures in
+    let a = (start c.before.before.before.before.before.before.before.before.before.before.before.before.before.before).args in
+    let w = c.before.before.before.before.before.before.before.before.before.before.before.before.before.before.walk_needed-walk.result in
+    let e : w ≡ walk_needed a.x a.s = c.before.before.before.before.before.before.before.before.before.before.before.before.before.before.walk_needed-walk.ensures in
     let long : (w ≤ a.l.paths) × (w ≤ a.l.blocks) =
     ⊎_elim
-    (λ v. (v.0.taken, leb-true w a.l.blocks (sym v.2 ∙ c.before.if7.true)))
-    (λ v. absurd (not-le_of_lt v.0.left (leb-true w a.l.paths (sym v.1 ∙ c.before.if7.true))))
-    j.if6.branch in
+    (λ v. (v.0.taken, leb-true w a.l.blocks (sym v.2 ∙ c.before.if-walk-l-2.true)))
+    (λ v. absurd (not-le_of_lt v.0.left (leb-true w a.l.paths (sym v.1 ∙ c.before.if-walk-l-2.true))))
+    c.before.before.if-walk-l.branch in
     alike (tells-le w a.l.scores) (lengths-tell a.x a.s a.l)
     (λ h.
     record {
-      values = d₁.if1.false;
-      word = eqb-true a.l.word a.x.n (not-false (eqb a.l.word a.x.n) d₂.if2.false);
-      bits = eqb-true a.l.bits a.x.k (not-false (eqb a.l.bits a.x.k) d₃.if3.false);
-      numbers = d₄.if4.false;
-      bytes = ltb-false a.l.bytes (a.s.paths * (2 * a.x.n)) d₅.if5.false;
+      values = c.before.before.before.before.before.before.before.before.before.before.before.before.if-l-n.false;
+      word = eqb-true a.l.word a.x.n (not-false (eqb a.l.word a.x.n) c.before.before.before.before.before.before.before.before.before.before.if-l-n-2.false);
+      bits = eqb-true a.l.bits a.x.k (not-false (eqb a.l.bits a.x.k) c.before.before.before.before.before.before.before.before.if-l-k.false);
+      numbers = c.before.before.before.before.before.before.if-l-paths.false;
+      bytes = ltb-false a.l.bytes (a.s.paths * (2 * a.x.n)) c.before.before.before.before.if-l-paths-2.false;
       paths = omega (arith, e, long.0);
       blocks = omega (arith, e, long.1);
       scores = omega (arith, e, h);
@@ -104,22 +97,20 @@ returns-3 c =
     (λ s. omega (arith, e, s.scores))
 
 -- paths or blocks of the walk that are short
-returns-4 : tie.Need-returns-4
+returns-4 : tie.Need-returns-else-walk-l-2
 returns-4 c =
-    let j = c.before in
-    let k = j.before.before.before.before.before.before.before.before.before.before.before.before in
-    let a = (start k).args in
-    let w = k.walk-needed.result in
-    let e : w ≡ walk_needed a.x a.s = k.walk-needed.ensures in
-    c.if7.false
+    let a = (start c.before.before.before.before.before.before.before.before.before.before.before.before.before).args in
+    let w = c.before.before.before.before.before.before.before.before.before.before.before.before.before.walk_needed-walk.result in
+    let e : w ≡ walk_needed a.x a.s = c.before.before.before.before.before.before.before.before.before.before.before.before.before.walk_needed-walk.ensures in
+    c.if-walk-l-2.false
     ∙ fails (lengths-tell a.x a.s a.l)
     (λ s. ⊎_elim
-    (λ v. not-le_of_lt (leb-false w a.l.blocks (sym v.2 ∙ c.if7.false)) (omega (arith, e, s.blocks)))
+    (λ v. not-le_of_lt (leb-false w a.l.blocks (sym v.2 ∙ c.if-walk-l-2.false)) (omega (arith, e, s.blocks)))
     (λ v. not-le_of_lt v.0.left (omega (arith, e, s.paths)))
-    j.if6.branch)
+    c.before.if-walk-l.branch)
 
-pub lengths-ok-spec : {M : Type 1} → statement M
-lengths-ok-spec =
+pub lengths_ok_spec : {M : Type 1} → statement M
+lengths_ok_spec =
     tie.close
     (tie.spec
     cast-n

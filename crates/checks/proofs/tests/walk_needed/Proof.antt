@@ -13,21 +13,28 @@ use Rattle.checks.proofs.tests.walk_needed.Tie as tie
 walk-small : (s : tie.Start) → s.args.s.visits * s.args.x.blocks ≤ 32 * 512
 walk-small s = mul-le-mul s.requires.1.visits s.requires.0
 
-cast-result : tie.Need-overflow-cast-result
+cast-result : tie.Need-overflow_cast-result
 cast-result c = search rules
 
-cast-result-2 : tie.Need-overflow-cast-result-2
+cast-result-2 : tie.Need-overflow_cast-result-2
 cast-result-2 c = search rules
 
-mul-result : tie.Need-overflow-mul-result
+mul-result : tie.Need-overflow_mul-result
 mul-result c = omega (arith, walk-small c.before.before)
 
-add-result : tie.Need-overflow-add-result
+add-result : tie.Need-overflow_add-result
 add-result c = omega (arith, walk-small c.before.before)
 
 returns : tie.Need-returns
 unfolding walk_needed most_extractions
 returns c = refl
 
-pub walk-needed-spec : {M : Type 1} → statement M
-walk-needed-spec = tie.close (tie.spec cast-result cast-result-2 mul-result add-result returns)
+pub walk_needed_spec : {M : Type 1} → statement M
+walk_needed_spec =
+    tie.close
+    (tie.spec
+    cast-result
+    cast-result-2
+    mul-result
+    add-result
+    returns)

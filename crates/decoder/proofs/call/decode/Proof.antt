@@ -14,40 +14,38 @@ call s = let a = s.args in given a.book.now a.s a.values.now
 abbrev buffers : tie.Start → Lent
 buffers s = let a = s.args in lent a.word.now a.bits.now a.numbers.now a.bytes.now a.walk-path.now a.walk-blocks.now a.walk-score.now
 
-decode-in-requires : tie.Need-decode-in-requires
+decode-in-requires : tie.Need-decode_in-x-requires
 decode-in-requires c κs = search rules
 
-same_length : tie.Need-same-length
+same_length : tie.Need-shape_of-word
 same_length c = search rules
 
-same-length-2 : tie.Need-same-length-2
+same-length-2 : tie.Need-shape_of-bits
 same-length-2 c = search rules
 
-same-length-3 : tie.Need-same-length-3
+same-length-3 : tie.Need-shape_of-numbers
 same-length-3 c = search rules
 
-same-length-4 : tie.Need-same-length-4
+same-length-4 : tie.Need-shape_of-bytes
 same-length-4 c = search rules
 
-same-length-5 : tie.Need-same-length-5
+same-length-5 : tie.Need-shape_of-walk_path
 same-length-5 c = search rules
 
-same-length-6 : tie.Need-same-length-6
+same-length-6 : tie.Need-shape_of-walk_blocks
 same-length-6 c = search rules
 
-same-length-7 : tie.Need-same-length-7
+same-length-7 : tie.Need-shape_of-walk_score
 same-length-7 c = search rules
 
 returns : tie.Need-returns
 returns c =
-    let d = c.before.before.before.before.before.before.before.before.before.before.before in
-    let s = d.before.before.before.before.before.before.before.before.before.before.before.before in
-    let l = d.decode-in.new.1.1.1.1 in
+    let l = c.before.before.before.before.before.before.before.before.before.before.before.decode_in-x.new.1.1.1.1 in
     let after = lent l.0 l.1.0 l.1.1.0 l.1.1.1.0 l.1.1.1.1.0 l.1.1.1.1.1.0 l.1.1.1.1.1.1.0 in
-    without-record plain (call s) (buffers s) d.decode-in.result after refl d.decode-in.ensures
+    without-record plain (call c.before.before.before.before.before.before.before.before.before.before.before.before.before.before.before.before.before.before.before.before.before.before.before) (buffers c.before.before.before.before.before.before.before.before.before.before.before.before.before.before.before.before.before.before.before.before.before.before.before) c.before.before.before.before.before.before.before.before.before.before.before.decode_in-x.result after refl c.before.before.before.before.before.before.before.before.before.before.before.decode_in-x.ensures
 
-pub decode-spec : {M : Type 1} → statement M
-decode-spec =
+pub decode_spec : {M : Type 1} → statement M
+decode_spec =
     tie.close
     (tie.spec
     decode-in-requires

@@ -16,37 +16,35 @@ buffers s = let a = s.args in lent a.word.now a.bits.now a.numbers.now a.bytes.n
 attempt-requires : tie.Need-attempt-requires
 attempt-requires c κs = search rules
 
-same_length : tie.Need-same-length
+same_length : tie.Need-shape_of-word
 same_length c = search rules
 
-same-length-2 : tie.Need-same-length-2
+same-length-2 : tie.Need-shape_of-bits
 same-length-2 c = search rules
 
-same-length-3 : tie.Need-same-length-3
+same-length-3 : tie.Need-shape_of-numbers
 same-length-3 c = search rules
 
-same-length-4 : tie.Need-same-length-4
+same-length-4 : tie.Need-shape_of-bytes
 same-length-4 c = search rules
 
-same-length-5 : tie.Need-same-length-5
+same-length-5 : tie.Need-shape_of-walk_path
 same-length-5 c = search rules
 
-same-length-6 : tie.Need-same-length-6
+same-length-6 : tie.Need-shape_of-walk_blocks
 same-length-6 c = search rules
 
-same-length-7 : tie.Need-same-length-7
+same-length-7 : tie.Need-shape_of-walk_score
 same-length-7 c = search rules
 
 returns : tie.Need-returns
 returns c =
-    let t = c.before.before.before.before.before.before.before.before.before.before in
-    let s = t.before.before.before.before.before.before.before.before.before.before.before.before in
-    let l = t.attempt.new.1.1.1.1 in
+    let l = c.before.before.before.before.before.before.before.before.before.before.attempt.new.1.1.1.1 in
     let after = lent l.0 l.1.0 l.1.1.0 l.1.1.1.0 l.1.1.1.1.0 l.1.1.1.1.1.0 l.1.1.1.1.1.1.0 in
-    decodes s.args.k (call s) (buffers s) t.attempt.result after t.attempt.ensures.0 t.attempt.ensures.1
+    decodes c.before.before.before.before.before.before.before.before.before.before.before.before.before.before.before.before.before.before.before.before.before.before.args.k (call c.before.before.before.before.before.before.before.before.before.before.before.before.before.before.before.before.before.before.before.before.before.before) (buffers c.before.before.before.before.before.before.before.before.before.before.before.before.before.before.before.before.before.before.before.before.before.before) c.before.before.before.before.before.before.before.before.before.before.attempt.result after c.before.before.before.before.before.before.before.before.before.before.attempt.ensures.0 c.before.before.before.before.before.before.before.before.before.before.attempt.ensures.1
 
-pub decode-in-spec : {M : Type 1} → statement M
-decode-in-spec =
+pub decode_in_spec : {M : Type 1} → statement M
+decode_in_spec =
     tie.close
     (tie.spec
     attempt-requires

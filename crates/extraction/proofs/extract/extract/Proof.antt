@@ -30,54 +30,52 @@ Extract s =
 own : (s : tie.Start) → Extract s
 own s = s.requires.1.1.1.0
 
-cast-paths : tie.Need-overflow-cast-paths
+cast-paths : tie.Need-overflow_cast-paths
 cast-paths c = search rules
 
-second-requires : tie.Need-second-requires
+second-requires : tie.Need-second-x-requires
 second-requires c κs =
-    let s = c.before.before.before.before.before.before.before.before.before.before.before.before.before.before in
-    let p = s.requires.0 in
-    let q = s.requires.1.0 in
-    ((p.0, p.1, p.2, p.4), ((q.0, q.1, q.2, q.3, q.4), (extract-seconding (own s), s.requires.1.1.1.1)))
+    let p = c.before.before.before.before.before.before.before.before.before.before.before.before.before.requires.0 in
+    let q = c.before.before.before.before.before.before.before.before.before.before.before.before.before.requires.1.0 in
+    ((p.0, p.1, p.2, p.4), ((q.0, q.1, q.2, q.3, q.4), (extract-seconding (own c.before.before.before.before.before.before.before.before.before.before.before.before.before), c.before.before.before.before.before.before.before.before.before.before.before.before.before.requires.1.1.1.1)))
 
 -- after the copy, for any state
-abbrev start : tie.After-second → tie.Start
-start c = c.before.before.before.before.before.before.before.before.before.before.before.before.before.before.before
+abbrev start : tie.After-second-x → tie.Start
+start c = c.before.before.before.before.before.before.before.before.before.before.before.before.before.before
 
-abbrev at_second : tie.After-second → Memory
-at_second c = let f = c.second.new in memory f.0 f.1.0 f.1.1.1.1.0 (start c).args.bytes.now
+abbrev at_second : tie.After-second-x → Memory
+at_second c = let f = c.second-x.new in memory f.0 f.1.0 f.1.1.1.1.0 (start c).args.bytes.now
 
-abbrev entries : tie.After-second → List ℕ
-entries c = queue_of c.second.new.1.1.0 c.second.result.queued
+abbrev entries : tie.After-second-x → List ℕ
+entries c = queue_of c.second-x.new.1.1.0 c.second-x.result.queued
 
-abbrev vacants : tie.After-second → List ℕ
-vacants c = queue_of c.second.new.1.1.1.0 ((start c).args.s.paths - (c.second.result.queued + 1))
+abbrev vacants : tie.After-second-x → List ℕ
+vacants c = queue_of c.second-x.new.1.1.1.0 ((start c).args.s.paths - (c.second-x.result.queued + 1))
 
 -- the words kept then
-abbrev words : tie.After-second → List ℕ
-words c = c.second.new.1.1.1.1.1.1.1.1.1.1.1.1.1.1.0
+abbrev words : tie.After-second-x → List ℕ
+words c = c.second-x.new.1.1.1.1.1.1.1.1.1.1.1.1.1.1.0
 
-copied : (c : tie.After-second) (o : Extract (start c)) → let a = (start c).args in
+copied : (c : tie.After-second-x) (o : Extract (start c)) → let a = (start c).args in
     let d = extract-seconding o in
     let k = copy d.hand.book a.s.paths d.hand.arrays d.hand.taken d.hand.rest a.t.next d.hand.taken.blocks in
-    let r = c.second.result in
+    let r = c.second-x.result in
     CopiedTo d.hand.book a.s.paths a.arrays a.e d.hand.taken k a.t.crowded r.queued r.next r.crowded (at_second c) (entries c) (vacants c) (words c)
-copied c o = (c.second.ensures.1.1.0 (extract-seconding o)).0
+copied c o = (c.second-x.ensures.1.1.0 (extract-seconding o)).0
 
-abbrev two : (c : tie.After-second) → 2 ≤ (start c).args.s.paths
+abbrev two : (c : tie.After-second-x) → 2 ≤ (start c).args.s.paths
 two c = (start c).requires.1.0.1
 
 third-requires : tie.Need-third-requires
 third-requires c κs =
-    let t = c.before.before.before.before.before.before.before.before.before.before.before.before.before in
-    let a = (start t).args in
-    let f = t.second.ensures in (
+    let a = (start c.before.before.before.before.before.before.before.before.before.before.before.before.before).args in
+    let f = c.before.before.before.before.before.before.before.before.before.before.before.before.before.second-x.ensures in (
       (f.0.0, f.0.1, f.1.0.2, f.0.3, f.0.4.words_size, f.0.4.sums-size),
-      ((vacants t, extract-thirding (own (start t)) (two t) a.t.crowded (words t) (copied t (own (start t)))), f.1.1.1),
+      ((vacants c.before.before.before.before.before.before.before.before.before.before.before.before.before, extract-thirding (own (start c.before.before.before.before.before.before.before.before.before.before.before.before.before)) (two c.before.before.before.before.before.before.before.before.before.before.before.before.before) a.t.crowded (words c.before.before.before.before.before.before.before.before.before.before.before.before.before) (copied c.before.before.before.before.before.before.before.before.before.before.before.before.before (own (start c.before.before.before.before.before.before.before.before.before.before.before.before.before)))), f.1.1.1),
     )
 
 -- after the move, for any state; and the words kept
-abbrev seconded : tie.After-third → tie.After-second
+abbrev seconded : tie.After-third → tie.After-second-x
 seconded c = c.before.before.before.before.before.before.before.before.before.before.before.before.before.before
 
 abbrev at-third : tie.After-third → Memory
@@ -88,36 +86,36 @@ kept c = c.third.new.1.1.1.1.1.1.1.1.1.1.1.1.1.1.0
 
 moved : (c : tie.After-third) (o : Extract (start (seconded c))) → let t = seconded c in
     let a = (start t).args in
-    MovedTo o (two t) a.t.crowded (words t) (copied t o) (at-third c) (queue_of c.third.new.1.1.0 (t.second.result.queued + 1)) (kept c)
+    MovedTo o (two t) a.t.crowded (words t) (copied t o) (at-third c) (queue_of c.third.new.1.1.0 (t.second-x.result.queued + 1)) (kept c)
 moved c o =
     let t = seconded c in
     let a = (start t).args in
-    let one : suc t.second.result.queued ≡ t.second.result.queued + 1 = omega arith in
+    let one : suc t.second-x.result.queued ≡ t.second-x.result.queued + 1 = omega arith in
     subst (λ (i : ℕ). MovedTo o (two t) a.t.crowded (words t) (copied t o) (at-third c) (queue_of c.third.new.1.1.0 i) (kept c)) one
     (c.third.ensures.1.0 (vacants t) (extract-thirding o (two t) a.t.crowded (words t) (copied t o)))
 
-add-x : tie.Need-overflow-add-x
+add-x : tie.Need-overflow_add-x
 add-x c = search rules
 
-blocks-of-requires : tie.Need-blocks-of-requires
+blocks-of-requires : tie.Need-blocks_of-requires
 blocks-of-requires c κs = search rules
 
-cast-outrun : tie.Need-overflow-cast-outrun
+cast-outrun : tie.Need-overflow_cast-blocks_of
 cast-outrun c = search rules
 
-abbrev thirded : tie.After-blocks-of → tie.After-third
-thirded c = c.before.before.before.before.before.before.before.before.before.before.before.before.before
+abbrev thirded : tie.After-blocks_of → tie.After-third
+thirded c = c.before.before.before.before.before.before.before.before.before.before.before.before
 
 -- what step 4 starts from
-abbrev outrunning : (c : tie.After-blocks-of) (o : Extract (start (seconded (thirded c)))) → let u = thirded c in
+abbrev outrunning : (c : tie.After-blocks_of) (o : Extract (start (seconded (thirded c)))) → let u = thirded c in
     let t = seconded u in
     let a = (start t).args in
-    Outrunning a.m a.s.visits a.s.paths a.arrays t.second.result.extractions c.blocks-of.result (at-third u) (queue_of u.third.last.1.1.0 (t.second.result.queued + 1))
+    Outrunning a.m a.s.visits a.s.paths a.arrays t.second-x.result.extractions c.blocks_of.result (at-third u) (queue_of u.third.last.1.1.0 (t.second-x.result.queued + 1))
     (vacants t) a.visits.now
 outrunning c o =
     let u = thirded c in
     let t = seconded u in
-    extract-outrunning o (two t) (start t).args.t.crowded (words t) (copied t o) (kept u) (moved u o) _ t.second.ensures.1.0.0 _ c.blocks-of.ensures
+    extract-outrunning o (two t) (start t).args.t.crowded (words t) (copied t o) (kept u) (moved u o) _ t.second-x.ensures.1.0.0 _ c.blocks_of.ensures
 
 returns : tie.Need-returns
 unfolding memory
@@ -128,7 +126,7 @@ returns c =
     let a = s.args in
     let l = u.third.ensures.0 in
     let f = c.outrun.ensures in
-    let b = c.before.blocks-of.result in (
+    let b = c.before.blocks_of.result in (
       (
         record {
           few = l.0.few;
@@ -138,19 +136,19 @@ returns c =
         },
         f.0.1,
         f.0.2,
-        ap length f.0.3 ∙ visit-length a.visits.now b ∙ s.pre.0.3,
+        ap length f.0.3 ∙ visit-length a.visits.now b ∙ s.requires.0.3,
         l.2,
-        record { words_size = l.3; sets-size = t.second.ensures.0.4.sets-size; sums-size = l.4 },
+        record { words_size = l.3; sets-size = t.second-x.ensures.0.4.sets-size; sums-size = l.4 },
       ),
       (
-        (f.0.5 ∙ t.second.ensures.1.0.0, f.0.7),
+        (f.0.5 ∙ t.second-x.ensures.1.0.0, f.0.7),
         (
           λ o.
               let w = f.1.0 a.arrays u.third.last.1.1.1.0 u.third.last.1.1.1.1.0 (outrunning c.before o) l.0.has.many in
               let k =
-              extract-done o (two t) a.t.crowded (words t) (copied t o) (kept u) (moved u o) t.second.result.outrun b c.before.blocks-of.ensures _ t.second.ensures.1.0.0 f.0.8
+              extract-done o (two t) a.t.crowded (words t) (copied t o) (kept u) (moved u o) t.second-x.result.outrun b c.before.blocks_of.ensures _ t.second-x.ensures.1.0.0 f.0.8
               (w.0, w.1, w.2) in
-              (k.0, f.0.4 ∙ k.1, f.0.3 ∙ k.2, f.0.6 ∙ k.3, omega (arith, k.4, t.second.ensures.1.0.1), k.5, k.6),
+              (k.0, f.0.4 ∙ k.1, f.0.3 ∙ k.2, f.0.6 ∙ k.3, omega (arith, k.4, t.second-x.ensures.1.0.1), k.5, k.6),
           f.1.1,
         ),
       ),
@@ -164,16 +162,16 @@ outrun-requires c κs =
     let s = start t in
     let a = s.args in
     let o = own s in
-    let one : suc t.second.result.queued ≡ t.second.result.queued + 1 = omega arith in
+    let one : suc t.second-x.result.queued ≡ t.second-x.result.queued + 1 = omega arith in
     let l = u.third.ensures.0 in (
-      (l.0.rows, l.0.has.held, l.1, t.second.ensures.0.2, s.pre.0.3, l.0.has.deep),
+      (l.0.rows, l.0.has.held, l.1, t.second-x.ensures.0.2, s.requires.0.3, l.0.has.deep),
       (
         (
           l.0.few,
-          t.second.ensures.1.0.2,
-          omega (arith, c.blocks-of.ensures, extract-blocks o),
-          s.pre.1.1.0 c.blocks-of.result,
-          omega (arith, t.second.ensures.1.0.1, s.pre.1.0.5),
+          t.second-x.ensures.1.0.2,
+          omega (arith, c.blocks_of.ensures, extract-blocks o),
+          s.requires.1.1.0 c.blocks_of.result,
+          omega (arith, t.second-x.ensures.1.0.1, s.requires.1.0.5),
         ),
         (
           (
@@ -188,25 +186,37 @@ outrun-requires c κs =
       ),
     )
 
-same_length : tie.Need-same-length
+same_length : tie.Need-shape_of-rows
 same_length c =
     let u = thirded c.before in
-    omega (arith, u.third.kept.0, (seconded u).second.kept.0)
+    omega (arith, u.third.kept.0, (seconded u).second-x.kept.0)
 
-same-length-2 : tie.Need-same-length-2
+same-length-2 : tie.Need-shape_of-numbers
 same-length-2 c =
     let u = thirded c.before in
-    omega (arith, u.third.kept.1.1.1.0, (seconded u).second.kept.1.1.1.1.0)
+    omega (arith, u.third.kept.1.1.1.0, (seconded u).second-x.kept.1.1.1.1.0)
 
-same-length-3 : tie.Need-same-length-3
+same-length-3 : tie.Need-shape_of-bytes
 same-length-3 c = (thirded c.before).third.auto.1.1.1.1.0
 
-same-length-4 : tie.Need-same-length-4
+same-length-4 : tie.Need-shape_of-kept
 same-length-4 c =
     let u = thirded c.before in
-    omega (arith, u.third.kept.1.1.1.1.1.1.1.1.1.1.1.1.1.1.0, (seconded u).second.kept.1.1.1.1.1.1.1.1.1.1.1.1.1.1.0)
+    omega (arith, u.third.kept.1.1.1.1.1.1.1.1.1.1.1.1.1.1.0, (seconded u).second-x.kept.1.1.1.1.1.1.1.1.1.1.1.1.1.1.0)
 
-pub extract-spec : {M : Type 1} → statement M
-extract-spec =
+pub extract_spec : {M : Type 1} → statement M
+extract_spec =
     tie.close
-    (tie.spec cast-paths second-requires third-requires add-x blocks-of-requires cast-outrun outrun-requires same_length same-length-2 same-length-3 same-length-4 returns)
+    (tie.spec
+    cast-paths
+    second-requires
+    third-requires
+    add-x
+    blocks-of-requires
+    cast-outrun
+    outrun-requires
+    same_length
+    same-length-2
+    same-length-3
+    same-length-4
+    returns)

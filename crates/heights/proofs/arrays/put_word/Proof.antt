@@ -14,59 +14,57 @@ use Rattle.heights.proofs.Words.{bits-length, bits_at}
 use Rattle.heights.proofs.arrays.put_word.Statement.{statement}
 use Rattle.heights.proofs.arrays.put_word.Tie as tie
 
-abbrev invariant-loop : tie.invariant-loop
+abbrev invariant-loop : tie.invariant-loop-i
 invariant-loop bytes₀ at n word left₀ i₀ bytes left i =
     (i ≤ n) × (length bytes ≡ length bytes₀) × (left ≡ word / 2 ^ i) × (bytes ≡ paste bytes₀ at (bits_of n word) i)
 
-abbrev decreases-loop : tie.decreases-loop
+abbrev decreases-loop : tie.decreases-loop-i
 decreases-loop bytes₀ at n word left₀ i₀ bytes left i = n - i
 
 -- nothing is read: the cells that are written stand for the source too
 clear : (s : tie.Start invariant-loop decreases-loop) → Clear s.args.at s.args.n s.args.at s.args.n s.args.bytes.now
 clear s = record { source = s.requires; room = s.requires; ahead = inl (omega arith) }
 
-loop-holds : tie.Need-loop-init invariant-loop decreases-loop
+loop-holds : tie.Need-loop-i-init invariant-loop decreases-loop
 loop-holds c = (omega arith, refl, omega arith, paste-zero _ c.args.at (bits_of c.args.n c.args.word))
 
-cast-bytes : tie.Need-overflow-cast-bytes invariant-loop decreases-loop
+cast-bytes : tie.Need-overflow_cast-bytes invariant-loop decreases-loop
 cast-bytes c = omega arith
 
-add-bytes : tie.Need-overflow-add-bytes invariant-loop decreases-loop
+add-bytes : tie.Need-overflow_add-bytes invariant-loop decreases-loop
 add-bytes c = omega arith
 
-slice-write-bytes : tie.Need-slice-write-bytes invariant-loop decreases-loop
+slice-write-bytes : tie.Need-bounds-bytes-at invariant-loop decreases-loop
 slice-write-bytes c = omega arith
 
-add-i : tie.Need-overflow-add-i invariant-loop decreases-loop
+add-i : tie.Need-overflow_add-i invariant-loop decreases-loop
 add-i c = omega arith
 
-loop-less : tie.Need-loop-smaller invariant-loop decreases-loop
+loop-less : tie.Need-loop-i-smaller invariant-loop decreases-loop
 loop-less c = omega arith
 
-loop-again : tie.Need-loop-preserved invariant-loop decreases-loop
+loop-again : tie.Need-loop-i-preserved invariant-loop decreases-loop
 loop-again c =
-    let s = c.before.before in
-    let a = s.args in
-    let i = c.before.loop.i in
-    let inv = c.before.loop.invariant in (
+    let a = c.before.before.args in
+    let i = c.before.loop-i.i in
+    let inv = c.before.loop-i.invariant in (
       omega arith,
       simp length-set (omega arith),
       ap (λ x. x / 2) inv.2 ∙ shr-shr a.word i 1,
-      next (bits_of a.n a.word) (clear s) (bits-length a.n a.word) 0 i inv.3 (omega arith)
+      next (bits_of a.n a.word) (clear c.before.before) (bits-length a.n a.word) 0 i inv.3 (omega arith)
           (ap (λ x. x % 2) inv.2 ∙ sym (bits_at a.n a.word i (omega arith))),
     )
 
-same_length : tie.Need-same-length invariant-loop decreases-loop
+same_length : tie.Need-shape_of-bytes invariant-loop decreases-loop
 same_length c = omega arith
 
 returns : tie.Need-returns invariant-loop decreases-loop
 returns c =
-    let s = c.before.before in
-    let a = s.args in
-    written (bits_of a.n a.word) (clear s) (bits-length a.n a.word) c.before.loop.i c.before.loop.invariant.3 (omega arith) (omega arith)
+    let a = c.before.before.args in
+    written (bits_of a.n a.word) (clear c.before.before) (bits-length a.n a.word) c.before.loop-i.i c.before.loop-i.invariant.3 (omega arith) (omega arith)
 
-pub put-word-spec : {M : Type 1} → statement M
-put-word-spec =
+pub put_word_spec : {M : Type 1} → statement M
+put_word_spec =
     tie.close
     (tie.spec
     invariant-loop

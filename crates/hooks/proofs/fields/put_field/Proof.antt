@@ -13,63 +13,61 @@ use Rattle.hooks.proofs.Parts.{to_at}
 use Rattle.hooks.proofs.fields.put_field.Statement.{statement}
 use Rattle.hooks.proofs.fields.put_field.Tie as tie
 
-abbrev invariant-loop : tie.invariant-loop
+abbrev invariant-loop : tie.invariant-loop-left
 invariant-loop bits₀ at width x i₀ left₀ bits i left = (i + left ≡ width) × (length bits ≡ length bits₀) × (bits ≡ paste bits₀ at (to_bits width x) i)
 
-abbrev decreases-loop : tie.decreases-loop
+abbrev decreases-loop : tie.decreases-loop-left
 decreases-loop bits₀ at width x i₀ left₀ bits i left = left
 
 -- nothing is read
 room : (s : tie.Start invariant-loop decreases-loop) → Clear 0 0 s.args.at s.args.width s.args.bits.now
 room s = record { source = omega arith; room = omega arith; ahead = inr (omega arith) }
 
-loop-holds : tie.Need-loop-init invariant-loop decreases-loop
+loop-holds : tie.Need-loop-left-init invariant-loop decreases-loop
 loop-holds c = (omega arith, refl, paste-zero c.args.bits.now c.args.at (to_bits c.args.width c.args.x))
 
-sub-left : tie.Need-overflow-sub-left invariant-loop decreases-loop
+sub-left : tie.Need-overflow_sub-left invariant-loop decreases-loop
 sub-left c = omega arith
 
-shr-bits : tie.Need-overflow-shr-bits invariant-loop decreases-loop
+shr-bits : tie.Need-overflow_shr-bits invariant-loop decreases-loop
 shr-bits c = omega arith
 
-cast-bits : tie.Need-overflow-cast-bits invariant-loop decreases-loop
+cast-bits : tie.Need-overflow_cast-bits invariant-loop decreases-loop
 cast-bits c = omega arith
 
-add-bits : tie.Need-overflow-add-bits invariant-loop decreases-loop
+add-bits : tie.Need-overflow_add-bits invariant-loop decreases-loop
 add-bits c = omega arith
 
-slice-write-bits : tie.Need-slice-write-bits invariant-loop decreases-loop
+slice-write-bits : tie.Need-bounds-bits-at invariant-loop decreases-loop
 slice-write-bits c = omega arith
 
-add-i : tie.Need-overflow-add-i invariant-loop decreases-loop
+add-i : tie.Need-overflow_add-i invariant-loop decreases-loop
 add-i c = omega arith
 
-loop-less : tie.Need-loop-smaller invariant-loop decreases-loop
+loop-less : tie.Need-loop-left-smaller invariant-loop decreases-loop
 loop-less c = omega arith
 
-loop-again : tie.Need-loop-preserved invariant-loop decreases-loop
+loop-again : tie.Need-loop-left-preserved invariant-loop decreases-loop
 loop-again c =
-    let s = c.before.before in
-    let a = s.args in
-    let x = c.before.loop in (
+    let a = c.before.before.args in
+    let x = c.before.loop-left in (
       omega arith,
       simp length-set (omega arith),
-      next (to_bits a.width a.x) (room s) (to_bits-length a.width a.x) 0 x.i x.invariant.2 (omega arith)
+      next (to_bits a.width a.x) (room c.before.before) (to_bits-length a.width a.x) 0 x.i x.invariant.2 (omega arith)
           (sym (to_at a.width a.x x.i (x.left - 1) (omega arith))),
     )
 
-same_length : tie.Need-same-length invariant-loop decreases-loop
+same_length : tie.Need-shape_of-bits invariant-loop decreases-loop
 same_length c = omega arith
 
 returns : tie.Need-returns invariant-loop decreases-loop
 returns c =
-    let s = c.before.before in
-    let a = s.args in
-    let x = c.before.loop in
-    written (to_bits a.width a.x) (room s) (to_bits-length a.width a.x) x.i x.invariant.2 (omega arith) (omega arith)
+    let a = c.before.before.args in
+    let x = c.before.loop-left in
+    written (to_bits a.width a.x) (room c.before.before) (to_bits-length a.width a.x) x.i x.invariant.2 (omega arith) (omega arith)
 
-pub put-field-spec : {M : Type 1} → statement M
-put-field-spec =
+pub put_field_spec : {M : Type 1} → statement M
+put_field_spec =
     tie.close
     (tie.spec
     invariant-loop

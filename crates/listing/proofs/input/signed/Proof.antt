@@ -11,34 +11,41 @@ use borrow.Author.Tests.{lt-ltb}
 use Rattle.listing.proofs.input.signed.Statement.{statement}
 use Rattle.listing.proofs.input.signed.Tie as tie
 
-less : (c : tie.Else1) → to_z w32 c.before.two.result -ℤ pos 65536 ≡ negsuc (65536 - suc c.before.two.result)
-less c = rw (to_z_pos w32 {n = c.before.two.result} (omega arith), lt-ltb c.before.two.result 65536 (omega arith))
+less : (c : tie.Else-x-lt32768) → to_z w32 c.before.two-x.result -ℤ pos 65536 ≡ negsuc (65536 - suc c.before.two-x.result)
+less c = rw (to_z_pos w32 {n = c.before.two-x.result} (omega arith), lt-ltb c.before.two-x.result 65536 (omega arith))
 
-less-fits : (c : tie.Else1) → SFits w32 (to_z w32 c.before.two.result -ℤ pos 65536)
+less-fits : (c : tie.Else-x-lt32768) → SFits w32 (to_z w32 c.before.two-x.result -ℤ pos 65536)
 less-fits c = rw (less c) (record { sfits = omega arith })
 
-two-requires : tie.Need-two-requires
+two-requires : tie.Need-two-x-requires
 two-requires c κs = search rules
 
-cast-result : tie.Need-overflow-cast-result
+cast-result : tie.Need-overflow_cast-result
 cast-result c = search rules
 
-cast-result-2 : tie.Need-overflow-cast-result-2
+cast-result-2 : tie.Need-overflow_cast-result-else-x-lt32768
 cast-result-2 c = search rules
 
-sub-result : tie.Need-overflow-sub-result
+sub-result : tie.Need-overflow_sub-result
 sub-result c = less-fits c
 
-cast-result-3 : tie.Need-overflow-cast-result-3
+cast-result-3 : tie.Need-overflow_cast-result-else-x-lt32768-2
 cast-result-3 c = rw (to_z-of_z (less-fits c), less c) (record { sfits = omega arith })
 
-returns : tie.Need-returns
+returns : tie.Need-returns-then-x-lt32768
 returns c = search rules
 
-returns-2 : tie.Need-returns-2
+returns-2 : tie.Need-returns-else-x-lt32768
 returns-2 c = search rules
 
-pub signed-spec : {M : Type 1} → statement M
-signed-spec =
+pub signed_spec : {M : Type 1} → statement M
+signed_spec =
     tie.close
-    (tie.spec two-requires cast-result cast-result-2 sub-result cast-result-3 returns returns-2)
+    (tie.spec
+    two-requires
+    cast-result
+    cast-result-2
+    sub-result
+    cast-result-3
+    returns
+    returns-2)

@@ -16,34 +16,34 @@ sum c = add_is c.ranges.score (abs-fits (pos 2097152) (omega arith)) (omega arit
 low : (c : tie.Start) → nat_abs (back (back c.args.score +ℤ pos 2097152)) < 4194304
 low c = omega (arith, ap nat_abs (sum c), (raised c.args.score c.requires.0).1)
 
-add-raised : tie.Need-overflow-add-raised
+add-raised : tie.Need-overflow_add-raised
 add-raised c = add-fits c.ranges.score (abs-fits (pos 2097152) (omega arith)) (omega arith)
 
-cast-raised : tie.Need-overflow-cast-raised
+cast-raised : tie.Need-overflow_cast-raised
 cast-raised c = rw (sum c) (tt, record { fits = omega (arith, (raised c.args.score c.requires.0).1) })
 
-mul-result : tie.Need-overflow-mul-result
+mul-result : tie.Need-overflow_mul-result
 mul-result c = omega (arith, low c)
 
-add-result : tie.Need-overflow-add-result
+add-result : tie.Need-overflow_add-result
 add-result c = omega (arith, low c)
 
-mul-result-2 : tie.Need-overflow-mul-result-2
+mul-result-2 : tie.Need-overflow_mul-result-2
 mul-result-2 c = omega (arith, low c)
 
-sub-result : tie.Need-overflow-sub-result
+sub-result : tie.Need-overflow_sub-result
 sub-result c = search rules
 
-cast-result : tie.Need-overflow-cast-result
+cast-result : tie.Need-overflow_cast-result-2
 cast-result c = search rules
 
-add-result-2 : tie.Need-overflow-add-result-2
+add-result-2 : tie.Need-overflow_add-result-2
 add-result-2 c = omega (arith, low c)
 
-mul-result-3 : tie.Need-overflow-mul-result-3
+mul-result-3 : tie.Need-overflow_mul-result-3
 mul-result-3 c = omega (arith, low c)
 
-add-result-3 : tie.Need-overflow-add-result-3
+add-result-3 : tie.Need-overflow_add-result-3
 add-result-3 c = omega (arith, low c)
 
 returns : tie.Need-returns

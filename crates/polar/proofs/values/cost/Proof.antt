@@ -18,13 +18,19 @@ magnitude-requires c κs = search rules
 decision : (c : tie.After-hard) → c.hard.result ≡ hard c.before.args.s
 decision c = c.hard.ensures ∙ ap hard (to_z-of_z c.before.ranges.s)
 
-returns : tie.Need-returns
-returns c = cost-same _ _ (c.if1.true ∙ decision c.before)
+returns : tie.Need-returns-then-v-hard
+returns c = cost-same _ _ (c.if-v-hard.true ∙ decision c.before)
 
-returns-2 : tie.Need-returns-2
+returns-2 : tie.Need-returns-else-v-hard
 returns-2 c =
     c.magnitude.ensures ∙ ap nat_abs (to_z-of_z c.before.before.before.ranges.s)
-    ∙ cost-other _ _ (λ e. c.before.if1.false (e ∙ sym (decision c.before.before)))
+    ∙ cost-other _ _ (λ e. c.before.if-v-hard.false (e ∙ sym (decision c.before.before)))
 
-pub cost-spec : {M : Type 1} → statement M
-cost-spec = tie.close (tie.spec hard-requires magnitude-requires returns returns-2)
+pub cost_spec : {M : Type 1} → statement M
+cost_spec =
+    tie.close
+    (tie.spec
+    hard-requires
+    magnitude-requires
+    returns
+    returns-2)

@@ -17,26 +17,33 @@ hard-requires c κs = search rules
 decision : (c : tie.After-hard) → c.hard.result ≡ hard c.before.args.s
 decision c = c.hard.ensures ∙ ap hard (to_z-of_z c.before.ranges.s)
 
-returns : tie.Need-returns
-returns c = penalty-same _ _ (c.if1.true ∙ decision c.before)
+returns : tie.Need-returns-then-v-hard
+returns c = penalty-same _ _ (c.if-v-hard.true ∙ decision c.before)
 
-sub-result : tie.Need-overflow-sub-result
-sub-result c = let f = c.before.before.before.ranges.s in neg-fits f (fits-abs _ f (not-below f c.if2.false))
+sub-result : tie.Need-overflow_sub-result
+sub-result c = let f = c.before.before.before.ranges.s in neg-fits f (fits-abs _ f (not-below f c.if-s-lt0.false))
 
-returns-2 : tie.Need-returns-2
+returns-2 : tie.Need-returns-then-s-lt0
 returns-2 c =
     let s = c.before.before.before.args.s in
     let f = c.before.before.before.ranges.s in
-    to_z-of_z f ∙ sym (neg_ℤ-neg_ℤ s) ∙ ap neg_ℤ (abs-below s (is_below f c.if2.true))
-    ∙ penalty-other _ _ (λ e. c.before.if1.false (e ∙ sym (decision c.before.before)))
+    to_z-of_z f ∙ sym (neg_ℤ-neg_ℤ s) ∙ ap neg_ℤ (abs-below s (is_below f c.if-s-lt0.true))
+    ∙ penalty-other _ _ (λ e. c.before.if-v-hard.false (e ∙ sym (decision c.before.before)))
 
-returns-3 : tie.Need-returns-3
+returns-3 : tie.Need-returns-else-s-lt0
 returns-3 c =
     let s = c.before.before.before.args.s in
     let f = c.before.before.before.ranges.s in
-    let t = not-below f c.if2.false in
+    let t = not-below f c.if-s-lt0.false in
     neg_is f (fits-abs s f t) ∙ ap neg_ℤ (sym (pos-nat_abs s t))
-    ∙ penalty-other _ _ (λ e. c.before.if1.false (e ∙ sym (decision c.before.before)))
+    ∙ penalty-other _ _ (λ e. c.before.if-v-hard.false (e ∙ sym (decision c.before.before)))
 
-pub penalty-spec : {M : Type 1} → statement M
-penalty-spec = tie.close (tie.spec hard-requires returns sub-result returns-2 returns-3)
+pub penalty_spec : {M : Type 1} → statement M
+penalty_spec =
+    tie.close
+    (tie.spec
+    hard-requires
+    returns
+    sub-result
+    returns-2
+    returns-3)

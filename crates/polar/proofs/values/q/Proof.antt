@@ -17,35 +17,34 @@ magnitude-requires c κs = search rules
 magnitude-requires-2 : tie.Need-magnitude-requires-2
 magnitude-requires-2 c κs = search rules
 
-lesser-requires : tie.Need-lesser-requires
+lesser-requires : tie.Need-lesser-least-requires
 lesser-requires c κs = search rules
 
 -- the lesser magnitude, after the three calls
-least : (c : tie.After-lesser) → c.lesser.result ≡ min (nat_abs c.before.before.before.args.a) (nat_abs c.before.before.before.args.b)
+least : (c : tie.After-lesser-least) → c.lesser-least.result ≡ min (nat_abs c.before.before.before.args.a) (nat_abs c.before.before.before.args.b)
 least c =
-    let s = c.before.before.before in
-    omega (arith, c.before.before.magnitude.ensures ∙ ap nat_abs (to_z-of_z s.ranges.a), c.before.magnitude2.ensures ∙ ap nat_abs (to_z-of_z s.ranges.b))
+    omega (arith, c.before.before.magnitude.ensures ∙ ap nat_abs (to_z-of_z c.before.before.before.ranges.a), c.before.magnitude-2.ensures ∙ ap nat_abs (to_z-of_z c.before.before.before.ranges.b))
 
-cast-least : tie.Need-overflow-cast-least
-cast-least c = abs-fits (pos c.lesser.result) (omega (arith, least c))
+cast-least : tie.Need-overflow_cast-least
+cast-least c = abs-fits (pos c.lesser-least.result) (omega (arith, least c))
 
-sub-result : tie.Need-overflow-sub-result
+sub-result : tie.Need-overflow_sub-result
 sub-result c = neg-fits (cast-least c.before) (omega (arith, least c.before))
 
-returns : tie.Need-returns
+returns : tie.Need-returns-then-a-b
 returns c =
     let s = c.before.before.before.before.ranges in
     to_z-of_z (cast-least c.before) ∙ ap pos (least c.before)
-    ∙ Q-same _ _ (ap₂ beq (sym (below-zero s.a)) (sym (below-zero s.b)) ∙ c.if1.true)
+    ∙ Q-same _ _ (ap₂ beq (sym (below-zero s.a)) (sym (below-zero s.b)) ∙ c.if-a-b.true)
 
-returns-2 : tie.Need-returns-2
+returns-2 : tie.Need-returns-else-a-b
 returns-2 c =
     let s = c.before.before.before.before.ranges in
     neg_is (cast-least c.before) (omega (arith, least c.before)) ∙ ap (λ n. neg_ℤ (pos n)) (least c.before)
-    ∙ Q-other _ _ (ap₂ beq (sym (below-zero s.a)) (sym (below-zero s.b)) ∙ c.if1.false)
+    ∙ Q-other _ _ (ap₂ beq (sym (below-zero s.a)) (sym (below-zero s.b)) ∙ c.if-a-b.false)
 
-pub q-spec : {M : Type 1} → statement M
-q-spec =
+pub q_spec : {M : Type 1} → statement M
+q_spec =
     tie.close
     (tie.spec
     magnitude-requires

@@ -19,7 +19,7 @@ use Rattle.reading.proofs.Ended.{end-heights, end-word, end-spent}
 use Rattle.reading.proofs.run.finish.Statement.{statement}
 use Rattle.reading.proofs.run.finish.Tie as tie
 
-slot-of-requires : tie.Need-slot-of-requires
+slot-of-requires : tie.Need-slot_of-slot-requires
 slot-of-requires c κs = search rules
 
 -- the memory at the call, and a path in hand there
@@ -36,80 +36,87 @@ hand-row s q z =
     let low = slot-low s.requires.1.2.hand.stands in
     (omega (arith, low, s.requires.0.0.few), omega (arith, low, s.requires.0.0.rows))
 
-word-of-requires : tie.Need-word-of-requires
-word-of-requires c κs = hand-row c.before.before.before.before c.before.slot_of.ensures.0 refl
+word-of-requires : tie.Need-word_of-word-requires
+word-of-requires c κs = hand-row c.before.before.before c.slot_of-slot.ensures.0 refl
 
 commit-requires : tie.Need-commit-requires
 commit-requires c κs =
-    let t = c.before.before.before.before.before in
-    let s = t.before.before.before in
-    let r = t.slot_of.ensures in
-    let h = s.requires.1.2 in
+    let r = c.before.before.before.before.slot_of-slot.ensures in
+    let h = c.before.before.before.before.before.before.before.requires.1.2 in
     let l = end-heights h r.0 in
-    ((s.requires.0.0.has, hand-row s r.0 refl, l.0, l.1), own-viewed h.hand s.requires.0.0.enough r.0 h.valid h.own)
+    ((c.before.before.before.before.before.before.before.requires.0.0.has, hand-row c.before.before.before.before.before.before.before r.0 refl, l.0, l.1), own-viewed h.hand c.before.before.before.before.before.before.before.requires.0.0.enough r.0 h.valid h.own)
 
 -- once the word is in the sums: where it began, the slot, and what the path sees
 abbrev start : tie.After-commit → tie.Start
-start u = u.before.before.before.before.before.before.before.before.before
+start u = u.before.before.before.before.before.before.before.before
 
-abbrev slot : tie.After-commit → tie.After-slot-of
-slot u = u.before.before.before.before.before.before
+abbrev slot : tie.After-commit → tie.After-slot_of-slot
+slot u = u.before.before.before.before.before
 
 abbrev summed : tie.After-commit → Memory
 summed u = memory u.commit.new.0 u.commit.new.1.0 (start u).args.numbers.now u.commit.new.1.1.1.0
 
 -- the slot's row is there
-row-there : (u : tie.After-commit) → HasRow (slot u).slot_of.result u.commit.new.0
-row-there u = hand-row (start u) (slot u).slot_of.ensures.0 u.commit.ensures.0.1.size
+row-there : (u : tie.After-commit) → HasRow (slot u).slot_of-slot.result u.commit.new.0
+row-there u = hand-row (start u) (slot u).slot_of-slot.ensures.0 u.commit.ensures.0.1.size
 
 sum-seen : (u : tie.After-commit) {es vs : List ℕ} (c : Hand (start u) es vs) →
-    Seen (start u).args.m (start u).args.arrays (slot u).slot_of.result (summed u) (ids_of c.hand.rest) (committed c.hand)
+    Seen (start u).args.m (start u).args.arrays (slot u).slot_of-slot.result (summed u) (ids_of c.hand.rest) (committed c.hand)
 unfolding memory
-sum-seen u c = commit-seen c.hand (start u).requires.0.0.enough (slot u).slot_of.ensures.0 c.valid c.own (summed u) _ u.before.before.before.before.word_of.ensures u.commit.ensures.1
+sum-seen u c = commit-seen c.hand (start u).requires.0.0.enough (slot u).slot_of-slot.ensures.0 c.valid c.own (summed u) _ u.before.before.before.before.word_of-word.ensures u.commit.ensures.1
 
 -- the row's spent and cost
 row-spent : (u : tie.After-commit) {es vs : List ℕ} (c : Hand (start u) es vs) →
-    let i = (slot u).slot_of.result in
+    let i = (slot u).slot_of-slot.result in
     (cell u.commit.new.0 i spent_at ≡ c.hand.taken.spent) × (cell u.commit.new.0 i cost_at ≡ c.hand.taken.cost)
 unfolding memory
-row-spent u c = end-spent c (slot u).slot_of.ensures.0 (start u).requires.0.0.has.deep u.commit.new.0 u.commit.ensures.0.1
+row-spent u c = end-spent c (slot u).slot_of-slot.ensures.0 (start u).requires.0.0.has.deep u.commit.new.0 u.commit.ensures.0.1
 
-add-t22 : tie.Need-overflow-add-t22
+add-t22 : tie.Need-overflow_add-counts
 add-t22 c = search rules
 
-spent-of-requires : tie.Need-spent-of-requires
-spent-of-requires c κs = row-there c.before.before.before.before.before.before
+spent-of-requires : tie.Need-spent_of-requires
+spent-of-requires c κs = row-there c.before.before.before.before.before
 
-cost-of-requires : tie.Need-cost-of-requires
-cost-of-requires c κs = row-there c.before.before.before.before.before.before.before.before
+cost-of-requires : tie.Need-cost_of-requires
+cost-of-requires c κs = row-there c.before.before.before.before.before.before
 
-add-t29 : tie.Need-overflow-add-t29
+add-t29 : tie.Need-overflow_add-counts-2
 add-t29 c =
-    let u = c.before.before.before.before.before.before.before.before.before in
-    let h = (start u).requires.1.2 in
-    omega (arith, c.before.before.spent-of.ensures, c.cost-of.ensures, (row-spent u h).0, (row-spent u h).1, h.own.fit.total)
+    let h = (start c.before.before.before.before.before.before.before).requires.1.2 in
+    omega (arith, c.before.spent_of.ensures, c.cost_of.ensures, (row-spent c.before.before.before.before.before.before.before h).0, (row-spent c.before.before.before.before.before.before.before h).1, h.own.fit.total)
 
-id-of-requires : tie.Need-id-of-requires
+id-of-requires : tie.Need-id_of-requires
 unfolding memory
-id-of-requires c κs = let u = c.before.before.before.before.before.before.before.before.before.before in (row-there u, (start u).requires.0.0.has.deep)
+id-of-requires c κs = (row-there c.before.before.before.before.before.before.before, (start c.before.before.before.before.before.before.before).requires.0.0.has.deep)
 
-same_length : tie.Need-same-length
+same_length : tie.Need-shape_of-rows
 same_length c = search rules
 
 returns : tie.Need-returns
 unfolding memory
 returns c =
-    let u = c.before.before.before.before.before.before.before.before.before.before.before in
-    let t = (start u).args.t in
+    let t = (start c.before.before.before.before.before.before.before.before).args.t in
     λ es vs h.
-    let sum = ap₂ (λ (a b : ℕ). a + b) (c.before.before.before.before.spent-of.ensures ∙ (row-spent u h).0) (c.before.before.cost-of.ensures ∙ (row-spent u h).1) in
-    let w = end-word h (slot u).slot_of.ensures.0 (summed u) (sum-seen u h) c.id-of.result c.id-of.ensures in
+    let sum = ap₂ (λ (a b : ℕ). a + b) (c.before.before.spent_of.ensures ∙ (row-spent c.before.before.before.before.before.before.before.before h).0) (c.before.cost_of.ensures ∙ (row-spent c.before.before.before.before.before.before.before.before h).1) in
+    let w = end-word h (slot c.before.before.before.before.before.before.before.before).slot_of-slot.ensures.0 (summed c.before.before.before.before.before.before.before.before) (sum-seen c.before.before.before.before.before.before.before.before h) c.id_of.result c.id_of.ensures in
     (λ i. record { extractions = t.extractions + 1; crowded = t.crowded; outrun = t.outrun; discrepancy = sum i }, w.0, w.1)
 
-same-length-2 : tie.Need-same-length-2
+same-length-2 : tie.Need-shape_of-bytes
 same-length-2 c = search rules
 
 pub finish_spec : {M : Type 1} → statement M
 finish_spec =
     tie.close
-    (tie.spec slot-of-requires word-of-requires commit-requires add-t22 spent-of-requires cost-of-requires add-t29 id-of-requires same_length same-length-2 returns)
+    (tie.spec
+    slot-of-requires
+    word-of-requires
+    commit-requires
+    add-t22
+    spent-of-requires
+    cost-of-requires
+    add-t29
+    id-of-requires
+    same_length
+    same-length-2
+    returns)

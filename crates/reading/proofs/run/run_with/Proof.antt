@@ -31,63 +31,61 @@ input s = s.requires.1.1.1.1.1
 most-fits : (s : tie.Start) → s.args.s.visits * s.args.x.blocks ≤ 32 * 512
 most-fits s = mul-le-mul s.requires.1.0.visits (run-blocks (input s)).1
 
-mul_most : tie.Need-overflow-mul-most
+mul_most : tie.Need-overflow_mul-most
 mul_most c = omega (arith, most-fits c.before.before.before.before.before)
 
-add_most : tie.Need-overflow-add-most
+add_most : tie.Need-overflow_add-most
 add_most c = omega (arith, most-fits c.before.before.before.before.before)
 
-extractions-requires : tie.Need-extractions-requires
+extractions-requires : tie.Need-extractions-stage-requires
 extractions-requires c κs =
-    let s = c.before.before.before.before.before.before.before.before.before.before.before.before.before.before.before.before in
-    (s.requires.0, ((refl {a = replicate 2580 0}, length-replicate {A = ℕ} 256 0, length-replicate {A = ℕ} 256 0, refl {a = replicate 512 0}), s.requires.1))
+    (c.before.before.before.before.before.before.before.before.before.before.before.before.before.before.before.before.requires.0, ((refl {a = replicate 2580 0}, length-replicate {A = ℕ} 256 0, length-replicate {A = ℕ} 256 0, refl {a = replicate 512 0}), c.before.before.before.before.before.before.before.before.before.before.before.before.before.before.before.before.requires.1))
 
 -- ---- once the extractions are made
 
 -- where they began
-abbrev began : tie.After-extractions → tie.Start
+abbrev began : tie.After-extractions-stage → tie.Start
 began c = c.before.before.before.before.before.before.before.before.before.before.before.before.before.before.before.before.before
 
 -- the memory then
-abbrev left : tie.After-extractions → Memory
-left c = memory c.extractions.new.1.0 c.extractions.new.1.1.0 c.extractions.new.1.1.1.1.1.1.1.1.1.1.1.1.1.1.1.1.0 c.extractions.new.1.1.1.1.1.1.1.1.1.1.1.1.1.1.1.1.1.0
+abbrev left : tie.After-extractions-stage → Memory
+left c = memory c.extractions-stage.new.1.0 c.extractions-stage.new.1.1.0 c.extractions-stage.new.1.1.1.1.1.1.1.1.1.1.1.1.1.1.1.1.0 c.extractions-stage.new.1.1.1.1.1.1.1.1.1.1.1.1.1.1.1.1.1.0
 
 -- what their contract says
-abbrev stopped : (c : tie.After-extractions) (r : Input (began c)) → let a = (began c).args in
+abbrev stopped : (c : tie.After-extractions-stage) (r : Input (began c)) → let a = (began c).args in
     Before r.book a.s.visits a.s.paths a.arrays (arrays_of a.x.m (received a.x.m a.values.now a.numbers.now) a.bytes.now) (a.s.visits * a.x.blocks + 1)
-    (left c) c.extractions.new.1.1.1.0 c.extractions.new.1.1.1.1.0 c.extractions.new.1.1.1.1.1.0 c.extractions.new.1.1.1.1.1.1.0 c.extractions.result.tally c.extractions.result.entry
-    a.walk-path.now a.walk-blocks.now a.walk-score.now c.extractions.new.1.1.1.1.1.1.1.1.1.1.1.1.1.1.1.1.1.1.0 c.extractions.new.1.1.1.1.1.1.1.1.1.1.1.1.1.1.1.1.1.1.1.0 c.extractions.new.1.1.1.1.1.1.1.1.1.1.1.1.1.1.1.1.1.1.1.1.0
-stopped c r = c.extractions.ensures.1 r
+    (left c) c.extractions-stage.new.1.1.1.0 c.extractions-stage.new.1.1.1.1.0 c.extractions-stage.new.1.1.1.1.1.0 c.extractions-stage.new.1.1.1.1.1.1.0 c.extractions-stage.result.tally c.extractions-stage.result.entry
+    a.walk-path.now a.walk-blocks.now a.walk-score.now c.extractions-stage.new.1.1.1.1.1.1.1.1.1.1.1.1.1.1.1.1.1.1.0 c.extractions-stage.new.1.1.1.1.1.1.1.1.1.1.1.1.1.1.1.1.1.1.1.0 c.extractions-stage.new.1.1.1.1.1.1.1.1.1.1.1.1.1.1.1.1.1.1.1.1.0
+stopped c r = c.extractions-stage.ensures.1 r
 
 -- no run has as many before its end
-fewer : (c : tie.After-extractions) → c.extractions.result.tally.extractions < (began c).args.s.visits * (began c).args.x.blocks + 1
+fewer : (c : tie.After-extractions-stage) → c.extractions-stage.result.tally.extractions < (began c).args.s.visits * (began c).args.x.blocks + 1
 unfolding most_extractions
 fewer c = stop-left (input (began c)) (stopped c (input (began c)))
 
 -- the received values are at the root of the arrays that they start from
-root : (c : tie.After-extractions) → let a = (began c).args in
+root : (c : tie.After-extractions-stage) → let a = (began c).args in
     (arrays_of a.x.m (received a.x.m a.values.now a.numbers.now) a.bytes.now).vals a.x.m 1 ≡ a.values.now
 root c =
     let s = began c in
     let a = s.args in
-    received-root a.x.m a.arrays a.values.now a.numbers.now s.pre.1.1.1.0.0 (omega (arith, s.pre.1.0.alive, s.pre.1.1.1.0.2)) (input s).size a.bytes.now
+    received-root a.x.m a.arrays a.values.now a.numbers.now s.requires.1.1.1.0.0 (omega (arith, s.requires.1.0.alive, s.requires.1.1.1.0.2)) (input s).size a.bytes.now
 
-cast-note : tie.Need-overflow-cast-note
+cast-note : tie.Need-overflow_cast-t
 cast-note c = search rules
 
 note-requires : tie.Need-note-requires
 note-requires c κs =
-    let x = c.before.before.before.before.before.before.before.before.before.before.before.before.before.before.before in
-    let g = stopped x (input (began x)) in
-    let l = stop-left (input (began x)) g in
-    let w = (began x).requires.1.1.1.1.0 in (
-      omega (arith, l, w.0, c.before.before.before.before.before.before.before.walk-path.given),
-      omega (arith, l, w.1, c.before.before.before.before.before.before.walk-blocks.given),
-      omega (arith, l, w.2, c.before.before.before.before.before.walk-score.given),
-      stop-small (input (began x)) g,
+    let g = stopped c.before.before.before.before.before.before.before.before.before.before.before.before.before.before.before (input (began c.before.before.before.before.before.before.before.before.before.before.before.before.before.before.before)) in
+    let l = stop-left (input (began c.before.before.before.before.before.before.before.before.before.before.before.before.before.before.before)) g in
+    let w = (began c.before.before.before.before.before.before.before.before.before.before.before.before.before.before.before).requires.1.1.1.1.0 in (
+      omega (arith, l, w.0, c.before.before.before.before.before.before.before.walk_path-1.given),
+      omega (arith, l, w.1, c.before.before.before.before.before.before.walk_blocks-1.given),
+      omega (arith, l, w.2, c.before.before.before.before.before.walk_score-1.given),
+      stop-small (input (began c.before.before.before.before.before.before.before.before.before.before.before.before.before.before.before)) g,
     )
 
-cast-before : tie.Need-overflow-cast-before
+cast-before : tie.Need-overflow_cast-x
 cast-before c = search rules
 
 before-requires : tie.Need-before-requires
@@ -96,83 +94,99 @@ before-requires c κs = tt
 -- ---- the end
 
 -- the extractions, from where the last block is asked for
-abbrev made : tie.After-before2 → tie.After-extractions
+abbrev made : tie.After-before-2 → tie.After-extractions-stage
 made c = c.before.before.before.before.before.before.before.before.before.before.before.before.before.before.before.before.before.before.before.before.before
 
-block-at-requires : tie.Need-block-at-requires
+block-at-requires : tie.Need-block_at-last-requires
 block-at-requires c κs =
     let s = began (made c) in
-    let f = table_fits (input s) c.before2.result (omega (arith, c.before2.ensures, (run-blocks (input s)).0)) in
-    let k = s.pre.1.1.0 in
+    let f = table_fits (input s) c.before-2.result (omega (arith, c.before-2.ensures, (run-blocks (input s)).0)) in
+    let k = s.requires.1.1.0 in
     ((k.0, k.1, k.2, f.0), (f.1, f.2))
 
 -- what the end needs for an input
-abbrev last-hand : (c : tie.After-block-at) (r : Input (began (made c.before))) → let x = made c.before in let a = (began x).args in let t = x.extractions.result.tally in
-    Ending a.x.m a.s.paths a.arrays (left x) x.extractions.result.entry (queue_of x.extractions.last.1.1.1.0 t.queued)
-    (queue_of x.extractions.last.1.1.1.1.0 (a.s.paths - (t.queued + 1))) c.block_at.result
+abbrev last-hand : (c : tie.After-block_at-last) (r : Input (began (made c.before))) → let x = made c.before in let a = (began x).args in let t = x.extractions-stage.result.tally in
+    Ending a.x.m a.s.paths a.arrays (left x) x.extractions-stage.result.entry (queue_of x.extractions-stage.last.1.1.1.0 t.queued)
+    (queue_of x.extractions-stage.last.1.1.1.1.0 (a.s.paths - (t.queued + 1))) c.block_at-last.result
 last-hand c r =
-    stop-ending r (stopped (made c.before) r) (fewer (made c.before)) (root (made c.before)) (began (made c.before)).requires.1.0.alive c.block_at.result c.before.before2.result c.before.before2.ensures c.block_at.ensures
+    stop-ending r (stopped (made c.before) r) (fewer (made c.before)) (root (made c.before)) (began (made c.before)).requires.1.0.alive c.block_at-last.result c.before.before-2.result c.before.before-2.ensures c.block_at-last.ensures
 
-cast-finish : tie.Need-overflow-cast-finish
-cast-finish c = record { fits = omega (arith, run-deep (input (began (made c.before.before.before.before.before.before)))) }
+cast-finish : tie.Need-overflow_cast-x-2
+cast-finish c = record { fits = omega (arith, run-deep (input (began (made c.before.before.before.before.before)))) }
 
 finish-requires : tie.Need-finish-requires
 finish-requires c κs =
-    let u = c.before.before.before.before.before in
-    let x = made u.before in
+    let x = made c.before.before.before.before.before in
     let a = (began x).args in
-    let t = x.extractions.result.tally in (
-      (x.extractions.ensures.0, omega (arith, fewer x, most-fits (began x))),
-      (queue_of x.extractions.last.1.1.1.0 t.queued, queue_of x.extractions.last.1.1.1.1.0 (a.s.paths - (t.queued + 1)), last-hand u (input (began x))),
+    let t = x.extractions-stage.result.tally in (
+      (x.extractions-stage.ensures.0, omega (arith, fewer x, most-fits (began x))),
+      (queue_of x.extractions-stage.last.1.1.1.0 t.queued, queue_of x.extractions-stage.last.1.1.1.1.0 (a.s.paths - (t.queued + 1)), last-hand c.before.before.before.before (input (began x))),
     )
 
 -- the end's last call, and the extractions
-abbrev last-read : tie.After-finish → tie.After-block-at
-last-read c = c.before.before.before.before.before.before
+abbrev last-read : tie.After-finish → tie.After-block_at-last
+last-read c = c.before.before.before.before.before
 
 abbrev noted : tie.After-finish → tie.After-note
 noted c = (last-read c).before.before.before.before.before.before
 
-abbrev ran : tie.After-finish → tie.After-extractions
+abbrev ran : tie.After-finish → tie.After-extractions-stage
 ran c = made (last-read c).before
 
-same_length : tie.Need-same-length
-same_length c = let f = c.before.before.before.before in omega (arith, (noted f).before.before.before.before.before.before.before.before.before.before.before.before.before.before.before.rows.given, c.before.before.before.rows2.given)
+same_length : tie.Need-shape_of-rows
+same_length c = omega (arith, (noted c.before.before.before.before).before.before.before.before.before.before.before.before.before.before.before.before.before.before.before.rows-1.given, c.before.before.before.rows-2-1.given)
 
-same-length-2 : tie.Need-same-length-2
-same-length-2 c = let f = c.before.before.before.before in (noted f).before.before.before.before.before.before.before.before.before.before.before.before.before.kept.given
+same-length-2 : tie.Need-shape_of-kept
+same-length-2 c = (noted c.before.before.before.before).before.before.before.before.before.before.before.before.before.before.before.before.before.kept-1.given
 
-same-length-3 : tie.Need-same-length-3
-same-length-3 c = let f = c.before.before.before.before in (noted f).before.before.before.before.before.before.before.before.before.before.before.numbers.given
+same-length-3 : tie.Need-shape_of-numbers
+same-length-3 c = (noted c.before.before.before.before).before.before.before.before.before.before.before.before.before.before.before.numbers-1.given
 
-same-length-4 : tie.Need-same-length-4
-same-length-4 c = let f = c.before.before.before.before in omega (arith, (noted f).before.before.before.before.before.before.before.before.before.before.bytes.given, c.before.bytes2.given)
+same-length-4 : tie.Need-shape_of-bytes
+same-length-4 c = omega (arith, (noted c.before.before.before.before).before.before.before.before.before.before.before.before.before.before.bytes-1.given, c.before.bytes-2-1.given)
 
-same-length-5 : tie.Need-same-length-5
-same-length-5 c = let f = c.before.before.before.before in omega (arith, (noted f).before.before.before.before.before.before.before.before.walk-path.given, (last-read f).before.before.before.before.before.walk-path2.given)
+same-length-5 : tie.Need-shape_of-walk_path
+same-length-5 c = omega (arith, (noted c.before.before.before.before).before.before.before.before.before.before.before.before.walk_path-1.given, (last-read c.before.before.before.before).before.before.before.before.before.walk_path-2-1.given)
 
-same-length-6 : tie.Need-same-length-6
-same-length-6 c = let f = c.before.before.before.before in omega (arith, (noted f).before.before.before.before.before.before.before.walk-blocks.given, (last-read f).before.before.before.before.walk-blocks2.given)
+same-length-6 : tie.Need-shape_of-walk_blocks
+same-length-6 c = omega (arith, (noted c.before.before.before.before).before.before.before.before.before.before.before.walk_blocks-1.given, (last-read c.before.before.before.before).before.before.before.before.walk_blocks-2-1.given)
 
-same-length-7 : tie.Need-same-length-7
-same-length-7 c = let f = c.before.before.before.before in omega (arith, (noted f).before.before.before.before.before.before.walk-score.given, (last-read f).before.before.before.walk-score2.given)
+same-length-7 : tie.Need-shape_of-walk_score
+same-length-7 c = omega (arith, (noted c.before.before.before.before).before.before.before.before.before.before.walk_score-1.given, (last-read c.before.before.before.before).before.before.before.walk_score-2-1.given)
 
 returns : tie.Need-returns
 returns c r =
-    let f = c.before.before.before.before in
-    let u = last-read f in
-    let x = ran f in
+    let u = last-read c.before.before.before.before in
+    let x = ran c.before.before.before.before in
     let s = began x in
-    let n = noted f in
-    let w = stop-walks r (stopped x r) (fewer x) s.pre.1.1.1.1.0
+    let n = noted c.before.before.before.before in
+    let w = stop-walks r (stopped x r) (fewer x) s.requires.1.1.1.1.0
     (record { path-set = n.note.ensures.0; blocks-set = n.note.ensures.1; score-set = n.note.ensures.2 }) in (
-      stop-ran r (stopped x r) (fewer x) f.finish.result f.finish.new.1.1.1.0 (f.finish.ensures _ _ (last-hand u r)),
+      stop-ran r (stopped x r) (fewer x) c.before.before.before.before.finish.result c.before.before.before.before.finish.new.1.1.1.0 (c.before.before.before.before.finish.ensures _ _ (last-hand u r)),
       w.path-is,
       w.blocks_is,
       w.score-is,
     )
 
-pub run-with-spec : {M : Type 1} → statement M
-run-with-spec =
+pub run_with_spec : {M : Type 1} → statement M
+run_with_spec =
     tie.close
-    (tie.spec mul_most add_most extractions-requires cast-note note-requires cast-before before-requires block-at-requires cast-finish finish-requires same_length same-length-2 same-length-3 same-length-4 same-length-5 same-length-6 same-length-7 returns)
+    (tie.spec
+    mul_most
+    add_most
+    extractions-requires
+    cast-note
+    note-requires
+    cast-before
+    before-requires
+    block-at-requires
+    cast-finish
+    finish-requires
+    same_length
+    same-length-2
+    same-length-3
+    same-length-4
+    same-length-5
+    same-length-6
+    same-length-7
+    returns)

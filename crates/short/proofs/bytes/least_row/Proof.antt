@@ -27,55 +27,50 @@ unfolding low-key
 low_small c = omega (arith, low-is c, key-least (low-key c) 16 0 (omega arith), c.requires.1 0 (omega arith))
 
 -- the least from the bound on
-key-is : (c : tie.After-least-key) → let s = c.before.before in c.least-key.result ≡ least_key (low-key s) (s.args.bound - s.args.add) 16
+key-is : (c : tie.After-least_key-key) → c.least_key-key.result ≡ least_key (low-key c.before.before) (c.before.before.args.bound - c.before.before.args.add) 16
 unfolding low-key
 key-is c =
-    let s = c.before.before in
-    c.least-key.ensures ∙ key-first s.args.halves.now (s.args.bound - s.args.add) s.args.side ∙ ap (least_key (low-key s) (s.args.bound - s.args.add)) s.requires.0
+    c.least_key-key.ensures ∙ key-first c.before.before.args.halves.now (c.before.before.args.bound - c.before.before.args.add) c.before.before.args.side ∙ ap (least_key (low-key c.before.before) (c.before.before.args.bound - c.before.before.args.add)) c.before.before.requires.0
 
-add-if1 : tie.Need-overflow-add-if1
+add-if1 : tie.Need-overflow_add-low
 add-if1 c = omega (arith, low_small c, c.requires.2)
 
-add-result : tie.Need-overflow-add-result
+add-result : tie.Need-overflow_add-result
 add-result c = omega (arith, low_small c.before, c.before.requires.2)
 
-returns : tie.Need-returns
+returns : tie.Need-returns-then-bound-low
 unfolding low-key
 returns c =
-    let s = c.before in
-    ap (λ x. x + s.args.add) (low-is s) ∙ lifted-all (low-key s) s.args.add s.args.bound 16 (omega arith) (sums-fit s) (omega (arith, low-is s))
+    ap (λ x. x + c.before.args.add) (low-is c.before) ∙ lifted-all (low-key c.before) c.before.args.add c.before.args.bound 16 (omega arith) (sums-fit c.before) (omega (arith, low-is c.before))
 
-sub-least-key : tie.Need-overflow-sub-least-key
+sub-least-key : tie.Need-overflow_sub-bound
 sub-least-key c = search rules
 
-least-key-requires : tie.Need-least-key-requires
+least-key-requires : tie.Need-least_key-key-requires
 least-key-requires c κs = search rules
 
-returns-2 : tie.Need-returns-2
+returns-2 : tie.Need-returns-then-key
 unfolding low-key
 returns-2 c =
-    let s = c.before.before.before in
-    let k = c.before.least-key.result in
-    c.if2.true ∙ sym (key-lifted (low-key s) s.args.add s.args.bound 16 (sums-fit s) ∙ ap (lifted s.args.add) (sym (key-is c.before)) ∙ lifted-none s.args.add k (omega arith))
+    let k = c.before.least_key-key.result in
+    c.if-key.true ∙ sym (key-lifted (low-key c.before.before.before) c.before.before.before.args.add c.before.before.before.args.bound 16 (sums-fit c.before.before.before) ∙ ap (lifted c.before.before.before.args.add) (sym (key-is c.before)) ∙ lifted-none c.before.before.before.args.add k (omega arith))
 
-add-result-2 : tie.Need-overflow-add-result-2
+add-result-2 : tie.Need-overflow_add-result-2
 unfolding low-key
 add-result-2 c =
-    let s = c.before.before.before in
-    let k = c.before.least-key.result in
-    let b = s.args.bound - s.args.add in
-    omega (arith, s.requires.2, key-is c.before, key-le (low-key s) b 16, key-small (low-key s) b 16 1073217776 (λ w l. s.requires.1 w (omega arith)) (omega (arith, key-is c.before, key-le (low-key s) b 16)))
+    let k = c.before.least_key-key.result in
+    let b = c.before.before.before.args.bound - c.before.before.before.args.add in
+    omega (arith, c.before.before.before.requires.2, key-is c.before, key-le (low-key c.before.before.before) b 16, key-small (low-key c.before.before.before) b 16 1073217776 (λ w l. c.before.before.before.requires.1 w (omega arith)) (omega (arith, key-is c.before, key-le (low-key c.before.before.before) b 16)))
 
-returns-3 : tie.Need-returns-3
+returns-3 : tie.Need-returns
 unfolding low-key
 returns-3 c =
-    let s = c.before.before.before in
-    let k = c.before.least-key.result in
-    let b = s.args.bound - s.args.add in
-    sym (key-lifted (low-key s) s.args.add s.args.bound 16 (sums-fit s) ∙ ap (lifted s.args.add) (sym (key-is c.before)) ∙ lifted-key s.args.add k (omega (arith, key-is c.before, key-le (low-key s) b 16)))
+    let k = c.before.least_key-key.result in
+    let b = c.before.before.before.args.bound - c.before.before.before.args.add in
+    sym (key-lifted (low-key c.before.before.before) c.before.before.before.args.add c.before.before.before.args.bound 16 (sums-fit c.before.before.before) ∙ ap (lifted c.before.before.before.args.add) (sym (key-is c.before)) ∙ lifted-key c.before.before.before.args.add k (omega (arith, key-is c.before, key-le (low-key c.before.before.before) b 16)))
 
-pub least-row-spec : {M : Type 1} → statement M
-least-row-spec =
+pub least_row_spec : {M : Type 1} → statement M
+least_row_spec =
     tie.close
     (tie.spec
     add-if1

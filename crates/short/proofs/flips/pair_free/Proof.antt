@@ -9,35 +9,38 @@ use Rattle.short.proofs.Answers.{keys-fit, free-answers}
 use Rattle.short.proofs.flips.pair_free.Statement.{statement}
 use Rattle.short.proofs.flips.pair_free.Tie as tie
 
-lead-requires : tie.Need-lead-requires
+lead-requires : tie.Need-lead-x-requires
 lead-requires c κs = search rules
 
 -- what is led
-led-is : (c : tie.After-lead) → let a = c.before.args in Led 1 (part a.at 8 a.numbers.now) c.lead.result
+led-is : (c : tie.After-lead-x) → let a = c.before.args in Led 1 (part a.at 8 a.numbers.now) c.lead-x.result
 led-is c =
     let a = c.before.args in
     let l = part a.at 8 a.numbers.now in
-    subst (Led 1 l) (sym c.lead.ensures) (led-all 0 l (omega (arith, part_length a.at 8 a.numbers.now c.before.requires.0)) c.before.requires.1)
+    subst (Led 1 l) (sym c.lead-x.ensures) (led-all 0 l (omega (arith, part_length a.at 8 a.numbers.now c.before.requires.0)) c.before.requires.1)
 
-byte-with-requires : tie.Need-byte-with-requires
+byte-with-requires : tie.Need-byte_with-requires
 byte-with-requires c κs = search rules
 
-add-byte-with : tie.Need-overflow-add-byte-with
+add-byte-with : tie.Need-overflow_add-x
 add-byte-with c =
-    let s = c.before.before.before in
-    let a = s.args in
-    omega (arith, (keys-fit (part_length a.at 8 a.numbers.now s.requires.0) (led-is c.before.before) s.requires.1).0)
+    let a = c.before.before.before.args in
+    omega (arith, (keys-fit (part_length a.at 8 a.numbers.now c.before.before.before.requires.0) (led-is c.before.before) c.before.before.before.requires.1).0)
 
-byte-with-requires-2 : tie.Need-byte-with-requires-2
+byte-with-requires-2 : tie.Need-byte_with-requires-2
 byte-with-requires-2 c κs = search rules
 
 returns : tie.Need-returns
 returns c = λ e k.
-    let s = c.before.before.before.before in
-    let a = s.args in
-    free-answers (part_length a.at 8 a.numbers.now s.requires.0) (led-is c.before.before.before) k _ _ c.before.before.byte-with.ensures c.byte-with2.ensures
+    let a = c.before.before.before.before.args in
+    free-answers (part_length a.at 8 a.numbers.now c.before.before.before.before.requires.0) (led-is c.before.before.before) k _ _ c.before.before.byte_with.ensures c.byte_with-2.ensures
 
-pub pair-free-spec : {M : Type 1} → statement M
-pair-free-spec =
+pub pair_free_spec : {M : Type 1} → statement M
+pair_free_spec =
     tie.close
-    (tie.spec lead-requires byte-with-requires add-byte-with byte-with-requires-2 returns)
+    (tie.spec
+    lead-requires
+    byte-with-requires
+    add-byte-with
+    byte-with-requires-2
+    returns)

@@ -11,52 +11,52 @@ use Rattle.standing.proofs.Cells.{store-next, store-read}
 use Rattle.standing.proofs.row.put.Statement.{statement}
 use Rattle.standing.proofs.row.put.Tie as tie
 
-mul_at : tie.Need-overflow-mul-at
+mul_at : tie.Need-overflow_mul-at
 mul_at c = search rules
 
-add-rows : tie.Need-overflow-add-rows
+add-rows : tie.Need-overflow_add-rows
 add-rows c = search rules
 
-mul-rows : tie.Need-overflow-mul-rows
+mul-rows : tie.Need-offset_bounds-rows-at
 mul-rows c = search rules
 
-slice-write-rows : tie.Need-slice-write-rows
+slice-write-rows : tie.Need-bounds-rows-at
 slice-write-rows c = search rules
 
-add-rows-2 : tie.Need-overflow-add-rows-2
+add-rows-2 : tie.Need-overflow_add-rows-2
 add-rows-2 c = search rules
 
-mul-rows-2 : tie.Need-overflow-mul-rows-2
+mul-rows-2 : tie.Need-offset_bounds-rows-at-2
 mul-rows-2 c = search rules
 
-slice-write-rows-2 : tie.Need-slice-write-rows-2
+slice-write-rows-2 : tie.Need-bounds-rows-at-2
 slice-write-rows-2 c = simp length-set (omega arith)
 
-add-rows-3 : tie.Need-overflow-add-rows-3
+add-rows-3 : tie.Need-overflow_add-rows-3
 add-rows-3 c = search rules
 
-mul-rows-3 : tie.Need-overflow-mul-rows-3
+mul-rows-3 : tie.Need-offset_bounds-rows-at-3
 mul-rows-3 c = search rules
 
-slice-write-rows-3 : tie.Need-slice-write-rows-3
+slice-write-rows-3 : tie.Need-bounds-rows-at-3
 slice-write-rows-3 c = simp length-set (omega arith)
 
-add-rows-4 : tie.Need-overflow-add-rows-4
+add-rows-4 : tie.Need-overflow_add-rows-4
 add-rows-4 c = search rules
 
-mul-rows-4 : tie.Need-overflow-mul-rows-4
+mul-rows-4 : tie.Need-offset_bounds-rows-at-4
 mul-rows-4 c = search rules
 
-slice-write-rows-4 : tie.Need-slice-write-rows-4
+slice-write-rows-4 : tie.Need-bounds-rows-at-4
 slice-write-rows-4 c = simp length-set (omega arith)
 
-add-rows-5 : tie.Need-overflow-add-rows-5
+add-rows-5 : tie.Need-overflow_add-rows-5
 add-rows-5 c = search rules
 
-mul-rows-5 : tie.Need-overflow-mul-rows-5
+mul-rows-5 : tie.Need-offset_bounds-rows-at-5
 mul-rows-5 c = search rules
 
-slice-write-rows-5 : tie.Need-slice-write-rows-5
+slice-write-rows-5 : tie.Need-bounds-rows-at-5
 slice-write-rows-5 c = simp length-set (omega arith)
 
 -- the five numbers
@@ -85,10 +85,28 @@ returns c =
       after = λ k h. all.after k (omega arith);
     }
 
-same_length : tie.Need-same-length
+same_length : tie.Need-shape_of-rows
 same_length c = simp length-set refl
 
 pub put_spec : {M : Type 1} → statement M
 put_spec =
     tie.close
-    (tie.spec mul_at add-rows mul-rows slice-write-rows add-rows-2 mul-rows-2 slice-write-rows-2 add-rows-3 mul-rows-3 slice-write-rows-3 add-rows-4 mul-rows-4 slice-write-rows-4 add-rows-5 mul-rows-5 slice-write-rows-5 same_length returns)
+    (tie.spec
+    mul_at
+    add-rows
+    mul-rows
+    slice-write-rows
+    add-rows-2
+    mul-rows-2
+    slice-write-rows-2
+    add-rows-3
+    mul-rows-3
+    slice-write-rows-3
+    add-rows-4
+    mul-rows-4
+    slice-write-rows-4
+    add-rows-5
+    mul-rows-5
+    slice-write-rows-5
+    same_length
+    returns)

@@ -20,7 +20,7 @@ use Rattle.steps.proofs.Forks.{fork-blocks, fork-total, fork-bias, made, fork-en
 use Rattle.steps.proofs.copies.fork.Statement.{statement}
 use Rattle.steps.proofs.copies.fork.Tie as tie
 
-slot-of-requires : tie.Need-slot-of-requires
+slot-of-requires : tie.Need-slot_of-slot-requires
 slot-of-requires c κs = search rules
 
 -- the memory where the call began, and a state that it stands for
@@ -40,31 +40,31 @@ row-there : (s : tie.Start) {i : ℕ} → i ≡ slot_at s.args.e → HasRow i s.
 unfolding memory
 row-there s q = let l = s.requires.0.0 in let k = fork-slot (own s) in (omega (arith, k, l.few), omega (arith, k, l.rows))
 
-spent-of-requires : tie.Need-spent-of-requires
-spent-of-requires c κs = row-there c.before.before.before.before.before.before c.before.before.slot_of.ensures.0
+spent-of-requires : tie.Need-spent_of-spent-requires
+spent-of-requires c κs = row-there c.before.before.before.before.before c.before.slot_of-slot.ensures.0
 
-earlier-of-requires : tie.Need-earlier-of-requires
-earlier-of-requires c κs = row-there c.before.before.before.before.before.before.before.before c.before.before.before.before.slot_of.ensures.0
+earlier-of-requires : tie.Need-earlier_of-earlier-requires
+earlier-of-requires c κs = row-there c.before.before.before.before.before.before c.before.before.slot_of-slot.ensures.0
 
 -- the slot, and the cells read
-abbrev start : tie.After-earlier-of → tie.Start
-start c = c.before.before.before.before.before.before.before.before.before
+abbrev start : tie.After-earlier_of-earlier → tie.Start
+start c = c.before.before.before.before.before.before.before
 
-abbrev cell-of : tie.After-earlier-of → ℕ → ℕ
+abbrev cell-of : tie.After-earlier_of-earlier → ℕ → ℕ
 cell-of c f = cell (at-start (start c)).rows (slot_at (start c).args.e) f
 
-slot_is : (c : tie.After-earlier-of) → c.before.before.before.before.before.slot_of.result ≡ slot_at (start c).args.e
-slot_is c = c.before.before.before.before.before.slot_of.ensures.0
+slot_is : (c : tie.After-earlier_of-earlier) → c.before.before.before.slot_of-slot.result ≡ slot_at (start c).args.e
+slot_is c = c.before.before.before.slot_of-slot.ensures.0
 
-spent-is : (c : tie.After-earlier-of) → c.before.before.spent-of.result ≡ cell-of c spent_at
+spent-is : (c : tie.After-earlier_of-earlier) → c.before.spent_of-spent.result ≡ cell-of c spent_at
 unfolding memory
-spent-is c = c.before.before.spent-of.ensures ∙ ap (λ i. cell (start c).args.rows.now i spent_at) (slot_is c)
+spent-is c = c.before.spent_of-spent.ensures ∙ ap (λ i. cell (start c).args.rows.now i spent_at) (slot_is c)
 
-earlier-is : (c : tie.After-earlier-of) → c.earlier-of.result ≡ cell-of c earlier_at
+earlier-is : (c : tie.After-earlier_of-earlier) → c.earlier_of-earlier.result ≡ cell-of c earlier_at
 unfolding memory
-earlier-is c = c.earlier-of.ensures ∙ ap (λ i. cell (start c).args.rows.now i earlier_at) (slot_is c)
+earlier-is c = c.earlier_of-earlier.ensures ∙ ap (λ i. cell (start c).args.rows.now i earlier_at) (slot_is c)
 
-bias-back : (c : tie.After-earlier-of) → back (start c).args.last.bias ≡ (start c).args.last.bias
+bias-back : (c : tie.After-earlier_of-earlier) → back (start c).args.last.bias ≡ (start c).args.last.bias
 unfolding memory
 bias-back c = to_z-of_z (abs-fits _ (omega (arith, fork-bias (own (start c)))))
 
@@ -75,11 +75,11 @@ score-requires c κs = (omega (arith, spent-is c, fork-total (own (start c))), r
 score-back : (c : tie.After-score) → back c.score.result ≡ c.score.result
 score-back c = to_z-of_z (abs-fits _ (omega (arith, c.score.ensures.1)))
 
-entry-requires : tie.Need-entry-requires
+entry-requires : tie.Need-entry-d-requires
 unfolding memory
 entry-requires c κs =
     let s = start c.before in
-    (omega (arith, ap nat_abs (score-back c), c.score.ensures.1), omega (arith, s.pre.1.0.1, fork-blocks (own s)), s.pre.0.3, omega (arith, (fork-apart (own s)).1, s.pre.0.0.few))
+    (omega (arith, ap nat_abs (score-back c), c.score.ensures.1), omega (arith, s.requires.1.0.1, fork-blocks (own s)), s.requires.0.3, omega (arith, (fork-apart (own s)).1, s.requires.0.0.few))
 
 -- the score and the entry, for any state
 score-is : (c : tie.After-score) →
@@ -89,34 +89,33 @@ score-is c =
     score-back c ∙ c.score.ensures.0
     ∙ ap₂ (λ (n : ℕ) (z : ℤ). neg_ℤ (pos (n + a.found.first.cost)) -ℤ z) (spent-is c.before) (bias-back c.before)
 
-packed : (c : tie.After-entry) (b : ℕ) (vs : List ℕ) (o : Fork (start c.before.before) b vs) → (start c.before.before).args.blocks ≡ suc b →
-    Packed c.entry.result (key_of o.hand.book (made o (start c.before.before).args.number)) (start c.before.before).args.to
+packed : (c : tie.After-entry-d) (b : ℕ) (vs : List ℕ) (o : Fork (start c.before.before) b vs) → (start c.before.before).args.blocks ≡ suc b →
+    Packed c.entry-d.result (key_of o.hand.book (made o (start c.before.before).args.number)) (start c.before.before).args.to
 packed c b vs o q =
     let a = (start c.before.before).args in
     let key : ℕ → Key = λ n. record { score = back c.before.score.result; blocks = n; number = a.number } in
-    fork-entry o (subst (λ (n : ℕ). Packed c.entry.result (key n) a.to) q c.entry.ensures) (score-is c.before)
+    fork-entry o (subst (λ (n : ℕ). Packed c.entry-d.result (key n) a.to) q c.entry-d.ensures) (score-is c.before)
 
 share-requires : tie.Need-share-requires
 unfolding memory
 share-requires c κs =
-    let t = c.before.before.before.before in
-    let s = start t in
-    let l = s.pre.0.0 in
+    let s = start c.before.before.before.before in
+    let l = s.requires.0.0 in
     let o = own s in (
-      (l.has.held, l.has.deep, row-there s (slot_is t), (omega (arith, (fork-apart o).1, l.few), omega (arith, (fork-apart o).1, l.rows))),
-      (rw (slot_is t) (fork-shareable o l), rw (slot_is t) (fork-apart o).0),
+      (l.has.held, l.has.deep, row-there s (slot_is c.before.before.before.before), (omega (arith, (fork-apart o).1, l.few), omega (arith, (fork-apart o).1, l.rows))),
+      (rw (slot_is c.before.before.before.before) (fork-shareable o l), rw (slot_is c.before.before.before.before) (fork-apart o).0),
     )
 
 put-requires : tie.Need-put-requires
 unfolding memory
 put-requires c κs =
     let s = start c.before.before.before.before.before.before.before.before in
-    let l = s.pre.0.0 in
+    let l = s.requires.0.0 in
     let to = (fork-apart (own s)).1 in
     (omega (arith, to, l.few), omega (arith, to, l.rows, c.before.before.before.share.ensures.0.1))
 
 -- where the cells were read, of a place after the row is written
-abbrev began : tie.After-put → tie.After-earlier-of
+abbrev began : tie.After-put → tie.After-earlier_of-earlier
 began c = c.before.before.before.before.before.before.before.before.before
 
 -- the memory then
@@ -137,11 +136,11 @@ put-lent c =
 
 -- the copy's entry, and that memory stands for the copy in front
 entry-is : (c : tie.After-put) (b : ℕ) (vs : List ℕ) (o : Fork (start (began c)) b vs) → (start (began c)).args.blocks ≡ suc b →
-    let a = (start (began c)).args in Packed c.before.before.before.before.before.before.before.entry.result (key_of o.hand.book (made o a.number)) a.to
+    let a = (start (began c)).args in Packed c.before.before.before.before.before.before.before.entry-d.result (key_of o.hand.book (made o a.number)) a.to
 entry-is c b vs o q = packed c.before.before.before.before.before.before.before b vs o q
 
 copied-in : (c : tie.After-put) (b : ℕ) (vs : List ℕ) (o : Fork (start (began c)) b vs) → (start (began c)).args.blocks ≡ suc b →
-    Written o (start (began c)).args.number c.before.before.before.before.before.before.before.entry.result (at-put c)
+    Written o (start (began c)).args.number c.before.before.before.before.before.before.before.entry-d.result (at-put c)
 unfolding memory
 copied-in c b vs o q =
     let t = began c in
@@ -155,64 +154,75 @@ copied-in c b vs o q =
     subst (λ (i : ℕ). MoreBy (a.m + 1) a.rows.now i a.holders.now holders) (slot_is t) f.1.1 in
     let Put : ℕ → ℕ → Type 0 = λ p r. PutRow a.to rows c.put.new.0 p a.found.first.cost a.found.first.number r a.found.first.parities in
     let put : Put (cell-of t spent_at) (cell-of t earlier_at) = subst₂ Put (spent-is t) (earlier-is t) c.put.ensures in
-    fork-written o (start t).pre.0.0.enough a.number (entry-is c b vs o q) holders (start t).pre.0.0 copied more put
+    fork-written o (start t).requires.0.0.enough a.number (entry-is c b vs o q) holders (start t).requires.0.0 copied more put
 
 claim-requires : tie.Need-claim-requires
 unfolding memory
 claim-requires c κs =
-    let u = c.before.before.before.before.before in
-    let s = start (began u) in
+    let s = start (began c.before.before.before.before.before) in
     let o = own s in (
-      ((put-lent u).has, (omega (arith, (fork-apart o).1, (put-lent u).few), omega (arith, (fork-apart o).1, (put-lent u).rows)), fork-place o),
-      fork-viewed o s.pre.0.0.enough s.args.number (entry-is u _ _ o s.pre.1.0.1) (copied-in u _ _ o s.pre.1.0.1),
+      ((put-lent c.before.before.before.before.before).has, (omega (arith, (fork-apart o).1, (put-lent c.before.before.before.before.before).few), omega (arith, (fork-apart o).1, (put-lent c.before.before.before.before.before).rows)), fork-place o),
+      fork-viewed o s.requires.0.0.enough s.args.number (entry-is c.before.before.before.before.before _ _ o s.requires.1.0.1) (copied-in c.before.before.before.before.before _ _ o s.requires.1.0.1),
     )
 
 insert-requires : tie.Need-insert-requires
 insert-requires c κs =
     let s = start (began c.before.before.before.before.before.before.before.before.before.before) in
-    ((s.pre.0.1, omega (arith, s.pre.0.2, s.pre.0.0.few)), s.pre.1.1)
+    ((s.requires.0.1, omega (arith, s.requires.0.2, s.requires.0.0.few)), s.requires.1.1)
 
-same_length : tie.Need-same-length
+same_length : tie.Need-shape_of-rows
 same_length c = search rules
 
-keep-known-requires : tie.Need-keep-known-requires
+keep-known-requires : tie.Need-keep_known-requires
 unfolding memory
 keep-known-requires c κs =
     let t = began c.before.before.before.before.before.before.before.before.before.before.before.before.before in
     let s = start t in
     let to = (fork-apart (own s)).1 in
     let from = fork-slot (own s) in
-    ((omega (arith, to, from, slot_is t, s.pre.0.0.few), omega (arith, to, from, slot_is t, s.pre.0.4)), fork-few (own s))
+    ((omega (arith, to, from, slot_is t, s.requires.0.0.few), omega (arith, to, from, slot_is t, s.requires.0.4)), fork-few (own s))
 
 returns : tie.Need-returns
 unfolding memory
 returns c =
-    let i = c.before.before.before.before.before in
-    let f = i.before.before.before.before.before.claim in
-    let u = i.before.before.before.before.before.before.before.before.before.before.before in
-    let s = start (began u) in
+    let f = c.before.before.before.before.before.before.before.before.before.before.claim in
+    let s = start (began c.before.before.before.before.before.before.before.before.before.before.before.before.before.before.before.before) in
     let g = c.before.before.keep_known.ensures in (
       (
-        record { few = (put-lent u).few; rows = omega (arith, (put-lent u).rows, f.ensures.0.1.size); has = f.ensures.0.0; enough = (put-lent u).enough },
-        i.insert.ensures.0.0,
-        omega (arith, g.0.size, s.pre.0.4),
+        record { few = (put-lent c.before.before.before.before.before.before.before.before.before.before.before.before.before.before.before.before).few; rows = omega (arith, (put-lent c.before.before.before.before.before.before.before.before.before.before.before.before.before.before.before.before).rows, f.ensures.0.1.size); has = f.ensures.0.0; enough = (put-lent c.before.before.before.before.before.before.before.before.before.before.before.before.before.before.before.before).enough },
+        c.before.before.before.before.before.insert.ensures.0.0,
+        omega (arith, g.0.size, s.requires.0.4),
       ),
       (
         λ b vs o q. (
-          rw i.insert.ensures.0.1 (fork-queued o s.pre.0.0.enough s.args.number (entry-is u b vs o q) (copied-in u b vs o q) f.ensures.0.1 f.ensures.1),
-          λ k. rw i.insert.ensures.0.1 (fork-kepts o s.pre.0.0.enough s.args.number (entry-is u b vs o q) g.0 (g.1 _ (fork-known o)) k),
+          rw c.before.before.before.before.before.insert.ensures.0.1 (fork-queued o s.requires.0.0.enough s.args.number (entry-is c.before.before.before.before.before.before.before.before.before.before.before.before.before.before.before.before b vs o q) (copied-in c.before.before.before.before.before.before.before.before.before.before.before.before.before.before.before.before b vs o q) f.ensures.0.1 f.ensures.1),
+          λ k. rw c.before.before.before.before.before.insert.ensures.0.1 (fork-kepts o s.requires.0.0.enough s.args.number (entry-is c.before.before.before.before.before.before.before.before.before.before.before.before.before.before.before.before b vs o q) g.0 (g.1 _ (fork-known o)) k),
         ),
-        i.insert.ensures.1,
+        c.before.before.before.before.before.insert.ensures.1,
       ),
     )
 
-same-length-2 : tie.Need-same-length-2
+same-length-2 : tie.Need-shape_of-numbers
 same-length-2 c = search rules
 
-same-length-3 : tie.Need-same-length-3
+same-length-3 : tie.Need-shape_of-kept
 same-length-3 c = search rules
 
-pub fork-spec : {M : Type 1} → statement M
-fork-spec =
+pub fork_spec : {M : Type 1} → statement M
+fork_spec =
     tie.close
-    (tie.spec slot-of-requires spent-of-requires earlier-of-requires score-requires entry-requires share-requires put-requires claim-requires insert-requires keep-known-requires same_length same-length-2 same-length-3 returns)
+    (tie.spec
+    slot-of-requires
+    spent-of-requires
+    earlier-of-requires
+    score-requires
+    entry-requires
+    share-requires
+    put-requires
+    claim-requires
+    insert-requires
+    keep-known-requires
+    same_length
+    same-length-2
+    same-length-3
+    returns)

@@ -11,23 +11,22 @@ use Rattle.tables.proofs.costs.cost_of.Tie as tie
 pick-requires : tie.Need-pick-requires
 pick-requires c κs = search rules
 
-pick-requires-2 : tie.Need-pick-requires-2
+pick-requires-2 : tie.Need-pick-requires-then-runs-eq2
 pick-requires-2 c κs = search rules
 
 -- both entries are small
-two : (c : tie.After-pick2) → (c.before.pick.result ≤ 4192256) × (c.pick2.result ≤ 4192256)
+two : (c : tie.After-pick-then-runs-eq2) → (c.before.pick.result ≤ 4192256) × (c.pick-then-runs-eq2.result ≤ 4192256)
 two c =
-    let s = c.before.before.before in
-    let e : s.args.runs ≡ 2 = c.before.before.if1.true in
-    (entry-small _ _ 0 _ _ s.requires.1 (omega arith) c.before.pick.ensures, entry-small _ _ 1 _ _ s.requires.1 (omega arith) c.pick2.ensures)
+    let e : c.before.before.before.args.runs ≡ 2 = c.before.before.if-runs-eq2.true in
+    (entry-small _ _ 0 _ _ c.before.before.before.requires.1 (omega arith) c.before.pick.ensures, entry-small _ _ 1 _ _ c.before.before.before.requires.1 (omega arith) c.pick-then-runs-eq2.ensures)
 
-add-result : tie.Need-overflow-add-result
+add-result : tie.Need-overflow_add-result
 add-result c = omega (arith, two c)
 
-returns : tie.Need-returns
+returns : tie.Need-returns-then-runs-eq2
 returns c =
     let a = c.before.before.before.args in (
-      ap₂ ◌+◌ c.before.pick.ensures c.pick2.ensures ∙ sym (picked-two a.sums.now a.word) ∙ ap (λ n. picked a.sums.now 0 n a.word) (sym c.before.before.if1.true),
+      ap₂ ◌+◌ c.before.pick.ensures c.pick-then-runs-eq2.ensures ∙ sym (picked-two a.sums.now a.word) ∙ ap (λ n. picked a.sums.now 0 n a.word) (sym c.before.before.if-runs-eq2.true),
       omega (arith, two c),
     )
 
@@ -39,35 +38,33 @@ more h q = omega (arith, h.some, h.even, q)
 eight : (runs : ℕ) → Runs runs → (runs ≡ 2 → ⊥) → (runs ≡ 4 → ⊥) → runs ≡ 8
 eight runs h q r = omega (arith, h.some, h.few, h.even, h.power, q, r)
 
-four-requires : tie.Need-four-requires
-four-requires c κs = let s = c.before in (omega arith, small-less _ 4 _ s.requires.1 (more s.requires.0 c.if1.false))
+four-requires : tie.Need-four-low-requires
+four-requires c κs = (omega arith, small-less _ 4 _ c.before.requires.1 (more c.before.requires.0 c.if-runs-eq2.false))
 
-returns-2 : tie.Need-returns-2
+returns-2 : tie.Need-returns-then-runs-eq4
 returns-2 c =
     let a = c.before.before.before.args in
-    let f = c.before.four.ensures in
-    (f.0 ∙ ap (λ n. picked a.sums.now 0 n a.word) (sym c.if2.true), omega (arith, f.1))
+    let f = c.before.four-low.ensures in
+    (f.0 ∙ ap (λ n. picked a.sums.now 0 n a.word) (sym c.if-runs-eq4.true), omega (arith, f.1))
 
-four-requires-2 : tie.Need-four-requires-2
+four-requires-2 : tie.Need-four-requires
 four-requires-2 c κs =
-    let s = c.before.before.before in
-    let e : s.args.runs ≡ 8 = eight s.args.runs s.requires.0 c.before.before.if1.false c.if2.false in
-    (omega arith, small-less _ 8 _ s.requires.1 (omega arith))
+    let e : c.before.before.before.args.runs ≡ 8 = eight c.before.before.before.args.runs c.before.before.before.requires.0 c.before.before.if-runs-eq2.false c.if-runs-eq4.false in
+    (omega arith, small-less _ 8 _ c.before.before.before.requires.1 (omega arith))
 
-add-result-2 : tie.Need-overflow-add-result-2
+add-result-2 : tie.Need-overflow_add-result-2
 add-result-2 c = search rules
 
-returns-3 : tie.Need-returns-3
+returns-3 : tie.Need-returns
 returns-3 c =
-    let s = c.before.before.before.before in
-    let a = s.args in
-    let f = c.before.before.four.ensures in
-    let g = c.four2.ensures in
-    let e : a.runs ≡ 8 = eight a.runs s.requires.0 c.before.before.before.if1.false c.before.if2.false in
+    let a = c.before.before.before.before.args in
+    let f = c.before.before.four-low.ensures in
+    let g = c.four.ensures in
+    let e : a.runs ≡ 8 = eight a.runs c.before.before.before.before.requires.0 c.before.before.before.if-runs-eq2.false c.before.if-runs-eq4.false in
     (ap₂ ◌+◌ f.0 g.0 ∙ sym (picked-eight a.sums.now a.word) ∙ ap (λ n. picked a.sums.now 0 n a.word) (sym e), omega (arith, f.1, g.1))
 
-pub cost-of-spec : {M : Type 1} → statement M
-cost-of-spec =
+pub cost_of_spec : {M : Type 1} → statement M
+cost_of_spec =
     tie.close
     (tie.spec
     pick-requires

@@ -21,40 +21,40 @@ paid b {s} f e h =
     let p = e ∙ ap (cost b) (to_z-of_z f) in
     (p, omega (arith, cost-le b s))
 
-z0 : (c : tie.After-cost) → let a = c.before.args in (c.cost.result ≡ cost 0 a.s0) × (c.cost.result ≤ 1048064)
-z0 c = let s = c.before in paid 0 s.ranges.s0 c.cost.ensures s.requires.0
+z0 : (c : tie.After-cost-z0) → let a = c.before.args in (c.cost-z0.result ≡ cost 0 a.s0) × (c.cost-z0.result ≤ 1048064)
+z0 c = paid 0 c.before.ranges.s0 c.cost-z0.ensures c.before.requires.0
 
-o0 : (c : tie.After-cost2) → let a = c.before.before.args in (c.cost2.result ≡ cost 1 a.s0) × (c.cost2.result ≤ 1048064)
-o0 c = let s = c.before.before in paid 1 s.ranges.s0 c.cost2.ensures s.requires.0
+o0 : (c : tie.After-cost-o0) → let a = c.before.before.args in (c.cost-o0.result ≡ cost 1 a.s0) × (c.cost-o0.result ≤ 1048064)
+o0 c = paid 1 c.before.before.ranges.s0 c.cost-o0.ensures c.before.before.requires.0
 
-z1 : (c : tie.After-cost3) → let a = c.before.before.before.args in (c.cost3.result ≡ cost 0 a.s1) × (c.cost3.result ≤ 1048064)
-z1 c = let s = c.before.before.before in paid 0 s.ranges.s1 c.cost3.ensures s.requires.1
+z1 : (c : tie.After-cost-z1) → let a = c.before.before.before.args in (c.cost-z1.result ≡ cost 0 a.s1) × (c.cost-z1.result ≤ 1048064)
+z1 c = paid 0 c.before.before.before.ranges.s1 c.cost-z1.ensures c.before.before.before.requires.1
 
-o1 : (c : tie.After-cost4) → let a = c.before.before.before.before.args in (c.cost4.result ≡ cost 1 a.s1) × (c.cost4.result ≤ 1048064)
-o1 c = let s = c.before.before.before.before in paid 1 s.ranges.s1 c.cost4.ensures s.requires.1
+o1 : (c : tie.After-cost-o1) → let a = c.before.before.before.before.args in (c.cost-o1.result ≡ cost 1 a.s1) × (c.cost-o1.result ≤ 1048064)
+o1 c = paid 1 c.before.before.before.before.ranges.s1 c.cost-o1.ensures c.before.before.before.before.requires.1
 
-cost-requires : tie.Need-cost-requires
+cost-requires : tie.Need-cost-z0-requires
 cost-requires c κs = omega (arith, ap nat_abs (to_z-of_z c.ranges.s0))
 
-cost-requires-2 : tie.Need-cost-requires-2
+cost-requires-2 : tie.Need-cost-o0-requires
 cost-requires-2 c κs = omega (arith, ap nat_abs (to_z-of_z c.before.ranges.s0))
 
-cost-requires-3 : tie.Need-cost-requires-3
+cost-requires-3 : tie.Need-cost-z1-requires
 cost-requires-3 c κs = omega (arith, ap nat_abs (to_z-of_z c.before.before.ranges.s1))
 
-cost-requires-4 : tie.Need-cost-requires-4
+cost-requires-4 : tie.Need-cost-o1-requires
 cost-requires-4 c κs = omega (arith, ap nat_abs (to_z-of_z c.before.before.before.ranges.s1))
 
-add-t7 : tie.Need-overflow-add-t7
+add-t7 : tie.Need-overflow_add-result
 add-t7 c = omega (arith, z0 c.before.before.before, z1 c.before)
 
-add-t8 : tie.Need-overflow-add-t8
+add-t8 : tie.Need-overflow_add-result-2
 add-t8 c = omega (arith, o0 c.before.before, z1 c.before)
 
-add-t9 : tie.Need-overflow-add-t9
+add-t9 : tie.Need-overflow_add-result-3
 add-t9 c = omega (arith, z0 c.before.before.before, o1 c)
 
-add-t10 : tie.Need-overflow-add-t10
+add-t10 : tie.Need-overflow_add-result-4
 add-t10 c = omega (arith, o0 c.before.before, o1 c)
 
 -- the four sums are the costs
@@ -72,8 +72,8 @@ returns c =
     let a = c.before.before.before.before.args in
     sums a.s0 a.s1 (z0 c.before.before.before) (o0 c.before.before) (z1 c.before) (o1 c)
 
-pub pairs-spec : {M : Type 1} → statement M
-pairs-spec =
+pub pairs_spec : {M : Type 1} → statement M
+pairs_spec =
     tie.close
     (tie.spec
     cost-requires

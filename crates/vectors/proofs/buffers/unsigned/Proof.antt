@@ -11,21 +11,27 @@ use Rattle.vectors.proofs.Numbers.{raised}
 use Rattle.vectors.proofs.buffers.unsigned.Statement.{statement}
 use Rattle.vectors.proofs.buffers.unsigned.Tie as tie
 
-cast-result : tie.Need-overflow-cast-result
+cast-result : tie.Need-overflow_cast-result
 cast-result c = rw (to_z-of_z c.ranges.x) (sfits_widen tt c.ranges.x)
 
 -- the sum
 sum : (c : tie.Start) → to_z w64 (of_z w64 (back c.args.x)) +ℤ pos 4294967296 ≡ pos (nat_abs (c.args.x +ℤ pos 4294967296))
 sum c = ap (λ (z : ℤ). z +ℤ pos 4294967296) (to_z-of_z (cast-result c) ∙ to_z-of_z c.ranges.x) ∙ (raised c.args.x c.ranges.x).0
 
-add-result : tie.Need-overflow-add-result
+add-result : tie.Need-overflow_add-result
 add-result c = rw (sum c) (record { sfits = omega (arith, (raised c.args.x c.ranges.x).1) })
 
-cast-result-2 : tie.Need-overflow-cast-result-2
+cast-result-2 : tie.Need-overflow_cast-result-2
 cast-result-2 c = rw (to_z-of_z (add-result c), sum c) (tt, record { fits = omega (arith, (raised c.args.x c.ranges.x).1) })
 
 returns : tie.Need-returns
 returns c = search rules
 
-pub unsigned-spec : {M : Type 1} → statement M
-unsigned-spec = tie.close (tie.spec cast-result add-result cast-result-2 returns)
+pub unsigned_spec : {M : Type 1} → statement M
+unsigned_spec =
+    tie.close
+    (tie.spec
+    cast-result
+    add-result
+    cast-result-2
+    returns)

@@ -13,99 +13,94 @@ use Rattle.views.proofs.Seeing.{Took, took, has_on, ids-only, store-self, seen-i
 use Rattle.views.proofs.view.claim.Statement.{statement}
 use Rattle.views.proofs.view.claim.Tie as tie
 
-id-of-requires : tie.Need-id-of-requires
+id-of-requires : tie.Need-id_of-from-requires
 unfolding memory
 id-of-requires c κs =
-    let p = c.before.before.before.requires.0 in
+    let p = c.before.before.requires.0 in
     (p.1, omega (arith, p.0.deep))
 
-take-requires : tie.Need-take-requires
+take-requires : tie.Need-take-to-requires
 unfolding memory
 take-requires c κs =
-    let s = c.before.before.before.before.before.before in
-    let p = s.requires.0 in
-    ((p.0.held, p.1, omega (arith, p.0.deep), p.0.many), seen-shared s.requires.1.seen p.2)
+    let p = c.before.before.before.before.before.requires.0 in
+    ((p.0.held, p.1, omega (arith, p.0.deep), p.0.many), seen-shared c.before.before.before.before.before.requires.1.seen p.2)
 
 -- where the call began
-abbrev start : tie.After-take → tie.Start
-start c = c.before.before.before.before.before.before.before
+abbrev start : tie.After-take-to → tie.Start
+start c = c.before.before.before.before.before.before
 
-taken : (c : tie.After-take) →
-    Took (start c).args.arrays (start c).args.slot (start c).args.h (start c).args.rows.now (start c).args.holders.now c.take.new.0 c.take.new.1.0 c.take.result
-taken c = let a = (start c).args in took a.slot a.h a.rows.now a.holders.now c.take.ensures
+taken : (c : tie.After-take-to) →
+    Took (start c).args.arrays (start c).args.slot (start c).args.h (start c).args.rows.now (start c).args.holders.now c.take-to.new.0 c.take-to.new.1.0 c.take-to.result
+taken c = let a = (start c).args in took a.slot a.h a.rows.now a.holders.now c.take-to.ensures
 
-copy-half-requires : tie.Need-copy-half-requires
+copy-half-requires : tie.Need-copy_half-requires
 unfolding memory Claimable
 copy-half-requires c κs =
-    let t = c.before.before.before.before.before in
-    let s = start t in
-    let p = s.pre.0 in
-    let w = s.pre.1 in
+    let s = start c.before.before.before.before.before in
+    let p = s.requires.0 in
+    let w = s.requires.1 in
     let old =
-    subst (Id s.args.arrays) (sym t.before.before.before.id-of.ensures) (seen-some w.seen p.2 (w.met c.before.before.if1.true)) in
-    let new = (taken t).id in
+    subst (Id s.args.arrays) (sym c.before.before.before.before.before.before.before.before.id_of-from.ensures) (seen-some w.seen p.2 (w.met c.before.before.if-h-j.true)) in
+    let new = (taken c.before.before.before.before.before).id in
     (p.0.deep, p.2, p.0.many, p.0.numbers, search, search)
 
-same_length : tie.Need-same-length
+same_length : tie.Need-shape_of-rows-then-from-to
 same_length c = search rules
 
-same-length-2 : tie.Need-same-length-2
+same-length-2 : tie.Need-shape_of-numbers
 same-length-2 c = search rules
 
-same-length-3 : tie.Need-same-length-3
+same-length-3 : tie.Need-shape_of-rows-else-from-to
 same-length-3 c = search rules
 
-same-length-4 : tie.Need-same-length-4
+same-length-4 : tie.Need-shape_of-rows-else-h-j
 same-length-4 c = search rules
 
-returns : tie.Need-returns
+returns : tie.Need-returns-then-from-to
 unfolding memory StepSeen claim
 returns c =
-    let f = c.before.copy-half in
-    let t = c.before.before.before.before.before.before.before in
-    let s = start t in
+    let f = c.before.copy_half in
+    let s = start c.before.before.before.before.before.before.before in
     let a = s.args in
-    let p = s.pre.0 in (
-      (has_on f.new.0 a.bytes.now p.0 (taken t) f.ensures.0 refl, ids-only t.take.result a.rows.now p.2 (taken t).stored),
+    let p = s.requires.0 in (
+      (has_on f.new.0 a.bytes.now p.0 (taken c.before.before.before.before.before.before.before) f.ensures.0 refl, ids-only c.before.before.before.before.before.before.before.take-to.result a.rows.now p.2 (taken c.before.before.before.before.before.before.before).stored),
       λ others v seen met.
           let g = v.arrays.vals in
-          rw (eq-eqb a.h a.j c.before.before.before.before.if1.true)
-          (seen-put seen p.0 p.1 p.2 (taken t) f.new.0 (g a.h (v.ids a.h))
-          (subst (λ (i : ℕ). Parts a.m a.arrays f.new.0 (store g a.h t.take.result (g a.h i)))
-          (t.before.before.before.id-of.ensures ∙ seen-id seen p.2) (f.ensures.1 g seen.vals))),
+          rw (eq-eqb a.h a.j c.before.before.before.before.if-h-j.true)
+          (seen-put seen p.0 p.1 p.2 (taken c.before.before.before.before.before.before.before) f.new.0 (g a.h (v.ids a.h))
+          (subst (λ (i : ℕ). Parts a.m a.arrays f.new.0 (store g a.h c.before.before.before.before.before.before.before.take-to.result (g a.h i)))
+          (c.before.before.before.before.before.before.before.before.before.before.id_of-from.ensures ∙ seen-id seen p.2) (f.ensures.1 g seen.vals))),
     )
 
-returns-2 : tie.Need-returns-2
+returns-2 : tie.Need-returns-else-from-to
 unfolding memory StepSeen claim
 returns-2 c =
-    let t = c.before.before.before.before in
-    let s = start t in
+    let s = start c.before.before.before.before in
     let a = s.args in
-    let p = s.pre.0 in (
-      (has_on a.numbers.now a.bytes.now p.0 (taken t) refl refl, ids-only t.take.result a.rows.now p.2 (taken t).stored),
+    let p = s.requires.0 in (
+      (has_on a.numbers.now a.bytes.now p.0 (taken c.before.before.before.before) refl refl, ids-only c.before.before.before.before.take-to.result a.rows.now p.2 (taken c.before.before.before.before).stored),
       λ others v seen met.
           let g = v.arrays.vals in
-          let i = t.before.before.before.id-of.ensures ∙ seen-id seen p.2 in
-          let e : t.take.result ≡ v.ids a.h = omega arith in
-          rw (eq-eqb a.h a.j c.before.if1.true)
-          (seen-put seen p.0 p.1 p.2 (taken t) a.numbers.now (g a.h (v.ids a.h))
-          (subst (λ (i : ℕ). Parts a.m a.arrays a.numbers.now (store g a.h t.take.result (g a.h i))) e
-          (subst (Parts a.m a.arrays a.numbers.now) (sym (store-self g a.h t.take.result)) seen.vals))),
+          let i = c.before.before.before.before.before.before.before.id_of-from.ensures ∙ seen-id seen p.2 in
+          let e : c.before.before.before.before.take-to.result ≡ v.ids a.h = omega arith in
+          rw (eq-eqb a.h a.j c.before.if-h-j.true)
+          (seen-put seen p.0 p.1 p.2 (taken c.before.before.before.before) a.numbers.now (g a.h (v.ids a.h))
+          (subst (λ (i : ℕ). Parts a.m a.arrays a.numbers.now (store g a.h c.before.before.before.before.take-to.result (g a.h i))) e
+          (subst (Parts a.m a.arrays a.numbers.now) (sym (store-self g a.h c.before.before.before.before.take-to.result)) seen.vals))),
     )
 
-returns-3 : tie.Need-returns-3
+returns-3 : tie.Need-returns-else-h-j
 unfolding memory StepSeen claim
 returns-3 c =
-    let t = c.before.before.before in
-    let s = start t in
+    let s = start c.before.before.before in
     let a = s.args in
-    let p = s.pre.0 in (
-      (has_on a.numbers.now a.bytes.now p.0 (taken t) refl refl, ids-only t.take.result a.rows.now p.2 (taken t).stored),
-      λ others v seen met. rw (ne_eqb a.h a.j c.if1.false) (seen-take seen p.0 p.1 p.2 (taken t)),
+    let p = s.requires.0 in (
+      (has_on a.numbers.now a.bytes.now p.0 (taken c.before.before.before) refl refl, ids-only c.before.before.before.take-to.result a.rows.now p.2 (taken c.before.before.before).stored),
+      λ others v seen met. rw (ne_eqb a.h a.j c.if-h-j.false) (seen-take seen p.0 p.1 p.2 (taken c.before.before.before)),
     )
 
-pub claim-spec : {M : Type 1} → statement M
-claim-spec =
+pub claim_spec : {M : Type 1} → statement M
+claim_spec =
     tie.close
     (tie.spec
     id-of-requires

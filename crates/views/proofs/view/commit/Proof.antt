@@ -21,124 +21,121 @@ use Rattle.views.proofs.Committing.{put-joined, put_word, lower-id, lower-bits, 
 use Rattle.views.proofs.view.commit.Statement.{statement}
 use Rattle.views.proofs.view.commit.Tie as tie
 
-take-requires : tie.Need-take-requires
+take-requires : tie.Need-take-to-requires
 unfolding memory
 take-requires c κs =
-    let s = c.before.before.before.before in
-    let p = s.requires.0 in
-    ((p.0.held, p.1, omega (arith, p.0.deep), p.0.many), seen-shared s.requires.1.seen p.3)
+    let p = c.before.before.before.before.requires.0 in
+    ((p.0.held, p.1, omega (arith, p.0.deep), p.0.many), seen-shared c.before.before.before.before.requires.1.seen p.3)
 
-power-requires : tie.Need-power-requires
+power-requires : tie.Need-power-n-requires
 power-requires c κs = search rules
 
-spot-of-requires : tie.Need-spot-of-requires
+spot-of-requires : tie.Need-spot_of-requires
 spot-of-requires c κs = search rules
 
-power-requires-2 : tie.Need-power-requires-2
+power-requires-2 : tie.Need-power-requires
 power-requires-2 c κs = search rules
 
 -- where the call began
-abbrev start : tie.After-take → tie.Start
+abbrev start : tie.After-take-to → tie.Start
 start c = c.before.before.before.before.before
 
-taken : (c : tie.After-take) →
-    Took (start c).args.arrays (start c).args.slot (start c).args.h (start c).args.rows.now (start c).args.holders.now c.take.new.0 c.take.new.1.0 c.take.result
-taken c = let a = (start c).args in took a.slot a.h a.rows.now a.holders.now c.take.ensures
+taken : (c : tie.After-take-to) →
+    Took (start c).args.arrays (start c).args.slot (start c).args.h (start c).args.rows.now (start c).args.holders.now c.take-to.new.0 c.take-to.new.1.0 c.take-to.result
+taken c = let a = (start c).args in took a.slot a.h a.rows.now a.holders.now c.take-to.ensures
 
 -- the slot's row is there still
-row-there : (c : tie.After-take) → HasRow (start c).args.slot c.take.new.0
+row-there : (c : tie.After-take-to) → HasRow (start c).args.slot c.take-to.new.0
 unfolding memory
 row-there c =
     let a = (start c).args in
     let p = (start c).requires.0 in
-    (omega arith, omega (arith, ap length (taken c).stored, length-set a.rows.now (a.slot * 16 + a.h) c.take.result))
+    (omega arith, omega (arith, ap length (taken c).stored, length-set a.rows.now (a.slot * 16 + a.h) c.take-to.result))
 
 -- the array's cells lie within the bytes
-room : (c : tie.After-take) → spot (start c).args.m c.take.result (start c).args.h + 2 ^ (start c).args.h ≤ length (start c).args.bytes.now
+room : (c : tie.After-take-to) → spot (start c).args.m c.take-to.result (start c).args.h + 2 ^ (start c).args.h ≤ length (start c).args.bytes.now
 unfolding memory
 room c = let p = (start c).requires.0 in spot-room p.3 (taken c).id (start c).args.bytes.now p.0.bytes
 
-add-put-word : tie.Need-overflow-add-put-word
+add-put-word : tie.Need-overflow_add-spot_of
 add-put-word c = omega (arith, room c.before.before.before.before.before.before)
 
-sub-put-word : tie.Need-overflow-sub-put-word
+sub-put-word : tie.Need-overflow_sub-spot_of
 sub-put-word c = let p = (start c.before.before.before.before.before.before).requires.0 in omega (arith, pow_mono p.2)
 
-put-word-requires : tie.Need-put-word-requires
+put-word-requires : tie.Need-put_word-requires
 put-word-requires c κs =
     let p = (start c.before.before.before.before.before.before).requires.0 in
     omega (arith, pow_mono p.2, room c.before.before.before.before.before.before)
 
 -- the take before the word was put
-abbrev before : tie.After-put-word → tie.After-take
+abbrev before : tie.After-put_word → tie.After-take-to
 before u = u.before.before.before.before.before.before.before
 
 -- the word stands at the end of the cells, and nothing changed elsewhere
-end_is : (u : tie.After-put-word) →
-    u.before.before.spot_of_lem.result + u.before.power2.result - u.before.before.before.before.power.result
-    ≡ spot (start (before u)).args.m (before u).take.result (start (before u)).args.h + 2 ^ (start (before u)).args.h - 2 ^ (start (before u)).args.j
+end_is : (u : tie.After-put_word) →
+    u.before.before.spot_of.result + u.before.power.result - u.before.before.before.before.power-n.result
+    ≡ spot (start (before u)).args.m (before u).take-to.result (start (before u)).args.h + 2 ^ (start (before u)).args.h - 2 ^ (start (before u)).args.j
 end_is u = omega arith
 
-inside : (u : tie.After-put-word) → let a = (start (before u)).args in Joined a.m a.h (before u).take.result a.bytes.now u.put_word.new.0
+inside : (u : tie.After-put_word) → let a = (start (before u)).args in Joined a.m a.h (before u).take-to.result a.bytes.now u.put_word.new.0
 unfolding memory
 inside u =
     let a = (start (before u)).args in
     let p = (start (before u)).requires.0 in
-    put-joined p.3 (taken (before u)).id p.2 a.bytes.now p.0.bytes a.word (end_is u) u.before.before.before.before.power.ensures u.put_word.ensures
+    put-joined p.3 (taken (before u)).id p.2 a.bytes.now p.0.bytes a.word (end_is u) u.before.before.before.before.power-n.ensures u.put_word.ensures
 
-word-is : (u : tie.After-put-word) → let a = (start (before u)).args in
-    part (spot a.m (before u).take.result a.h + (2 ^ a.h - 2 ^ a.j)) (2 ^ a.j) u.put_word.new.0 ≡ bits_of (2 ^ a.j) a.word
+word-is : (u : tie.After-put_word) → let a = (start (before u)).args in
+    part (spot a.m (before u).take-to.result a.h + (2 ^ a.h - 2 ^ a.j)) (2 ^ a.j) u.put_word.new.0 ≡ bits_of (2 ^ a.j) a.word
 unfolding memory
 word-is u =
     let a = (start (before u)).args in
     let p = (start (before u)).requires.0 in
-    put_word p.3 (taken (before u)).id p.2 a.bytes.now p.0.bytes a.word (end_is u) u.before.before.before.before.power.ensures u.put_word.ensures
+    put_word p.3 (taken (before u)).id p.2 a.bytes.now p.0.bytes a.word (end_is u) u.before.before.before.before.power-n.ensures u.put_word.ensures
 
 join-requires : tie.Need-join-requires
 unfolding memory
 join-requires c κs =
-    let u = c.before.before.before.before in
-    let t = before u in
+    let t = before c.before.before.before in
     let s = start t in
     let a = s.args in
-    let p = s.pre.0 in
-    let w = s.pre.1 in (
-      (row-there t, p.0.deep, p.0.many, p.2, p.3, joined-room p.3 (taken t).id a.bytes.now u.put_word.new.0 p.0.bytes (inside u), (taken t).id),
+    let p = s.requires.0 in
+    let w = s.requires.1 in (
+      (row-there t, p.0.deep, p.0.many, p.2, p.3, joined-room p.3 (taken t).id a.bytes.now c.before.before.before.put_word.new.0 p.0.bytes (inside c.before.before.before), (taken t).id),
       (
         λ k b d. (
-          lower-id p.0 p.3 (taken t) u.put_word.new.0 (inside u) w.seen w.met k b d,
-          lower-bits p.0 p.3 (taken t) u.put_word.new.0 (inside u) w.seen w.met k b d,
+          lower-id p.0 p.3 (taken t) c.before.before.before.put_word.new.0 (inside c.before.before.before) w.seen w.met k b d,
+          lower-bits p.0 p.3 (taken t) c.before.before.before.put_word.new.0 (inside c.before.before.before) w.seen w.met k b d,
         ),
-        subst (All Bit) (sym (word-is u)) (bits-bits (2 ^ a.j) a.word),
+        subst (All Bit) (sym (word-is c.before.before.before)) (bits-bits (2 ^ a.j) a.word),
       ),
     )
 
-same_length : tie.Need-same-length
+same_length : tie.Need-shape_of-rows
 same_length c = search rules
 
-same-length-2 : tie.Need-same-length-2
+same-length-2 : tie.Need-shape_of-bytes
 same-length-2 c = search rules
 
 returns : tie.Need-returns
 unfolding memory StepSeen
 returns c =
     let f = c.before.before.join in
-    let u = c.before.before.before.before.before.before.before in
-    let t = before u in
+    let t = before c.before.before.before.before.before.before in
     let s = start t in
     let a = s.args in
-    let p = s.pre.0 in (
+    let p = s.requires.0 in (
       (
-        has_on a.numbers.now f.new.1.0 p.0 (taken t) refl (f.ensures.0.size ∙ (inside u).size),
-        ids-only t.take.result a.rows.now p.3 (taken t).stored,
+        has_on a.numbers.now f.new.1.0 p.0 (taken t) refl (f.ensures.0.size ∙ (inside c.before.before.before.before.before.before).size),
+        ids-only t.take-to.result a.rows.now p.3 (taken t).stored,
       ),
       λ others v seen met.
-          seen-commit p.0 p.3 (taken t) u.put_word.new.0 (inside u) seen met p.1 p.2 (bits_of (2 ^ a.j) a.word) f.new.1.0
-          f.ensures.0 f.ensures.1 (word-is u),
+          seen-commit p.0 p.3 (taken t) c.before.before.before.before.before.before.put_word.new.0 (inside c.before.before.before.before.before.before) seen met p.1 p.2 (bits_of (2 ^ a.j) a.word) f.new.1.0
+          f.ensures.0 f.ensures.1 (word-is c.before.before.before.before.before.before),
     )
 
-pub commit-spec : {M : Type 1} → statement M
-commit-spec =
+pub commit_spec : {M : Type 1} → statement M
+commit_spec =
     tie.close
     (tie.spec
     take-requires

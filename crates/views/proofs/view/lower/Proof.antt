@@ -15,72 +15,77 @@ use Rattle.views.proofs.Seeing.{Took, took, has_on, ids-only, seen-id, seen-some
 use Rattle.views.proofs.view.lower.Statement.{statement}
 use Rattle.views.proofs.view.lower.Tie as tie
 
-add-id-of : tie.Need-overflow-add-id-of
+add-id-of : tie.Need-overflow_add-h
 add-id-of c = search rules
 
-id-of-requires : tie.Need-id-of-requires
+id-of-requires : tie.Need-id_of-from-requires
 unfolding memory
 id-of-requires c κs =
-    let p = c.before.before.before.requires.0 in
+    let p = c.before.before.requires.0 in
     (p.1, omega (arith, p.0.deep))
 
-take-requires : tie.Need-take-requires
+take-requires : tie.Need-take-to-requires
 unfolding memory
 take-requires c κs =
-    let s = c.before.before.before.before.before.before in
-    let p = s.requires.0 in
-    let l : s.args.h ≤ s.args.m = omega arith in
-    ((p.0.held, p.1, omega (arith, p.0.deep), p.0.many), seen-shared s.requires.1.seen l)
+    let p = c.before.before.before.before.before.requires.0 in
+    let l : c.before.before.before.before.before.args.h ≤ c.before.before.before.before.before.args.m = omega arith in
+    ((p.0.held, p.1, omega (arith, p.0.deep), p.0.many), seen-shared c.before.before.before.before.before.requires.1.seen l)
 
 -- where the call began
-abbrev start : tie.After-take → tie.Start
-start c = c.before.before.before.before.before.before.before
+abbrev start : tie.After-take-to → tie.Start
+start c = c.before.before.before.before.before.before
 
-taken : (c : tie.After-take) →
-    Took (start c).args.arrays (start c).args.slot (start c).args.h (start c).args.rows.now (start c).args.holders.now c.take.new.0 c.take.new.1.0 c.take.result
-taken c = let a = (start c).args in took a.slot a.h a.rows.now a.holders.now c.take.ensures
+taken : (c : tie.After-take-to) →
+    Took (start c).args.arrays (start c).args.slot (start c).args.h (start c).args.rows.now (start c).args.holders.now c.take-to.new.0 c.take-to.new.1.0 c.take-to.result
+taken c = let a = (start c).args in took a.slot a.h a.rows.now a.holders.now c.take-to.ensures
 
 -- the id of the height above
-above : (c : tie.After-take) → c.before.before.before.id-of.result ≡ id_at (start c).args.rows.now (start c).args.slot (suc (start c).args.h)
+above : (c : tie.After-take-to) → c.before.before.before.id_of-from.result ≡ id_at (start c).args.rows.now (start c).args.slot (suc (start c).args.h)
 above c =
     let a = (start c).args in
-    c.before.before.before.id-of.ensures ∙ ap (id_at a.rows.now a.slot) (add-one a.h)
+    c.before.before.before.id_of-from.ensures ∙ ap (id_at a.rows.now a.slot) (add-one a.h)
 
-first-half-requires : tie.Need-first-half-requires
+first-half-requires : tie.Need-first_half-requires
 unfolding memory
 first-half-requires c κs =
     let s = start c.before.before.before in
-    let p = s.pre.0 in
-    let w = s.pre.1 in (
+    let p = s.requires.0 in
+    let w = s.requires.1 in (
       (p.0.deep, p.2, p.0.many, p.0.numbers, rw (above c.before.before.before) (seen-some w.seen p.2 w.met.has), (taken c.before.before.before).id),
       rw (above c.before.before.before, seen-vals w.seen p.2 w.met.has) w.met.range,
     )
 
-same_length : tie.Need-same-length
+same_length : tie.Need-shape_of-rows
 same_length c = search rules
 
-same-length-2 : tie.Need-same-length-2
+same-length-2 : tie.Need-shape_of-numbers
 same-length-2 c = search rules
 
 returns : tie.Need-returns
 unfolding memory StepSeen
 returns c =
-    let f = c.before.first-half in
-    let t = c.before.before.before.before.before in
-    let s = start t in
+    let f = c.before.first_half in
+    let s = start c.before.before.before.before.before in
     let a = s.args in
-    let p = s.pre.0 in
+    let p = s.requires.0 in
     let h = a.h in
     let l : h ≤ a.m = omega arith in (
-      (has_on f.new.0 a.bytes.now p.0 (taken t) f.ensures.0 refl, ids-only t.take.result a.rows.now l (taken t).stored),
+      (has_on f.new.0 a.bytes.now p.0 (taken c.before.before.before.before.before) f.ensures.0 refl, ids-only c.before.before.before.before.before.take-to.result a.rows.now l (taken c.before.before.before.before.before).stored),
       λ others v seen met.
           let g = v.arrays.vals in
-          seen-put seen p.0 p.1 l (taken t) f.new.0 _
-          (subst (λ (i : ℕ). Parts a.m a.arrays f.new.0 (store g h t.take.result (Qs (take (2 ^ h) (g (suc h) i)) (drop (2 ^ h) (g (suc h) i)))))
-          (above t ∙ seen-id seen p.2) (f.ensures.1 g seen.vals)),
+          seen-put seen p.0 p.1 l (taken c.before.before.before.before.before) f.new.0 _
+          (subst (λ (i : ℕ). Parts a.m a.arrays f.new.0 (store g h c.before.before.before.before.before.take-to.result (Qs (take (2 ^ h) (g (suc h) i)) (drop (2 ^ h) (g (suc h) i)))))
+          (above c.before.before.before.before.before ∙ seen-id seen p.2) (f.ensures.1 g seen.vals)),
     )
 
 pub lower_spec : {M : Type 1} → statement M
 lower_spec =
     tie.close
-    (tie.spec add-id-of id-of-requires take-requires first-half-requires same_length same-length-2 returns)
+    (tie.spec
+    add-id-of
+    id-of-requires
+    take-requires
+    first-half-requires
+    same_length
+    same-length-2
+    returns)

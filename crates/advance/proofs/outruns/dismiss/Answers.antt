@@ -1,0 +1,113 @@
+-- `advance::outruns::dismiss` meets its contract. The loop's invariant: the paths of the first i entries are passed, and those of them with b
+-- blocks or fewer are gone. Assumes nothing.
+use mathlib.Core.Path.{◌≡◌, sym, ap, ◌∙◌}
+use mathlib.Core.List.{List, ◌∷◌}
+use mathlib.Core.Logic.{⊎_elim}
+use Prim.Native.Nat.{ℕ, suc, ◌+◌, ◌-◌, ◌≤◌}
+use native.Mathlib.Nat.{sub-zero}
+use native.Mathlib.Omega.{arith}
+use lib.IntN.{ℤ}
+use lib.ListN.{length, set, length-set}
+use Rattle.order.specs.Entries.{queue_of}
+use Rattle.order.proofs.Queues.{queue-put}
+use Rattle.sharing.specs.Sharing.{Held}
+use Rattle.standing.specs.Seen.{memory}
+use Rattle.steps.specs.Steps.{Queued}
+use Rattle.advance.proofs.Dismissals.{Passed, passed_none, passed-all, next-slot, next-held, passed-out, passed-in}
+use Rattle.advance.proofs.outruns.dismiss.Goals as goal
+
+pub loop-i-init : goal.loop-i-init
+loop-i-init c =
+    let a = c.args in
+    let s = c.requires.rows in
+    let z : a.paths - a.queued + 0 ≡ a.paths - a.queued = omega arith in (
+      omega arith,
+      omega arith,
+      s.1,
+      s.3,
+      λ arrays numbers bytes x small. rw (z, sub-zero a.queued) (passed_none a.order.now a.b a.queued x.stands),
+    )
+
+pub offset_bounds-order-i : goal.offset_bounds-order-i
+offset_bounds-order-i c = omega arith
+
+pub bounds-order-i : goal.bounds-order-i
+bounds-order-i c = omega arith
+
+pub blocks_of-requires : goal.blocks_of-requires
+blocks_of-requires c = tt
+
+pub slot_of-slot-requires : goal.slot_of-slot-requires
+slot_of-slot-requires c = tt
+
+pub release-requires : goal.release-requires
+unfolding memory
+release-requires c = let a = c.args in
+    let y = c.loop-i in
+    let p = c.requires.by_index in
+    let x = p.4 in
+    let q : a.queued - y.i ≡ suc (a.queued - (y.i + 1)) = omega arith in
+    let passed = y.invariant.4 p.0 p.2 p.3 x p.1 in
+    let low = next-slot (a.queued - (y.i + 1)) q passed in
+    let held = next-held (a.queued - (y.i + 1)) q passed in record { held = (y.invariant.2, c.requires.rows.4, (omega arith, omega (arith, low, c.slot_of-slot.ensures.0))); by_index = λ h l.
+          let k = held h (omega (arith, x.deep)) in
+          rw c.slot_of-slot.ensures.0 (omega (arith, k.0, p.1), k.1) }
+
+pub overflow_cast-vacant : goal.overflow_cast-vacant
+overflow_cast-vacant c = omega arith
+
+pub overflow_sub-vacant : goal.overflow_sub-vacant
+overflow_sub-vacant c = omega arith
+
+pub overflow_add-vacant : goal.overflow_add-vacant
+overflow_add-vacant c = omega arith
+
+pub bounds-vacant-paths : goal.bounds-vacant-paths
+bounds-vacant-paths c = omega arith
+
+pub overflow_add-gone : goal.overflow_add-gone
+overflow_add-gone c = omega arith
+
+pub overflow_add-i : goal.overflow_add-i
+overflow_add-i c = omega arith
+
+pub loop-i-smaller : goal.loop-i-smaller
+loop-i-smaller c = omega arith
+
+pub loop-i-preserved : goal.loop-i-preserved
+unfolding memory
+loop-i-preserved c =
+    let a = c.args in
+    let y = c.loop-i in
+    let e = c.blocks_of.ensures in
+    let v = a.paths - a.queued + y.gone in
+    let n = a.queued - (y.i + 1) in
+    let q : a.queued - y.i ≡ suc n = omega arith in
+    let u : a.paths - a.queued + (y.gone + 1) ≡ suc v = omega arith in
+    ⊎_elim
+    (λ w.
+    let slot = w.1.result in
+    let put : queue_of (set y.vacant v slot) (a.paths - a.queued + (y.gone + 1)) ≡ slot ∷ queue_of y.vacant v =
+    ap (queue_of (set y.vacant v slot)) u ∙ queue-put v y.vacant slot (omega arith) in
+    rw (w.4, w.5, w.6) (
+      omega arith,
+      omega arith,
+      w.3.ensures.0,
+      simp length-set y.invariant.3,
+      λ arrays numbers bytes x small.
+          let less = rw (sym x.deep, w.1.ensures.0) at w.3.ensures.1 in
+          rw (put, w.1.ensures.0) (passed-out n q (y.invariant.4 arrays numbers bytes x small) w.3.last.1.0 (omega arith) (omega (arith, e, w.0.taken)) less),
+    ))
+    (λ w.
+    rw (w.1, w.2, w.3) (
+      omega arith,
+      omega arith,
+      y.invariant.2,
+      y.invariant.3,
+      λ arrays numbers bytes x small. passed-in n q (y.invariant.4 arrays numbers bytes x small) (omega (arith, e, w.0.left)),
+    ))
+    c.if-blocks_of-b.branch
+
+pub returns : goal.returns
+returns c = let a = c.args in
+    let y = c.loop-i in record { held = (y.invariant.2, y.invariant.3, omega arith); by_index_2 = λ arrays numbers bytes x small. passed-all a.queued (omega arith) (omega arith) (y.invariant.4 arrays numbers bytes x small) }

@@ -1,0 +1,11 @@
+-- `loading::loader::finish` meets its contract: each return is that of the test that led there. Assumes nothing.
+use borrow.Author.Rules.{rules}
+use Rattle.codebook.specs.Progress.{shape_at}
+use Rattle.loading.proofs.loader.finish.Goals as goal
+
+pub returns-then-follows : goal.returns-then-follows
+returns-then-follows c = rw c.if-follows.true c.refuse.ensures
+
+pub returns : goal.returns
+unfolding shape_at
+returns c = rw c.if-follows.false

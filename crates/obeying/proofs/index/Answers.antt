@@ -1,0 +1,32 @@
+-- `obeying::index` meets its contract: an index command may stand, and any other is misplaced. Assumes nothing.
+use native.Mathlib.Omega.{arith}
+use borrow.Author.Rules.{rules}
+use Rattle.codebook.specs.declared.Refusal.TheVariants.{Misplaced}
+use Rattle.codebook.specs.Progress.{with_indices, run_command}
+use Rattle.obeying.proofs.Verdicts.{refuse, verdict-misplaced, index-misplaced}
+use Rattle.obeying.proofs.Growing.{unfilled, uncovered}
+use Rattle.obeying.proofs.index.Goals as goal
+
+pub returns-in-Free : goal.returns-in-Free
+unfolding run_command
+returns-in-Free c t n old s h =
+    let a = c.args in
+    rw c.c-1.given.1 (c.run.ensures (with_indices t a.kinds.now a.terms.now) old s h)
+
+pub returns-in-Zero : goal.returns-in-Zero
+unfolding run_command
+returns-in-Zero c t n old s h =
+    let a = c.args in
+    rw c.c-in-Zero-1.given.1 (c.run-in-Zero.ensures (with_indices t a.kinds.now a.terms.now) old s h)
+
+pub returns-in_default-c-2 : goal.returns-in_default-c-2
+returns-in_default-c-2 c t n old s h =
+    let a = c.args in
+    let table = with_indices t a.kinds.now a.terms.now in
+    let left = c.requires.filled_lt_n in
+    let none = uncovered a.p table old s h (unfilled a.p table old s h left) in
+    refuse _ _ _ _ Misplaced (verdict-misplaced s a.c a.whole (index-misplaced a.p s h.counts left (omega (arith, h.counts.covered)) a.c c.in_default.keys2 c.in_default-c.keys2 c.in_default-c-2.keys2 n))
+
+pub returns : goal.returns
+returns c t n old s h =
+    rw c.c-in-Tie-1.given.1 (c.tie.ensures t old s h)

@@ -1,0 +1,10 @@
+-- `passes::least_two::which` meets its contract, by its test. Assumes nothing.
+use mathlib.Core.Path.{refl}
+use borrow.Author.Tests.{lt-ltb, le-ltb}
+use Rattle.passes.proofs.least_two.which.Goals as goal
+
+pub returns-then-a-b : goal.returns-then-a-b
+returns-then-a-b c = let a = c.args in rw (lt-ltb a.a a.b c.if-a-b.true) refl
+
+pub returns-else-a-b : goal.returns-else-a-b
+returns-else-a-b c = let a = c.args in rw (le-ltb a.a a.b c.if-a-b.false) refl

@@ -1,0 +1,15 @@
+-- The loop invariants of bytes.least_byte, and what falls at each turn.
+use mathlib.Core.Path.{◌≡◌, refl, ap, ap₂, ◌∙◌}
+use Prim.Native.Nat.{◌+◌, ◌-◌, ◌*◌, ◌≤◌, min}
+use native.Mathlib.Omega.{arith}
+use lib.ListN.{get_or}
+use Rattle.short.specs.Short.{least_key, byte_key}
+use Rattle.short.proofs.LeastKey.{key-same, key-first, key-runs}
+use Rattle.short.proofs.Octets.{row-key}
+use Rattle.short.proofs.bytes.least_byte.Given as goal
+
+abbrev pub invariant-loop-h : goal.invariant-loop-h
+invariant-loop-h l = (l.h ≤ l.side) × (l.best ≡ least_key (byte_key l.halves) l.bound (16 * l.h))
+
+abbrev pub decreases-loop-h : goal.decreases-loop-h
+decreases-loop-h l = l.side - l.h

@@ -1,0 +1,14 @@
+-- The loop invariants of settings.double_all, and what falls at each turn.
+use mathlib.Core.Path.{◌≡◌, sym, ap, ◌∙◌, subst}
+use Prim.Native.Nat.{ℕ, ◌-◌, ◌^◌, ◌≤◌, ◌<◌}
+use native.Mathlib.Omega.{arith}
+use lib.ListN.{length, get_or, length-set}
+use lib.Pow.{pow_mono}
+use Rattle.tables.proofs.Spread.{SettingsFilled, filled_none, filled_more}
+use Rattle.tables.proofs.settings.double_all.Given as goal
+
+abbrev pub invariant-loop-left : goal.invariant-loop-left
+invariant-loop-left l = (l.left ≤ l.free) × (length l.table ≡ 256) × (l.count ≡ 2 ^ (l.free - l.left)) × SettingsFilled l.table l.steps l.left (l.free - l.left)
+
+abbrev pub decreases-loop-left : goal.decreases-loop-left
+decreases-loop-left l = l.left

@@ -1,0 +1,15 @@
+-- The loop invariants of settings.walk, and what falls at each turn.
+use mathlib.Core.Path.{◌≡◌, refl, sym, ap, ◌∙◌}
+use Prim.Native.Nat.{suc, ◌+◌, ◌-◌, ◌^◌, ◌≤◌}
+use native.Mathlib.Numerals.{add-one}
+use native.Mathlib.Omega.{arith}
+use lib.ListN.{length, get_or, length-set}
+use Rattle.outer.specs.Search.{grown, settings, entry, Spans}
+use Rattle.tables.proofs.Advance.{settings-le, spans-first, entry_more}
+use Rattle.tables.proofs.settings.walk.Given as goal
+
+abbrev pub invariant-loop-i : goal.invariant-loop-i
+invariant-loop-i l = (l.i ≤ l.n) × (length l.words ≡ 9) × (length l.sets ≡ 9) × (2 ^ l.free ≡ settings l.kinds l.start l.i) × Spans l.words l.sets l.free (entry l.kinds l.terms l.start l.parities l.i)
+
+abbrev pub decreases-loop-i : goal.decreases-loop-i
+decreases-loop-i l = l.n - l.i
