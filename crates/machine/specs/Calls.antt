@@ -2,7 +2,7 @@
 -- manner says how one differs from another, and the run is an argument, so that the plain machine's and the reader's go into the same definition. Assumes nothing.
 use Rattle.std.specs.Prelude.{Bool, true, false, cond, ◌&&◌, List, [], ◌∷◌, ◌++◌, map, ℕ, ◌+◌, ◌*◌, length, drop, replicate, ℤ, pos, nat_abs, leb, eqb}
 use Rattle.std.proofs.Math.Option.{Option, none, some}
-use Rattle.std.specs.Borrow.{Bor}
+use Rattle.std.specs.Borrow.{MutBor}
 use denote.Triple.Both.{Both}
 use Rattle.laws.specs.Lists.{sum}
 use Rattle.polar.specs.Transform.{transform}
@@ -70,7 +70,7 @@ lent word bits numbers bytes walk_path walk_blocks walk_score =
 
 -- a slice that is lent to be written, as a contract has it at entry and at exit
 abbrev pub Slice : Type 0 → Type 0
-Slice A = Both (Bor (List A)) (Bor (List A))
+Slice A = Both (MutBor (List A)) (MutBor (List A))
 
 -- what is lent, of a call's parameters: as it is at entry, and as it is at exit
 abbrev pub lent_before : Slice ℕ → Slice ℕ → Slice ℤ → Slice ℕ → Slice ℤ → Slice ℤ → Slice ℤ → Lent

@@ -45,7 +45,7 @@ input s = s.requires.1.1.1.1
 
 -- what is lent
 abbrev buffers : tie.Start → Lent
-buffers s = let a = s.args in lent a.word.now a.bits.now a.numbers.now a.bytes.now a.walk-path.now a.walk-blocks.now a.walk-score.now
+buffers s = let a = s.args in lent a.word.now a.bits.now a.numbers.now a.bytes.now a.walk_path.now a.walk_blocks.now a.walk_score.now
 
 cast-n : tie.Need-overflow_cast-n
 cast-n c = search rules

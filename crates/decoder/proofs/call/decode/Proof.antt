@@ -12,7 +12,7 @@ abbrev call : tie.Start → Input
 call s = let a = s.args in given a.book.now a.s a.values.now
 
 abbrev buffers : tie.Start → Lent
-buffers s = let a = s.args in lent a.word.now a.bits.now a.numbers.now a.bytes.now a.walk-path.now a.walk-blocks.now a.walk-score.now
+buffers s = let a = s.args in lent a.word.now a.bits.now a.numbers.now a.bytes.now a.walk_path.now a.walk_blocks.now a.walk_score.now
 
 decode-in-requires : tie.Need-decode_in-x-requires
 decode-in-requires c κs = search rules

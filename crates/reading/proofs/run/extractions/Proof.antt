@@ -140,10 +140,10 @@ loop-holds c =
           (subst
           (λ w. Going r.book a.values.now a.s.visits a.s.paths a.arrays (arrays_of a.x.m c.before.before.receive.new.0 a.bytes.now)
           (memory c.before.before.before.before.before.before.before.before.before.before.begin.new.0 c.before.before.before.before.before.before.before.before.before.before.begin.new.1.0 c.before.before.receive.new.0 a.bytes.now) a.order.now c.before.before.before.before.before.fill_vacant.new.0 w a.kept.now
-          (record { queued = 0; next = 1; extractions = 0; crowded = 0; outrun = 0 }) c.entry-e.result a.walk-path.now a.walk-blocks.now a.walk-score.now
-          a.walk-path.now a.walk-blocks.now a.walk-score.now) (sym s.requires.1.0.3)
+          (record { queued = 0; next = 1; extractions = 0; crowded = 0; outrun = 0 }) c.entry-e.result a.walk_path.now a.walk_blocks.now a.walk_score.now
+          a.walk_path.now a.walk_blocks.now a.walk_score.now) (sym s.requires.1.0.3)
           (run-first r a.s.visits a.s.paths a.arrays c.before.before.before.before.before.before.before.before.before.before.begin.new.0 c.before.before.before.before.before.before.before.before.before.before.begin.new.1.0 c.before.before.before.before.before.fill_vacant.new.0 c.before.before.receive.new.0 a.bytes.now c.entry-e.result a.order.now a.kept.now
-          a.walk-path.now a.walk-blocks.now a.walk-score.now (omega (arith, p.alive)) q.2 q.3 a.rows.now s.requires.0.1 (omega (arith, s.requires.0.0, p.alive)) c.before.before.before.before.before.before.before.before.before.before.begin.ensures.0 c.before.before.before.before.before.before.before.before.before.before.begin.ensures.2
+          a.walk_path.now a.walk_blocks.now a.walk_score.now (omega (arith, p.alive)) q.2 q.3 a.rows.now s.requires.0.1 (omega (arith, s.requires.0.0, p.alive)) c.before.before.before.before.before.before.before.before.before.before.begin.ensures.0 c.before.before.before.before.before.before.before.before.before.before.begin.ensures.2
           c.before.before.before.before.before.fill_vacant.ensures.1 c.entry-e.ensures (root-now c))) (rising_none _) 0 (omega arith) (λ k. absurd (omega arith)),
       omega arith,
     )
@@ -163,7 +163,7 @@ more c q = eqb-false c.before.blocks_of.result (began c.before.before.before.bef
 -- what the turn needs for an input
 abbrev turning : (c : tie.Then-blocks_of-blocks invariant-loop decreases-loop) (r : Input (began c.before.before.before.before)) → let a = (began c.before.before.before.before).args in let l = c.before.before.before.before.loop-t in
     Turning a.x a.s a.arrays a.kinds.now a.terms.now a.heights.now a.starts.now a.biases.now (memory l.rows l.holders l.numbers l.bytes)
-    l.order l.vacant l.visits l.auto l.t l.e l.walk-path l.walk-blocks l.walk-score
+    l.order l.vacant l.visits l.auto l.t l.e l.walk_path l.walk_blocks l.walk_score
 turning c r =
     let s = began c.before.before.before.before in
     let a = s.args in
@@ -172,9 +172,9 @@ turning c r =
       input = r;
       arrays = arrays_of a.x.m c.before.before.before.before.before.before.before.receive.new.0 a.bytes.now;
       root = root-now c.before.before.before.before.before;
-      path₀ = a.walk-path.now;
-      blocks₀ = a.walk-blocks.now;
-      score₀ = a.walk-score.now;
+      path₀ = a.walk_path.now;
+      blocks₀ = a.walk_blocks.now;
+      score₀ = a.walk_score.now;
       room = s.requires.1.1.1.1.1.0;
       at = c.before.before.before.before.loop-t.invariant.2 r;
       more = λ q. more c (taken-blocks (c.before.before.before.before.loop-t.invariant.2 r).stands ∙ q ∙ r.blocks);
@@ -232,13 +232,13 @@ leave : (c : tie.At-loop-t invariant-loop decreases-loop) → (c.loop-t.t.extrac
     (r : Input (began c)) → let a = (began c).args in let y = c.loop-t in
     Before r.book a.s.visits a.s.paths a.arrays (arrays_of a.x.m (received a.x.m a.values.now a.numbers.now) a.bytes.now) a.most
     (memory y.rows y.holders y.numbers y.bytes) y.order y.vacant y.visits y.auto y.t y.e
-    a.walk-path.now a.walk-blocks.now a.walk-score.now y.walk-path y.walk-blocks y.walk-score
+    a.walk_path.now a.walk_blocks.now a.walk_score.now y.walk_path y.walk_blocks y.walk_score
 leave c d r =
     let a = (began c).args in
     let y = c.loop-t in
     subst
     (λ l. Before r.book a.s.visits a.s.paths a.arrays (arrays_of a.x.m l a.bytes.now) a.most (memory y.rows y.holders y.numbers y.bytes)
-    y.order y.vacant y.visits y.auto y.t y.e a.walk-path.now a.walk-blocks.now a.walk-score.now y.walk-path y.walk-blocks y.walk-score)
+    y.order y.vacant y.visits y.auto y.t y.e a.walk_path.now a.walk_blocks.now a.walk_score.now y.walk_path y.walk_blocks y.walk_score)
     (received-now c.before) (before-most (y.invariant.2 r) a.most y.invariant.3 (λ k. d k ∙ sym r.blocks))
 
 -- by a path with all blocks

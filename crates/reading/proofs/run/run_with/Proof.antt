@@ -55,7 +55,7 @@ left c = memory c.extractions-stage.new.1.0 c.extractions-stage.new.1.1.0 c.extr
 abbrev stopped : (c : tie.After-extractions-stage) (r : Input (began c)) → let a = (began c).args in
     Before r.book a.s.visits a.s.paths a.arrays (arrays_of a.x.m (received a.x.m a.values.now a.numbers.now) a.bytes.now) (a.s.visits * a.x.blocks + 1)
     (left c) c.extractions-stage.new.1.1.1.0 c.extractions-stage.new.1.1.1.1.0 c.extractions-stage.new.1.1.1.1.1.0 c.extractions-stage.new.1.1.1.1.1.1.0 c.extractions-stage.result.tally c.extractions-stage.result.entry
-    a.walk-path.now a.walk-blocks.now a.walk-score.now c.extractions-stage.new.1.1.1.1.1.1.1.1.1.1.1.1.1.1.1.1.1.1.0 c.extractions-stage.new.1.1.1.1.1.1.1.1.1.1.1.1.1.1.1.1.1.1.1.0 c.extractions-stage.new.1.1.1.1.1.1.1.1.1.1.1.1.1.1.1.1.1.1.1.1.0
+    a.walk_path.now a.walk_blocks.now a.walk_score.now c.extractions-stage.new.1.1.1.1.1.1.1.1.1.1.1.1.1.1.1.1.1.1.0 c.extractions-stage.new.1.1.1.1.1.1.1.1.1.1.1.1.1.1.1.1.1.1.1.0 c.extractions-stage.new.1.1.1.1.1.1.1.1.1.1.1.1.1.1.1.1.1.1.1.1.0
 stopped c r = c.extractions-stage.ensures.1 r
 
 -- no run has as many before its end

@@ -27,7 +27,7 @@ abbrev Turn : tie.Start → Type 0
 Turn s =
     let a = s.args in
     Turning a.x a.s a.arrays a.kinds.now a.terms.now a.heights.now a.starts.now a.biases.now (memory a.rows.now a.holders.now a.numbers.now a.bytes.now)
-    a.order.now a.vacant.now a.visits.now a.kept.now a.t a.e a.walk-path.now a.walk-blocks.now a.walk-score.now
+    a.order.now a.vacant.now a.visits.now a.kept.now a.t a.e a.walk_path.now a.walk_blocks.now a.walk_score.now
 
 abbrev own : (s : tie.Start) → Turn s
 own s = s.requires.1.1.1.1
@@ -35,7 +35,7 @@ own s = s.requires.1.1.1.1
 -- it is under way
 abbrev going : (s : tie.Start) (r : Turn s) → let a = s.args in
     Going r.input.book r.values a.s.visits a.s.paths a.arrays r.arrays (memory a.rows.now a.holders.now a.numbers.now a.bytes.now)
-    a.order.now a.vacant.now a.visits.now a.kept.now a.t a.e r.path₀ r.blocks₀ r.score₀ a.walk-path.now a.walk-blocks.now a.walk-score.now
+    a.order.now a.vacant.now a.visits.now a.kept.now a.t a.e r.path₀ r.blocks₀ r.score₀ a.walk_path.now a.walk_blocks.now a.walk_score.now
 going s r = turning-going r s.requires.1.0.alive s.requires.0.3
 
 limits : (s : tie.Start) → let t = s.args.t in
