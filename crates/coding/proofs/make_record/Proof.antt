@@ -62,7 +62,6 @@ returns-2 c =
     told _ a.bits.now (make-record-number a.book.now a.h a.bits.now) (make-mismatch a.book.now a.bits.now K.is K.loads (fits c.before) a.h (not-true _ c.if-not-both_fit.true))
 
 record-fits-requires : tie.Need-record_fits-requires
-
 record-fits-requires c κs = search rules
 
 returns-3 : tie.Need-returns-then-not-record_fits

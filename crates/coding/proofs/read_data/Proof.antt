@@ -92,12 +92,10 @@ slice-aggregate-data-of : tie.Need-slice_bounds-data_of-end
 slice-aggregate-data-of c = zeros-part _ (inside c.before.before)
 
 data-of-requires : tie.Need-data_of-requires
-
 data-of-requires c κs =
-    let q = c.before.before.before in
-    let K = known q.before.before.before.before in
-    let z = passed q in
-    ((_, (z.0.coded, z.1, z.2)), (zeros-part _ (inside q), sym z.1 ∙ K.valid.indices ∙ ap (λ n. 2 ^ n) (sym K.height), z.3))
+    let K = known c.before.before.before.before.before.before.before in
+    let z = passed c.before.before.before in
+    ((_, (z.0.coded, z.1, z.2)), (zeros-part _ (inside c.before.before.before), sym z.1 ∙ K.valid.indices ∙ ap (λ n. 2 ^ n) (sym K.height), z.3))
 
 same_length : tie.Need-shape_of-bits
 same_length c = search rules

@@ -80,8 +80,7 @@ returns-3 c =
     ∙ record-bad a.book.now a.bits.now K.is K.loads (fits c.before.before.before.before) (not-false _ c.before.before.before.if-not-both_fit.false) (sym c.before.before.are_bits.ensures ∙ not-true _ c.before.if-not-are_bits.true))
 
 record-of-requires : tie.Need-record_of-requires
-
-record-of-requires c κs = (holds c.before.before, are-bits _ (sym c.before.are-bits.ensures ∙ not-false _ c.if2.false))
+record-of-requires c κs = (holds c.before.before, are-bits _ (sym c.before.are_bits.ensures ∙ not-false _ c.if-not-are_bits.false))
 
 returns-4 : tie.Need-returns
 returns-4 c =

@@ -13,10 +13,8 @@ returns-then-s-discrepancy c =
 
 pub record_of-requires : goal.record_of-requires
 unfolding RecordIn
-
-record-of-requires c κs =
-    let s = c.before.before.before.before.before in
-    subst (λ (r : Reads). RecordIn r s.args.info.now) c.enum-told2.given.1 s.requires
+record_of-requires c =
+    subst (λ (r : Reads). RecordIn r c.args.info.now) c.enum_told-in-Record-1.given.1 c.requires
 
 pub returns-in-Data : goal.returns-in-Data
 returns-in-Data c =

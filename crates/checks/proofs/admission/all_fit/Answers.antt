@@ -6,10 +6,6 @@ use Rattle.checks.specs.Checks.{fitting}
 use Rattle.checks.proofs.Chains.{first-fails, second-fails, third-decides}
 use Rattle.checks.proofs.admission.all_fit.Goals as goal
 
-pub record_fits_book-requires : goal.record_fits_book-requires
-
-record-fits-book-requires c κs = search rules
-
 pub returns-then-not-record_fits_book : goal.returns-then-not-record_fits_book
 unfolding fitting
 returns-then-not-record_fits_book c = first-fails _ _ _ (sym c.record_fits_book.ensures ∙ not-true _ c.if-not-record_fits_book.true)

@@ -7,10 +7,6 @@ use Rattle.numbered.proofs.Fields.{from_fields}
 use borrow.Author.Rules.{rules}
 use Rattle.numbered.proofs.records.make_record_number.Goals as goal
 
-pub record_from-requires : goal.record_from-requires
-
-record-from-requires c κs = search rules
-
 pub returns : goal.returns
 returns c =
     let a = c.args in

@@ -26,11 +26,9 @@ cast-n : tie.Need-overflow_cast-n
 cast-n c = search rules
 
 record-at-requires : tie.Need-record_at-step-requires
-
 record-at-requires c κs =
-    let d = c.before.before.before.before.before.before.before.before.before.before.before.before.before.before in
-    let s = start d in
-    step_fits (call s) (buffers s) d.decode.result (after d) d.decode.ensures
+    let s = start c.before.before.before.before.before.before.before.before.before.before.before in
+    step_fits (call s) (buffers s) c.before.before.before.before.before.before.before.before.before.before.before.decode-r.result (after c.before.before.before.before.before.before.before.before.before.before.before) c.before.before.before.before.before.before.before.before.before.before.before.decode-r.ensures
 
 same_length : tie.Need-shape_of-word
 same_length c = search rules

@@ -1,4 +1,0 @@
-pub mod Judged
-pub mod Cleared
-pub mod Readied
-pub mod Whole
