@@ -1,0 +1,4 @@
+pub mod Judged
+pub mod Cleared
+pub mod Readied
+pub mod Whole

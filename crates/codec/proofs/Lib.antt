@@ -1,0 +1,11 @@
+pub mod Fill
+pub mod Reverse
+pub mod Digits
+pub mod Record
+pub mod Answers
+pub mod Calls
+pub mod Numbers
+pub mod Testing
+pub mod Ties
+pub mod TieSets
+pub mod Turns
