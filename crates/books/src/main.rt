@@ -11,9 +11,11 @@ ghost use Rattle.std.specs.Prelude.{◌+◌, ◌≤◌, ◌<◌, length};
 
 use codebook::{Outcome, Refusal, refusal_number};
 use command::{print_command, width};
-use libc::STDIN_FILENO;
 use loading::load;
 use text::{print_number, print_words};
+
+// Standard input's descriptor.
+const STDIN_FILENO: i32 = 0;
 
 // What the book up to a command's end comes to.
 #[derive(Clone, Copy)]

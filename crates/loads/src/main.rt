@@ -6,8 +6,13 @@
 ghost use Rattle.std.specs.Prelude.{◌+◌, ◌<◌, ◌≤◌, length};
 
 use codebook::Shape;
-use libc::{STDIN_FILENO, STDOUT_FILENO};
 use numerals::two;
+
+// Standard input's descriptor.
+const STDIN_FILENO: i32 = 0;
+
+// Standard output's descriptor.
+const STDOUT_FILENO: i32 = 1;
 
 fn print_field(n: u64) {
     io::write_all(STDOUT_FILENO, b" ");

@@ -5,8 +5,10 @@
 
 ghost use Rattle.std.specs.Prelude.{◌+◌, ◌≤◌, length};
 
-use libc::STDOUT_FILENO;
 use polar::values::magnitude;
+
+// Standard output's descriptor.
+const STDOUT_FILENO: i32 = 1;
 
 pub fn print_words(words: &[u8]) {
     io::write_all(STDOUT_FILENO, words);

@@ -4,8 +4,10 @@ use crate::lines::{begin, end_line, print_bits, print_number};
 use crate::stream::next;
 use codebook::{outcome_number, refusal_number};
 use codec::Tested;
-use libc::STDOUT_FILENO;
 use numerals::two;
+
+// Standard output's descriptor.
+const STDOUT_FILENO: i32 = 1;
 
 // N encode A WORD, the checksums of data and word
 fn encode_into(case: u64, book: &[u8], data: &[u8], word: &mut [u8]) {

@@ -2,8 +2,10 @@
 // read, so that a buffer keeps its zeros there. Relies on the crates io and numerals.
 ghost use Rattle.std.specs.Prelude.{◌<◌, ◌≤◌};
 
-use libc::STDIN_FILENO;
 use numerals::two;
+
+// Standard input's descriptor.
+const STDIN_FILENO: i32 = 0;
 
 // The lesser of two.
 pub fn least(a: usize, b: usize) -> usize

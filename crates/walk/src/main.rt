@@ -3,7 +3,8 @@
 
 #![tactic(auto)]
 
-use libc::STDIN_FILENO;
+// Standard input's descriptor.
+const STDIN_FILENO: i32 = 0;
 
 fn main() {
     let mut input = [0u8; 65700];

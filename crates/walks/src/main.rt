@@ -5,10 +5,12 @@
 
 ghost use Rattle.std.specs.Prelude.{◌+◌, ◌<◌, ◌≤◌, length};
 
-use libc::STDIN_FILENO;
 use listing::list;
 use numerals::four;
 use text::{print_number, print_words};
+
+// Standard input's descriptor.
+const STDIN_FILENO: i32 = 0;
 
 // Four bytes of the stream as a number.
 fn field_at(s: &[u8], at: usize) -> usize
