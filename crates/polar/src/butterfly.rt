@@ -49,7 +49,7 @@ fn stage(c: &mut [u8], k: usize, h: usize)
     }
 }
 
-// u becomes typeof.u.A.
+// u becomes u·A.
 pub fn transform(c: &mut [u8], m: u32)
     requires { (length c.old ≡ 2 ^ m) × All Bit c.old }
     ensures { c.new ≡ transform m c.old }
