@@ -20,8 +20,7 @@ loop-j-init c =
 
 pub stage-requires : goal.stage-requires
 stage-requires c =
-    let x = c.loop-j in
-    (
+    let x = c.loop-j in (
       pairs-length c.args.c.now c.requires.0 c.loop-j-test.true x.invariant.1 x.invariant.2 x.invariant.3,
       subst (All Bit) (sym x.invariant.3) (runs-bits x.k x.j c.args.c.now c.requires.1),
     )
