@@ -1,4 +1,5 @@
 -- `settings::Settings::checked` meets its contract: each refusal by the test that a range fails, the settings by all six. Assumes nothing.
+use mathlib.Core.Logic.{⊎_elim}
 use native.Mathlib.Omega.{arith}
 use Rattle.settings.proofs.Ranges.{refused, made}
 use Rattle.settings.proofs.Settings.checked.Goals as goal
@@ -6,17 +7,17 @@ use Rattle.settings.proofs.Settings.checked.Goals as goal
 pub returns-then-s-lt-LEAST_VISITS : goal.returns-then-s-lt-LEAST_VISITS
 returns-then-s-lt-LEAST_VISITS c =
     let s = c.args.s in
-    refused s (λ r. ?)
+    refused s (λ r. ⊎_elim (λ w. omega arith) (λ w. omega arith) c.then-s-lt-LEAST_VISITS.either)
 
 pub returns-then-s-lt-LEAST_PATHS : goal.returns-then-s-lt-LEAST_PATHS
 returns-then-s-lt-LEAST_PATHS c =
     let s = c.args.s in
-    refused s (λ r. ?)
+    refused s (λ r. ⊎_elim (λ w. omega arith) (λ w. omega arith) c.then-s-lt-LEAST_PATHS.either)
 
 pub returns-then-s-lt-LEAST_LIMIT : goal.returns-then-s-lt-LEAST_LIMIT
 returns-then-s-lt-LEAST_LIMIT c =
     let s = c.args.s in
-    refused s (λ r. ?)
+    refused s (λ r. ⊎_elim (λ w. omega arith) (λ w. omega arith) c.then-s-lt-LEAST_LIMIT.either)
 
 pub returns : goal.returns
 returns c =
