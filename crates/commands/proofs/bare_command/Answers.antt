@@ -1,5 +1,6 @@
 -- `commands::bare_command` meets its contract: arm by arm, the definition computes. Assumes nothing.
-use borrow.Author.Tests.{ne_eqb}
+use native.Mathlib.Omega.{arith}
+use Rattle.std.proofs.lemmas.Bool.Decides.{nat_tests}
 use Rattle.codebook.specs.Loading.{big_endian, signed, command}
 use Rattle.commands.proofs.bare_command.Goals as goal
 
@@ -29,4 +30,4 @@ returns-in-5 c = rw c.in-5.is
 
 pub returns-in_default : goal.returns-in_default
 unfolding command
-returns-in_default c = ?
+returns-in_default c = grind (arith, nat_tests)

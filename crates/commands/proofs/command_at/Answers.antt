@@ -7,7 +7,7 @@ use lib.ListN.{take, drop}
 use lib.Seq.{drop-drop, take-take}
 use mir.Syntax.{w32}
 use mir.ValLaws.{to_z-of_z}
-use borrow.Author.Tests.{ne_eqb}
+use Rattle.std.proofs.lemmas.Bool.Decides.{nat_tests}
 use borrow.Author.Rules.{rules}
 use Rattle.laws.proofs.Lists.{drop-take}
 use Rattle.codebook.specs.Loading.{width, command}
@@ -74,4 +74,4 @@ returns-in-5 c =
 
 pub returns-in_default : goal.returns-in_default
 unfolding command
-returns-in_default c = ?
+returns-in_default c = grind (arith, nat_tests)
