@@ -7,7 +7,7 @@ use lib.ListN.{take, drop}
 use lib.Seq.{drop-drop, take-take}
 use mir.Syntax.{w32}
 use mir.ValLaws.{to_z-of_z}
-use borrow.Author.Tests.{ne_eqb}
+use Rattle.std.proofs.lemmas.Bool.Decides.{nat_tests}
 use borrow.Author.Rules.{rules}
 use Rattle.laws.proofs.Lists.{drop-take}
 use Rattle.codebook.specs.Loading.{width, command}
@@ -19,61 +19,59 @@ block-bias bytes at = drop-take 1 5 (drop at bytes) ∙ ap (take 4) (drop-drop 1
 
 pub one-requires : goal.one-requires
 unfolding width
-one-requires c = omega (arith, rw c.in-16.keys1 at c.requires)
+one-requires c = omega (arith, rw c.in-16.is at c.requires)
 
 pub two-requires : goal.two-requires
 unfolding width
-two-requires c = omega (arith, rw c.in-1.keys2 at c.requires)
+two-requires c = omega (arith, rw c.in-1.is at c.requires)
 
 pub two-requires-in-2 : goal.two-requires-in-2
 unfolding width
-two-requires-in-2 c = omega (arith, rw c.in-2.keys3 at c.requires)
+two-requires-in-2 c = omega (arith, rw c.in-2.is at c.requires)
 
 pub two-requires-in-3 : goal.two-requires-in-3
 unfolding width
-two-requires-in-3 c = omega (arith, rw c.in-3.keys4 at c.requires)
+two-requires-in-3 c = omega (arith, rw c.in-3.is at c.requires)
 
 pub two-requires-in-4 : goal.two-requires-in-4
 unfolding width
-two-requires-in-4 c = omega (arith, rw c.in-4.keys5 at c.requires)
+two-requires-in-4 c = omega (arith, rw c.in-4.is at c.requires)
 
 pub one-requires-in-5 : goal.one-requires-in-5
 unfolding width
-one-requires-in-5 c = omega (arith, rw c.in-5.keys6 at c.requires)
+one-requires-in-5 c = omega (arith, rw c.in-5.is at c.requires)
 
 pub four-requires : goal.four-requires
 unfolding width
-four-requires c = omega (arith, rw c.in-5.keys6 at c.requires)
+four-requires c = omega (arith, rw c.in-5.is at c.requires)
 
 pub returns-in-16 : goal.returns-in-16
 unfolding command width
-returns-in-16 c = rw (c.in-16.keys1, c.one.ensures)
+returns-in-16 c = rw (c.in-16.is, c.one.ensures)
 
 pub returns-in-1 : goal.returns-in-1
 unfolding command width
-returns-in-1 c = rw (c.in-1.keys2, c.two.ensures.0)
+returns-in-1 c = rw (c.in-1.is, c.two.ensures.0)
 
 pub returns-in-2 : goal.returns-in-2
 unfolding command width
-returns-in-2 c = rw (c.in-2.keys3, c.two-in-2.ensures.0)
+returns-in-2 c = rw (c.in-2.is, c.two-in-2.ensures.0)
 
 pub returns-in-3 : goal.returns-in-3
 unfolding command width
-returns-in-3 c = rw (c.in-3.keys4, c.two-in-3.ensures.0)
+returns-in-3 c = rw (c.in-3.is, c.two-in-3.ensures.0)
 
 pub returns-in-4 : goal.returns-in-4
 unfolding command width
-returns-in-4 c = rw (c.in-4.keys5, c.two-in-4.ensures.0)
+returns-in-4 c = rw (c.in-4.is, c.two-in-4.ensures.0)
 
 pub returns-in-5 : goal.returns-in-5
 unfolding command width
 returns-in-5 c =
     let a = c.args in
-    let k = c.in-5.keys6 in
+    let k = c.in-5.is in
     rw (k, to_z-of_z w32 c.signed_of.result (record { sfits = c.signed_of.type_inv }), take-take 1 5 (drop a.at a.book.now) (omega arith), block-bias a.book.now a.at, c.signed_of.ensures, c.four.ensures, c.one-in-5.ensures)
 
 pub returns-in_default : goal.returns-in_default
 unfolding command
-returns-in_default c =
-    let r = c.in_default.rest in
-    simp (ne_eqb _ _ r.1, ne_eqb _ _ r.0.1, ne_eqb _ _ r.0.0.1, ne_eqb _ _ r.0.0.0.1, ne_eqb _ _ r.0.0.0.0.1, ne_eqb _ _ r.0.0.0.0.0.1)
+returns-in_default c = grind (arith, nat_tests)

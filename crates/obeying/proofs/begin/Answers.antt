@@ -4,7 +4,6 @@ use mathlib.Core.Path.{◌∙◌}
 use native.Mathlib.Omega.{arith}
 use lib.Pow.{pow_mono}
 use borrow.Author.Rules.{rules}
-use borrow.Author.Tests.{not-true, not-false}
 use Rattle.codebook.specs.declared.Refusal.TheVariants.{Truncated, Misplaced, OutOfRange}
 use Rattle.codebook.specs.declared.Command.TheVariants.{Length}
 use Rattle.codebook.specs.Loading.{fault}
@@ -16,20 +15,20 @@ use Rattle.obeying.proofs.begin.Goals as goal
 pub returns-in_default : goal.returns-in_default
 returns-in_default c t n old s h =
     let a = c.args in
-    refuse _ _ _ _ Misplaced (verdict-misplaced s a.c a.whole (begin-misplaced a.p s h.counts c.requires a.c c.in_default.keys2 n))
+    refuse _ _ _ _ Misplaced (verdict-misplaced s a.c a.whole (begin-misplaced a.p s h.counts c.requires a.c (let h = c.in_default in ?) n))
 
 pub returns-then-not-whole : goal.returns-then-not-whole
 returns-then-not-whole c t n old s h =
     let g = c.c-1.given in
     let a = c.args in
-    rw g.1 (refuse _ _ _ _ Truncated (length-stands a.p s h.counts a.whole c.requires g.0.0 ∙ operands-cut a.whole _ (not-true a.whole c.if-not-whole.true)))
+    rw g.1 (refuse _ _ _ _ Truncated (length-stands a.p s h.counts a.whole c.requires g.0.0 ∙ operands-cut a.whole _ c.if-not-whole.true))
 
 pub returns-then-m-lt2 : goal.returns-then-m-lt2
 returns-then-m-lt2 c t n old s h =
     let g = c.c-1.given in
     let a = c.args in
     let m = g.0.0 in
-    let whole = operands-whole a.whole (fault s (Length m)) (not-false a.whole c.if-not-whole.false) in
+    let whole = operands-whole a.whole (fault s (Length m)) c.if-not-whole.false in
     rw g.1 (refuse _ _ _ _ OutOfRange (length-stands a.p s h.counts a.whole c.requires m ∙ whole ∙ length-low a.p s h.counts m c.if-m-lt2.true))
 
 pub returns-then-m-gt9 : goal.returns-then-m-gt9
@@ -37,7 +36,7 @@ returns-then-m-gt9 c t n old s h =
     let g = c.c-1.given in
     let a = c.args in
     let m = g.0.0 in
-    let whole = operands-whole a.whole (fault s (Length m)) (not-false a.whole c.if-not-whole.false) in
+    let whole = operands-whole a.whole (fault s (Length m)) c.if-not-whole.false in
     rw g.1 (refuse _ _ _ _ OutOfRange (length-stands a.p s h.counts a.whole c.requires m ∙ whole ∙ length_high a.p s h.counts m c.if-m-lt2.false c.if-m-gt9.true))
 
 pub clear-requires : goal.clear-requires
@@ -54,6 +53,6 @@ returns c t n old s h =
     let low = c.if-m-lt2.false in
     let high = c.if-m-gt9.false in
     let power = c.word_power-n.ensures in
-    let whole = operands-whole a.whole (fault s (Length m)) (not-false a.whole c.if-not-whole.false) in
+    let whole = operands-whole a.whole (fault s (Length m)) c.if-not-whole.false in
     rw g.1 (proceed _ _ _ _ (length-stands a.p s h.counts a.whole c.requires m ∙ whole ∙ length-fits a.p s h.counts m low high)
     (rw power (begin-holds a.p (with_indices t t.kinds a.terms.now) old s h m _ c.requires low high (rw power at c.clear.ensures))))

@@ -4,7 +4,6 @@ use mathlib.Core.Path.{sym, ◌∙◌}
 use mir.Syntax.{w32}
 use mir.ValLaws.{to_z-of_z}
 use borrow.Author.Rules.{rules}
-use borrow.Author.Tests.{not-true, not-false}
 use Rattle.codebook.specs.declared.Refusal.TheVariants.{Truncated, Misplaced, OutOfRange}
 use Rattle.codebook.specs.declared.Command.TheVariants.{Block as NextBlock}
 use Rattle.codebook.specs.Loading.{fault}
@@ -21,7 +20,7 @@ returns-then-not-whole c terms n old s h =
     let g = c.c-1.given in
     let a = c.args in
     let stands = block-stands a.p s h.counts a.whole c.requires.filled_value.0 c.requires.filled_value.1 g.0.0 g.0.1.0 in
-    rw g.1 (refuse _ _ _ _ Truncated (stands ∙ operands-cut a.whole _ (not-true a.whole c.if-not-whole.true)))
+    rw g.1 (refuse _ _ _ _ Truncated (stands ∙ operands-cut a.whole _ c.if-not-whole.true))
 
 pub returns-then-not-fits : goal.returns-then-not-fits
 returns-then-not-fits c terms n old s h =
@@ -30,16 +29,16 @@ returns-then-not-fits c terms n old s h =
     let j = g.0.0 in
     let bias = g.0.1.0 in
     let stands = block-stands a.p s h.counts a.whole c.requires.filled_value.0 c.requires.filled_value.1 j bias in
-    let whole = operands-whole a.whole (fault s (NextBlock j bias)) (not-false a.whole c.if-not-whole.false) in
-    let unfit = rw (to_z-of_z w32 bias (record { sfits = c.known_told-1.given.1.0.1 })) at (sym c.fits2.ensures ∙ not-true c.fits2.result c.if-not-fits.true) in
+    let whole = operands-whole a.whole (fault s (NextBlock j bias)) c.if-not-whole.false in
+    let unfit = rw (to_z-of_z w32 bias (record { sfits = c.known_told-1.given.1.0.1 })) at (sym c.fits2.ensures ∙ c.if-not-fits.true) in
     rw g.1 (refuse _ _ _ _ OutOfRange (stands ∙ whole ∙ block-unfit a.p s h.counts j bias unfit))
 
 pub place_block-requires : goal.place_block-requires
-place_block-requires c = record { safe = c.requires.safe; filled_value = c.requires.filled_value; bias_value = sym c.fits2.ensures ∙ not-false c.fits2.result c.if-not-fits.false }
+place_block-requires c = record { safe = c.requires.safe; filled_value = c.requires.filled_value; bias_value = sym c.fits2.ensures ∙ c.if-not-fits.false }
 
 pub returns : goal.returns
 returns c terms n old s h =
     let g = c.c-1.given in
     let a = c.args in
     let back = to_z-of_z w32 g.0.1.0 (record { sfits = c.known_told-1.given.1.0.1 }) in
-    rw (g.1, not-false a.whole c.if-not-whole.false) (rw back at (c.place_block.ensures terms old s h))
+    rw (g.1, c.if-not-whole.false) (rw back at (c.place_block.ensures terms old s h))

@@ -1,6 +1,5 @@
 -- `obeying::tie` meets its contract: each return is the refusal of the test that led there, or the tie that fits. Assumes nothing.
 use mathlib.Core.Path.{◌∙◌}
-use borrow.Author.Tests.{not-true, not-false}
 use borrow.Author.Rules.{rules}
 use Rattle.codebook.specs.declared.Refusal.TheVariants.{Truncated, OutOfRange, TooManyTied}
 use Rattle.codebook.specs.declared.Command.TheVariants.{Tie}
@@ -14,20 +13,20 @@ pub returns-then-not-whole : goal.returns-then-not-whole
 returns-then-not-whole c t old s h =
     let a = c.args in
     let stands = tie-stands a.p s h.counts a.whole c.requires.filled_lt_n a.i in
-    refuse _ _ _ _ Truncated (stands ∙ operands-cut a.whole _ (not-true a.whole c.if-not-whole.true))
+    refuse _ _ _ _ Truncated (stands ∙ operands-cut a.whole _ c.if-not-whole.true)
 
 pub returns-then-p-i : goal.returns-then-p-i
 returns-then-p-i c t old s h =
     let a = c.args in
     let stands = tie-stands a.p s h.counts a.whole c.requires.filled_lt_n a.i in
-    let whole = operands-whole a.whole (fault s (Tie a.i)) (not-false a.whole c.if-not-whole.false) in
+    let whole = operands-whole a.whole (fault s (Tie a.i)) c.if-not-whole.false in
     refuse _ _ _ _ OutOfRange (stands ∙ whole ∙ tie-later a.p s h.counts a.i c.if-p-i.true)
 
 pub returns-then-p-ge32 : goal.returns-then-p-ge32
 returns-then-p-ge32 c t old s h =
     let a = c.args in
     let stands = tie-stands a.p s h.counts a.whole c.requires.filled_lt_n a.i in
-    let whole = operands-whole a.whole (fault s (Tie a.i)) (not-false a.whole c.if-not-whole.false) in
+    let whole = operands-whole a.whole (fault s (Tie a.i)) c.if-not-whole.false in
     refuse _ _ _ _ TooManyTied (stands ∙ whole ∙ tie-many a.p s h.counts a.i c.if-p-i.false c.if-p-ge32.true)
 
 pub returns : goal.returns
@@ -35,6 +34,6 @@ unfolding is_end byte_of
 returns c t old s h =
     let a = c.args in
     let stands = tie-stands a.p s h.counts a.whole c.requires.filled_lt_n a.i in
-    let whole = operands-whole a.whole (fault s (Tie a.i)) (not-false a.whole c.if-not-whole.false) in
+    let whole = operands-whole a.whole (fault s (Tie a.i)) c.if-not-whole.false in
     proceed _ _ _ _ (stands ∙ whole ∙ tie-fits a.p s h.counts a.i c.if-p-i.false c.if-p-ge32.false)
     (rw c.word_power.ensures (tie-holds a.p (with_indices t a.kinds.now a.terms.now) old s h a.i c.requires.filled_lt_n c.if-p-i.false c.if-p-ge32.false))

@@ -10,8 +10,8 @@ pub overflow_cast-result : goal.overflow_cast-result
 overflow_cast-result c = abs-fits (pos (c.args.e / 8589934592)) (omega arith)
 
 pub overflow_sub-result : goal.overflow_sub-result
-overflow_sub-result c = sub-fits (cast-result c) (abs-fits (pos 2097152) (omega arith)) (omega arith)
+overflow_sub-result c = sub-fits (abs-fits (pos (c.args.e / 8589934592)) (omega arith)) (abs-fits (pos 2097152) (omega arith)) (omega arith)
 
 pub returns : goal.returns
 unfolding key_at
-returns c = sub_is (cast-result c) (abs-fits (pos 2097152) (omega arith)) (omega arith)
+returns c = sub_is (abs-fits (pos (c.args.e / 8589934592)) (omega arith)) (abs-fits (pos 2097152) (omega arith)) (omega arith)

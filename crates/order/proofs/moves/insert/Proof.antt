@@ -22,7 +22,7 @@ loop-holds : tie.Need-loop-order-init invariant-loop decreases-loop
 loop-holds c = (omega arith, moved_none _ _ _)
 
 -- the array keeps its length, and k stays below it
-size : (c : tie.After-raise-k invariant-loop decreases-loop) → length c.raise-k.new.0 ≡ 256
+size : (c : tie.After-raise-k invariant-loop decreases-loop) → length c.raise-k.new.order ≡ 256
 size c = c.raise-k.ensures.1.size ∙ c.before.before.requires.0.0
 
 above-requires : tie.Need-above-requires invariant-loop decreases-loop

@@ -48,13 +48,13 @@ loop-again : tie.Need-loop-left-preserved invariant-loop decreases-loop
 loop-again c =
     let x = c.before.before.before.before.before.loop-left in
     let h = c.before.before.before.before.before.before.before.args.h in
-    let w = c.before.before.add_run.new.0 in
+    let w = c.before.before.add_run.new.c in
     let e = c.before.before.add_run.ensures in
     let q = c.before.before.before.before.loop-left-test.true in
     let r = room c.before.before.before.before.before q in
     let one : suc (x.left - 1) ≡ x.left = omega arith in (
-      c.before.before.add_run.auto.0 ∙ x.invariant.0,
-      omega (arith, c.before.before.add_run.auto.0, suc-mul (x.left - 1) (h + h), ap (λ n. n * (h + h)) one),
+      c.before.before.add_run.auto.c ∙ x.invariant.0,
+      omega (arith, c.before.before.add_run.auto.c, suc-mul (x.left - 1) (h + h), ap (λ n. n * (h + h)) one),
       turn-bits x.at h x.c w r e x.invariant.2,
       turn-stage x.at h x.c w r e (x.left - 1) ∙ ap (λ n. take x.at x.c ++ stage n h (drop x.at x.c)) one ∙ x.invariant.3,
     )
