@@ -1,7 +1,6 @@
 -- `checks::beside::beside_ok` meets its contract: by the test that fails, or the last one. Assumes nothing.
 use mathlib.Core.Path.{◌≡◌, sym, ap, ◌∙◌}
 use borrow.Author.Rules.{rules}
-use borrow.Author.Tests.{not-true, not-false}
 use Rattle.machine.specs.Calls.{walk_needed, at_least, exactly, beside_ok}
 use Rattle.checks.proofs.Chains.{first-fails, second-fails, third-decides}
 use Rattle.checks.proofs.beside.beside_ok.Statement.{statement}
@@ -19,14 +18,14 @@ at-least-requires c κs = search rules
 
 returns : tie.Need-returns-then-not-at_least
 unfolding beside_ok
-returns c = first-fails _ _ _ (sym (stepped c.before) ∙ not-true _ c.if-not-at_least.true)
+returns c = first-fails _ _ _ (sym (stepped c.before) ∙ c.if-not-at_least.true)
 
 exactly-requires : tie.Need-exactly-requires
 exactly-requires c κs = search rules
 
 returns-2 : tie.Need-returns-then-not-exactly
 unfolding beside_ok
-returns-2 c = second-fails _ _ _ (sym (stepped c.before.before.before) ∙ not-false _ c.before.before.if-not-at_least.false) (sym c.before.exactly.ensures ∙ not-true _ c.if-not-exactly.true)
+returns-2 c = second-fails _ _ _ (sym (stepped c.before.before.before) ∙ c.before.before.if-not-at_least.false) (sym c.before.exactly.ensures ∙ c.if-not-exactly.true)
 
 exactly-requires-2 : tie.Need-exactly-requires-2
 exactly-requires-2 c κs = search rules
@@ -34,7 +33,7 @@ exactly-requires-2 c κs = search rules
 returns-3 : tie.Need-returns
 unfolding beside_ok
 returns-3 c =
-    c.exactly-2.ensures ∙ third-decides _ _ _ (sym (stepped c.before.before.before.before) ∙ not-false _ c.before.before.before.if-not-at_least.false) (sym c.before.before.exactly.ensures ∙ not-false _ c.before.if-not-exactly.false)
+    c.exactly-2.ensures ∙ third-decides _ _ _ (sym (stepped c.before.before.before.before) ∙ c.before.before.before.if-not-at_least.false) (sym c.before.before.exactly.ensures ∙ c.before.if-not-exactly.false)
 
 pub beside_ok_spec : {M : Type 1} → statement M
 beside_ok_spec =

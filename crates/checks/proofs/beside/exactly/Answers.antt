@@ -6,8 +6,8 @@ use Rattle.checks.proofs.beside.exactly.Goals as goal
 
 pub returns-in-Absent : goal.returns-in-Absent
 unfolding exactly
-returns-in-Absent c = rw c.enum_told-1.given.1 refl
+returns-in-Absent c = rw c.in-Absent.is refl
 
 pub returns-in-Entries : goal.returns-in-Entries
 unfolding exactly
-returns-in-Entries c = rw c.b-1.given.1 refl
+returns-in-Entries c = rw c.in-Entries.is refl

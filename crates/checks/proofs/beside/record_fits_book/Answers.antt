@@ -6,8 +6,8 @@ use Rattle.checks.proofs.beside.record_fits_book.Goals as goal
 
 pub returns-in-Data : goal.returns-in-Data
 unfolding holds
-returns-in-Data c = rw c.enum_told-1.given.1 refl
+returns-in-Data c = rw c.in-Data.is refl
 
 pub returns-in-Record : goal.returns-in-Record
 unfolding holds
-returns-in-Record c = rw c.enum_told-in-Record-1.given.1 refl
+returns-in-Record c = rw c.in-Record.is refl

@@ -17,6 +17,7 @@ use borrow.Author.Tests.{not-true, not-false}
 use Rattle.machine.specs.Calls.{values_ok}
 use Rattle.checks.proofs.Valued.{value-good, value-bad, values-end}
 use Rattle.checks.proofs.tests.values_ok.Goals as goal
+use Rattle.checks.proofs.tests.values_ok.Goals.{then-not-value_ok, else-not-value_ok}
 
 both_false : (b : Bool) → false ≡ b && false
 both_false true = refl
@@ -26,38 +27,21 @@ both_true : (b : Bool) → b && true ≡ b
 both_true true = refl
 both_true false = refl
 
-pub loop-i-init : goal.loop-i-init
-loop-i-init c = (omega arith, refl)
-
-pub offset_bounds-values-i : goal.offset_bounds-values-i
-offset_bounds-values-i c = omega arith
-
-pub bounds-values-i : goal.bounds-values-i
-bounds-values-i c = omega arith
-
-pub value_ok-requires : goal.value_ok-requires
-value_ok-requires c = tt
-
-pub overflow_add-i : goal.overflow_add-i
-overflow_add-i c = omega arith
-
-pub loop-i-smaller : goal.loop-i-smaller
-loop-i-smaller c = omega arith
-
 pub loop-i-preserved : goal.loop-i-preserved
 loop-i-preserved c =
     let ys = c.args.values.now in
     let i = c.loop-i.i in
     let f = c.loop-i.faults in
     let z = get_or ys i (pos 0) in
-    let e : to_z w16 (of_z w16 z) ≡ z = to_z-of_z {w = w32} (sfits_of c.value_ok-arg-1.given) in
-    let u = ap (λ (y : ℤ). leb (nat_abs y) 2047) (sym e) ∙ sym c.value_ok.ensures in
+    let u : leb (nat_abs z) 2047 ≡ c.value_ok.result = grind (arith, to_z-of_z {w = w16} (sfits_of (c.type_inv.values i))) in
     let after = values_ok (drop (i + 1) ys) in (
       omega arith,
-      ⊎_elim
-          (λ w. ap (λ n. eqb n 0 && after) w.1 ∙ both_false (eqb f 0) ∙ ap (λ x. eqb f 0 && x) (value-bad ys i (omega arith) (u ∙ not-true _ w.0.taken)) ∙ c.loop-i.invariant.1)
-          (λ w. ap (λ n. eqb n 0 && after) w.1 ∙ ap (λ x. eqb f 0 && x) (value-good ys i (omega arith) (u ∙ not-false _ w.0.left)) ∙ c.loop-i.invariant.1)
-          c.if-not-value_ok.branch,
+      elim c.if-not-value_ok.branch [
+        then-not-value_ok w ↦
+          ap (λ n. eqb n 0 && after) w.faults-is ∙ both_false (eqb f 0) ∙ ap (λ x. eqb f 0 && x) (value-bad ys i (omega arith) (u ∙ w.if-not-value_ok.true)) ∙ c.loop-i.invariant.1
+      | else-not-value_ok w ↦
+          ap (λ n. eqb n 0 && after) w.faults-is ∙ ap (λ x. eqb f 0 && x) (value-good ys i (omega arith) (u ∙ w.if-not-value_ok.false)) ∙ c.loop-i.invariant.1
+      ],
     )
 
 pub returns : goal.returns
