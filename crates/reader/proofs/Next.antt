@@ -14,7 +14,7 @@ use Rattle.polar.proofs.Bits.{to_bits-bits}
 use Rattle.polar.proofs.Transform.{transform-length, transform-bits}
 use Rattle.codebook.specs.Book.{Book, Kind, free, frozen, tied, free_count, start_of, block_at, kinds_of}
 use Rattle.codebook.specs.Limits.{Valid}
-use Rattle.codec.specs.Ties.{Parities, push, fill_from, fill_block}
+use Rattle.codec.specs.Ties.{Parities, absorb, push, fill_from, fill_block}
 use Rattle.outer.specs.Blocks.{Bits}
 use Rattle.outer.proofs.Blocks.{Placed, placed}
 use Rattle.outer.proofs.Parities.{absorb-bits}
@@ -33,18 +33,18 @@ use Rattle.reader.proofs.Rooted.{claim-has, commit-has, down-has}
 fill-size : (B : Book) (x : Parities) (k : ℕ) (ks : List Kind) (ds : List ℕ) → length (fill_from B x k ks ds).bits ≡ length ks
 unfolding fill_from push
 fill-size B x k [] ds = refl
-fill-size B x k (free ∷ ks) [] = ap suc (fill-size B _ (suc k) ks [])
-fill-size B x k (free ∷ ks) (d ∷ ds) = ap suc (fill-size B _ (suc k) ks ds)
-fill-size B x k (frozen ∷ ks) ds = ap suc (fill-size B _ (suc k) ks ds)
-fill-size B x k (tied ts ∷ ks) ds = ap suc (fill-size B _ (suc k) ks ds)
+fill-size B x k (free ∷ ks) [] = ap suc (fill-size B (absorb B k 0 x) (suc k) ks [])
+fill-size B x k (free ∷ ks) (d ∷ ds) = ap suc (fill-size B (absorb B k d x) (suc k) ks ds)
+fill-size B x k (frozen ∷ ks) ds = ap suc (fill-size B (absorb B k 0 x) (suc k) ks ds)
+fill-size B x k (tied ts ∷ ks) ds = ap suc (fill-size B (absorb B k (x k) x) (suc k) ks ds)
 
 fill-bits : (B : Book) (x : Parities) (k : ℕ) (ks : List Kind) (ds : List ℕ) → Bits x → All Bit ds → All Bit (fill_from B x k ks ds).bits
 unfolding fill_from push All
 fill-bits B x k [] ds h g = tt
-fill-bits B x k (free ∷ ks) [] h g = (omega arith, fill-bits B _ (suc k) ks [] (absorb-bits B k 0 x) tt)
-fill-bits B x k (free ∷ ks) (d ∷ ds) h g = (g.0, fill-bits B _ (suc k) ks ds (absorb-bits B k d x) g.1)
-fill-bits B x k (frozen ∷ ks) ds h g = (omega arith, fill-bits B _ (suc k) ks ds (absorb-bits B k 0 x) g)
-fill-bits B x k (tied ts ∷ ks) ds h g = (h k, fill-bits B _ (suc k) ks ds (absorb-bits B k (x k) x) g)
+fill-bits B x k (free ∷ ks) [] h g = (omega arith, fill-bits B (absorb B k 0 x) (suc k) ks [] (absorb-bits B k 0 x) tt)
+fill-bits B x k (free ∷ ks) (d ∷ ds) h g = (g.0, fill-bits B (absorb B k d x) (suc k) ks ds (absorb-bits B k d x) g.1)
+fill-bits B x k (frozen ∷ ks) ds h g = (omega arith, fill-bits B (absorb B k 0 x) (suc k) ks ds (absorb-bits B k 0 x) g)
+fill-bits B x k (tied ts ∷ ks) ds h g = (h k, fill-bits B (absorb B k (x k) x) (suc k) ks ds (absorb-bits B k (x k) x) g)
 
 module _ (B : Book) (ok : Valid B) (b : ℕ) (l : b < length B.blocks) (x : Parities) (w : ℕ) where
   pub filled-length : length (fill_block B x b w).bits ≡ 2 ^ (block_at B b).j

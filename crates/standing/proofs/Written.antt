@@ -1,6 +1,6 @@
 -- A path written to the table: the path in hand anew, or a copy of it in a vacant slot, which holds the arrays that it holds. The row written is
 -- that of the new path's entry, and the rows of other slots are as they were. Assumes nothing.
-use mathlib.Core.Path.{◌≡◌, ◌∙◌}
+use mathlib.Core.Path.{◌≡◌, sym, ◌∙◌, subst}
 use mathlib.Core.List.{List, ◌∷◌, ◌++◌, map}
 use mathlib.Core.Logic.{◌≢◌}
 use Prim.Native.Nat.{ℕ, ◌+◌, ◌≤◌}
@@ -58,7 +58,7 @@ module _ {B : Book} {D N : ℕ} {x : Memory} {e : ℕ} {es vs : List ℕ} {A : A
       queue-other B deep t x.rows rows₁ (copied-others B.m s t x.rows rows₁ deep copied) (e ∷ es) (p ∷ ps) apart st.queue in
       record {
         queue = (row_made deep new put made, queue-other B deep t rows₁ rows₂ (put-others put) (e ∷ es) (p ∷ ps) apart between);
-        apart = rw made.entry.slot all;
+        apart = subst (λ (n : ℕ). Distinct (n ∷ slots ++ vs)) (sym made.entry.slot) all;
         slots = (rw made.entry.slot st.vacant.0, st.slots);
         vacant = st.vacant.1;
         full = omega arith;

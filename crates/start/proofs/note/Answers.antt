@@ -32,7 +32,7 @@ returns c =
     let a = c.args in
     let n = c.number_of.ensures in
     let b = c.blocks_of.ensures in (
-      ap (set a.«walk-path».now a.at) (to_z-of_z (number_fits a.e _ n) ∙ ap pos n),
-      ap (set a.«walk-blocks».now a.at) (to_z-of_z (blocks-fit a.e _ b) ∙ ap pos b),
-      ap (set a.«walk-score».now a.at) (to_z-of_z {w = w32} (record { sfits = c.score_of.type_inv }) ∙ c.score_of.ensures),
+      ap (set a.walk_path.now a.at) (to_z-of_z (number_fits a.e _ n) ∙ ap pos n),
+      ap (set a.walk_blocks.now a.at) (to_z-of_z (blocks-fit a.e _ b) ∙ ap pos b),
+      ap (set a.walk_score.now a.at) (to_z-of_z {w = w32} (record { sfits = c.score_of.type_inv }) ∙ c.score_of.ensures),
     )

@@ -60,6 +60,7 @@ loop-less c = omega arith
 
 loop-again : tie.Need-loop-i-preserved invariant-loop decreases-loop
 loop-again c =
+    let h = c.numbers-1 in ?
     let x = c.before.before.loop-i in (
       omega arith,
       simp length-set (omega arith),

@@ -23,7 +23,11 @@ returns-then-kept-slot-ne0 c = let l = c.args.kept.now in
 pub next_word-requires : goal.next_word-requires
 next_word-requires c = let f = c.slot_of-slot.ensures in
     let p = c.requires.has_row in
-    let the-whole = rw f.0 ((p.0, p.1, p.2, p.3), (c.requires.searchable, c.requires.scratch)) in record { has_row = the-whole.0; searchable = the-whole.1.0; scratch = the-whole.1.1 }
+    record {
+      has_row = rw f.0 (p.0, p.1, p.2, p.3);
+      searchable = rw f.0 c.requires.searchable;
+      scratch = rw f.0 c.requires.scratch;
+    }
 
 pub returns : goal.returns
 returns c = let f = c.slot_of-slot.ensures.0 in

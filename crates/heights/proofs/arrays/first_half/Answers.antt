@@ -15,8 +15,11 @@ use Rattle.heights.proofs.Contents.{parts-above, parts-length, parts-written}
 use Rattle.heights.proofs.arrays.first_half.Goals as goal
 
 pub lower_q-requires : goal.lower_q-requires
-lower_q-requires c = let the-whole = rw (c.spot_of.ensures, c.spot_of-2.ensures, c.power-n.ensures, add-one, ← two-pow-succ c.args.h)
-    (spots-clear c.args.numbers.now c.requires.m_bound.3 c.requires.m_bound.1 (search) (omega arith) (search), c.requires.all) in record { clear = the-whole.0; all = the-whole.1 }
+lower_q-requires c = record {
+      clear = rw (c.spot_of.ensures, c.spot_of-2.ensures, c.power-n.ensures, add-one, ← two-pow-succ c.args.h)
+          (spots-clear c.args.numbers.now c.requires.m_bound.3 c.requires.m_bound.1 (search) (omega arith) (search));
+      all = rw (c.spot_of.ensures, c.power-n.ensures, add-one, ← two-pow-succ c.args.h) c.requires.all;
+    }
 
 pub returns : goal.returns
 returns c = let h = c.args.h in

@@ -16,10 +16,12 @@ use Rattle.heights.proofs.Contents.{parts-read, parts-above, parts-length, parts
 use Rattle.heights.proofs.arrays.second_half.Goals as goal
 
 pub lower_p-requires : goal.lower_p-requires
-lower_p-requires c = let the-whole = rw (c.spot_of.ensures, c.spot_of-2.ensures, c.spot_of-3.ensures, c.power-n.ensures, add-one, ← two-pow-succ c.args.h) (
-      spots-clear c.args.numbers.now c.requires.m_bound.3 c.requires.m_bound.1 (search) (omega arith) (search),
-      (spot-room (omega arith) (search) c.args.bytes.now c.requires.m_bound.4, all_map (λ y b. omega arith) _ c.requires.all),
-    ) in record { clear = the-whole.0; n_in_bounds = the-whole.1.0; all = the-whole.1.1 }
+lower_p-requires c = record {
+      clear = rw (c.spot_of.ensures, c.spot_of-2.ensures, c.power-n.ensures, add-one, ← two-pow-succ c.args.h)
+          (spots-clear c.args.numbers.now c.requires.m_bound.3 c.requires.m_bound.1 (search) (omega arith) (search));
+      n_in_bounds = rw (c.spot_of-3.ensures, c.power-n.ensures) (spot-room (omega arith) (search) c.args.bytes.now c.requires.m_bound.4);
+      all = rw (c.spot_of.ensures, c.power-n.ensures, add-one, ← two-pow-succ c.args.h) (all_map (λ y b. omega arith) _ c.requires.all);
+    }
 
 pub returns : goal.returns
 returns c = let a = c.args in

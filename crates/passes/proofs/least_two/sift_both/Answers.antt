@@ -4,7 +4,6 @@ use mathlib.Core.Path.{ap, ◌∙◌}
 use Prim.Native.Nat.{◌/◌}
 use native.Mathlib.Omega.{arith}
 use borrow.Author.Rules.{rules}
-use borrow.Author.Tests.{leb-false}
 use Rattle.passes.specs.Pass.{two_least}
 use Rattle.passes.proofs.LeastTwo.{costly}
 use Rattle.passes.proofs.least_two.sift_both.Goals as goal
@@ -16,4 +15,4 @@ pub returns : goal.returns
 returns c = λ k t e f.
     let a = c.args in
     let one = costly k a.bound a.setting a.two t c.requires.0 c.ranges.number.fits e (omega (arith, c.if-cost-limit.false)) in
-    costly k a.bound _ a.two one c.requires.1 c.ranges.next.fits f (leb-false a.other (a.two.second / 4294967296) c.if-other-limit.false) ∙ ap (two_least k _) (omega arith)
+    costly k a.bound _ a.two one c.requires.1 c.ranges.next.fits f c.if-other-limit.false ∙ ap (two_least k _) (omega arith)

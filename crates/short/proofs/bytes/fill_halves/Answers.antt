@@ -47,7 +47,7 @@ returns c =
     let f = c.half_keys in
     let g = c.half_keys-2 in (
       g.ensures.0,
-      halves-made f.new.0 g.new.0 l (omega (arith, part_length a.at a.n a.numbers.now c.requires.1, c.requires.2)) h f.ensures.2 g.ensures.1 g.ensures.2
+      halves-made f.new.halves g.new.halves l (omega (arith, part_length a.at a.n a.numbers.now c.requires.1, c.requires.2)) h f.ensures.2 g.ensures.1 g.ensures.2
           (read_back l 0 h c.value-s0.ensures).0
           (read_back l 1 h c.value-s1.ensures).0
           (read_back l 2 h c.value-s2.ensures).0

@@ -1,7 +1,7 @@
 -- `short::flips::lead` meets its contract. The loop's invariant: the values from i on are led. Assumes nothing.
 use mathlib.Core.Path.{◌≡◌, sym, ap, ap₂, ◌∙◌}
 use mathlib.Core.List.{List, ◌∷◌}
-use Prim.Native.Nat.{ℕ, suc, ◌+◌, ◌-◌, ◌/◌, ◌^◌, ◌≤◌, ◌<◌}
+use Prim.Native.Nat.{ℕ, zero, suc, ◌+◌, ◌-◌, ◌/◌, ◌^◌, ◌≤◌, ◌<◌}
 use native.Mathlib.Nat.{two-pow-succ}
 use native.Mathlib.Omega.{arith}
 use lib.IntN.{ℤ, pos}
@@ -29,6 +29,7 @@ pub overflow_sub-i : goal.overflow_sub-i
 overflow_sub-i c = omega arith
 
 halved : (i : ℕ) → 0 < i → 2 ^ i / 2 ≡ 2 ^ (i - 1)
+halved zero l = absurd (omega arith)
 halved (suc i) l = let e : suc i - 1 ≡ i = omega arith in omega (arith, two-pow-succ i, ap (λ (k : ℕ). 2 ^ k) e)
 
 -- the value before those that are led, as it is read

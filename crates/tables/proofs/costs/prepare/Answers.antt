@@ -75,7 +75,7 @@ loop-p-preserved c =
     let r = c.run.ensures in (
       omega arith,
       r.0,
-      runs-more x.sums c.run.new.0 x.p l x.invariant.2 r.1 r.2
+      runs-more x.sums c.run.new.sums x.p l x.invariant.2 r.1 r.2
           (read_back l i h c.value-s0.ensures).0
           (read_back l (i + 1) h c.value-s1.ensures).0
           (read_back l (i + 2) h c.value-s2.ensures).0

@@ -66,5 +66,5 @@ returns c =
       f.0,
       f.1,
       sym (grown-other a.code (2 ^ a.free) c.if-code-eq0.false),
-      λ e h. tie-spans a.words.now a.sets.now a.free e h a.row a.ties c.follow.new.0 c.follow.new.1.0 a.code t q f.2,
+      λ e h. tie-spans a.words.now a.sets.now a.free e h a.row a.ties c.follow.new.words c.follow.new.sets a.code t q f.2,
     )

@@ -53,7 +53,7 @@ loop-left-preserved c =
     let x = c.loop-left in
     let a = c.args in
     let r = c.double.ensures in
-    let m = filled_more x.table c.double.new.0 a.steps.now a.free x.left x.count (omega arith) x.invariant.0 x.invariant.2 x.invariant.3 r.1 r.2 in
+    let m = filled_more x.table c.double.new.table a.steps.now a.free x.left x.count (omega arith) x.invariant.0 x.invariant.2 x.invariant.3 r.1 r.2 in
     (omega arith, r.0, m.0, m.1)
 
 pub returns : goal.returns

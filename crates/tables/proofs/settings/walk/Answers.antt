@@ -69,7 +69,7 @@ loop-i-preserved c =
       r.0,
       r.1,
       r.2 ∙ ap (grown (get_or a.kinds.now (a.start + x.i) 0)) x.invariant.3 ∙ ap (settings a.kinds.now a.start) (sym (add-one x.i)),
-      entry_more c.advance-free.new.0 c.advance-free.new.1.0 c.advance-free.result a.kinds.now a.terms.now a.start a.parities x.i (get_or m.result x.i 0) (m.ensures x.i (omega arith))
+      entry_more c.advance-free.new.words c.advance-free.new.sets c.advance-free.result a.kinds.now a.terms.now a.start a.parities x.i (get_or m.result x.i 0) (m.ensures x.i (omega arith))
           (r.3 (entry a.kinds.now a.terms.now a.start a.parities x.i) x.invariant.4),
     )
 
