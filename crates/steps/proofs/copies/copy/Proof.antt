@@ -114,15 +114,15 @@ abbrev top : tie.After-crowd-left → ℕ
 top c = (start (searched c)).args.s.paths - (c.crowd-left.result + 2)
 
 abbrev slot : tie.After-crowd-left → ℕ
-slot c = get_or c.crowd-left.new.1.1.1.0 (top c) 0
+slot c = get_or c.crowd-left.new.vacant (top c) 0
 
 abbrev at-crowd : tie.After-crowd-left → Memory
-at-crowd c = let a = (start (searched c)).args in memory a.rows.now c.crowd-left.new.1.0 a.numbers.now a.bytes.now
+at-crowd c = let a = (start (searched c)).args in memory a.rows.now c.crowd-left.new.holders a.numbers.now a.bytes.now
 
-vacant-is : (c : tie.After-crowd-left) → queue_of c.crowd-left.new.1.1.1.0 ((start (searched c)).args.s.paths - (c.crowd-left.result + 1)) ≡ slot c ∷ queue_of c.crowd-left.new.1.1.1.0 (top c)
+vacant-is : (c : tie.After-crowd-left) → queue_of c.crowd-left.new.vacant ((start (searched c)).args.s.paths - (c.crowd-left.result + 1)) ≡ slot c ∷ queue_of c.crowd-left.new.vacant (top c)
 vacant-is c =
     let a = (start (searched c)).args in
-    let vacant = c.crowd-left.new.1.1.1.0 in
+    let vacant = c.crowd-left.new.vacant in
     let n : ℕ = a.s.paths - (c.crowd-left.result + 1) in
     let down : n - 1 ≡ top c = omega arith in
     queue-first n vacant (omega (arith, c.crowd-left.ensures.0.4)) ∙ ap (λ (i : ℕ). get_or vacant i 0 ∷ queue_of vacant i) down
@@ -133,7 +133,7 @@ unfolding memory
 count c b o = let a = (start (searched c)).args in (c.crowd-left.ensures.1.0 a.arrays a.e a.numbers.now a.bytes.now o.hand (start (searched c)).requires.0.0.has.many).0
 
 left : (c : tie.After-crowd-left) (b : ℕ) (o : Copy (start (searched c)) b) → let a = (start (searched c)).args in
-    Stands o.hand.book a.s.paths a.arrays (at-crowd c) (a.e ∷ queue_of c.crowd-left.new.1.1.0 c.crowd-left.result) (slot c ∷ queue_of c.crowd-left.new.1.1.1.0 (top c))
+    Stands o.hand.book a.s.paths a.arrays (at-crowd c) (a.e ∷ queue_of c.crowd-left.new.order c.crowd-left.result) (slot c ∷ queue_of c.crowd-left.new.vacant (top c))
     o.hand.arrays (o.hand.taken ∷ room_for a.s.paths o.hand.rest)
 unfolding memory
 left c b o =
@@ -142,7 +142,7 @@ left c b o =
 
 -- what fork needs
 forking : (c : tie.After-crowd-left) (b : ℕ) (o : Copy (start (searched c)) b) → let a = (start (searched c)).args in
-    Forking a.m a.s.paths a.arrays (at-crowd c) a.e (slot c) (queue_of c.crowd-left.new.1.1.0 c.crowd-left.result) (queue_of c.crowd-left.new.1.1.1.0 (top c)) a.last
+    Forking a.m a.s.paths a.arrays (at-crowd c) a.e (slot c) (queue_of c.crowd-left.new.order c.crowd-left.result) (queue_of c.crowd-left.new.vacant (top c)) a.last
     (searched c).other_word-found.result b
 forking c b o = copy-fork o (found-is (searched c) b o) (some-there c) (count c b o) c.crowd-left.ensures.0.4 (left c b o)
 
@@ -166,7 +166,7 @@ fork-requires c κs =
         omega (arith, s.requires.1.0.3),
         s.requires.0.3,
       ),
-      ((s.requires.1.1.0.0, s.requires.1.1.0.1, queue_of c.before.before.before.before.before.before.before.crowd-left.new.1.1.1.0 (top c.before.before.before.before.before.before.before), forking c.before.before.before.before.before.before.before _ o), c.before.before.before.before.before.before.before.crowd-left.ensures.1.1),
+      ((s.requires.1.1.0.0, s.requires.1.1.0.1, queue_of c.before.before.before.before.before.before.before.crowd-left.new.vacant (top c.before.before.before.before.before.before.before), forking c.before.before.before.before.before.before.before _ o), c.before.before.before.before.before.before.before.crowd-left.ensures.1.1),
     )
 
 tallied-requires : tie.Need-tallied-requires
@@ -183,15 +183,15 @@ abbrev Ends : (c : tie.After-fork) (b : ℕ) → Copy (start (searched c.before.
 Ends c b o i j =
     let a = (start (searched c.before.before.before.before.before.before.before.before)).args in
     let k = R.copy o.hand.book a.s.paths o.hand.arrays o.hand.taken o.hand.rest a.t.next (suc b) in
-    Stands o.hand.book a.s.paths a.arrays (memory c.fork.new.0 c.fork.new.1.0 c.fork.new.1.1.1.0 a.bytes.now)
-    (a.e ∷ queue_of c.fork.new.1.1.0 i) (queue_of c.before.before.before.before.before.before.before.before.crowd-left.new.1.1.1.0 j) k.arrays (o.hand.taken ∷ k.queue)
+    Stands o.hand.book a.s.paths a.arrays (memory c.fork.new.rows c.fork.new.holders c.fork.new.numbers a.bytes.now)
+    (a.e ∷ queue_of c.fork.new.order i) (queue_of c.before.before.before.before.before.before.before.before.crowd-left.new.vacant j) k.arrays (o.hand.taken ∷ k.queue)
 
 -- the words kept in the end, with so many queued
 abbrev Words : (c : tie.After-fork) (b : ℕ) → Copy (start (searched c.before.before.before.before.before.before.before.before)) b → ℕ → Type 0
 Words c b o i =
     let a = (start (searched c.before.before.before.before.before.before.before.before)).args in
     let k = R.copy o.hand.book a.s.paths o.hand.arrays o.hand.taken o.hand.rest a.t.next (suc b) in
-    Kepts o.hand.book k.arrays c.fork.new.1.1.1.1.1.0 (queue_of c.fork.new.1.1.0 i) k.queue
+    Kepts o.hand.book k.arrays c.fork.new.kept (queue_of c.fork.new.order i) k.queue
 
 returns-2 : tie.Need-returns
 unfolding memory forking
@@ -205,8 +205,8 @@ returns-2 c =
         (r.2, r.4, omega (arith, r.0, g.4)),
         (
           λ b o q.
-              let h = f.1.0 b (queue_of c.before.before.before.before.before.before.before.before.before.before.before.before.before.before.crowd-left.new.1.1.1.0 (top c.before.before.before.before.before.before.before.before.before.before.before.before.before.before)) (forking c.before.before.before.before.before.before.before.before.before.before.before.before.before.before b o) q in
-              let k = copy_done o (found-is (searched c.before.before.before.before.before.before.before.before.before.before.before.before.before.before) b o) (some-there c.before.before.before.before.before.before.before.before.before.before.before.before.before.before) (count c.before.before.before.before.before.before.before.before.before.before.before.before.before.before b o) g.4 (left c.before.before.before.before.before.before.before.before.before.before.before.before.before.before b o) s.args.t.next s.args.t.crowded c.before.before.before.before.before.before.fork.new.1.1.1.1.1.0 g.5 h in
+              let h = f.1.0 b (queue_of c.before.before.before.before.before.before.before.before.before.before.before.before.before.before.crowd-left.new.vacant (top c.before.before.before.before.before.before.before.before.before.before.before.before.before.before)) (forking c.before.before.before.before.before.before.before.before.before.before.before.before.before.before b o) q in
+              let k = copy_done o (found-is (searched c.before.before.before.before.before.before.before.before.before.before.before.before.before.before) b o) (some-there c.before.before.before.before.before.before.before.before.before.before.before.before.before.before) (count c.before.before.before.before.before.before.before.before.before.before.before.before.before.before b o) g.4 (left c.before.before.before.before.before.before.before.before.before.before.before.before.before.before b o) s.args.t.next s.args.t.crowded c.before.before.before.before.before.before.fork.new.kept g.5 h in
               let down : top c.before.before.before.before.before.before.before.before.before.before.before.before.before.before ≡ s.args.s.paths - (c.tallied.result.queued + 1) = omega (arith, r.0) in
               let here = queue-length s.args.t.queued s.args.order.now in (
                 r.0 ∙ k.0,
@@ -215,7 +215,7 @@ returns-2 c =
                 subst (λ (i : ℕ). Ends c.before.before.before.before.before.before b o c.tallied.result.queued i) down (subst (λ (i : ℕ). Ends c.before.before.before.before.before.before b o i (top c.before.before.before.before.before.before.before.before.before.before.before.before.before.before)) (sym r.0) k.3),
                 subst (λ (i : ℕ). Words c.before.before.before.before.before.before b o i) (sym r.0) k.4,
               ),
-          subst (λ (i : ℕ). Rising c.before.before.before.before.before.before.fork.new.1.1.0 i) (sym r.0) f.1.1,
+          subst (λ (i : ℕ). Rising c.before.before.before.before.before.before.fork.new.order i) (sym r.0) f.1.1,
         ),
       ),
     )

@@ -120,7 +120,7 @@ began c = c.before.before.before.before.before.before.before.before.before
 
 -- the memory then
 abbrev at-put : tie.After-put → Memory
-at-put c = memory c.put.new.0 c.before.before.before.before.share.new.1.0 (start (began c)).args.numbers.now (start (began c)).args.bytes.now
+at-put c = memory c.put.new.rows c.before.before.before.before.share.new.holders (start (began c)).args.numbers.now (start (began c)).args.bytes.now
 
 put-lent : (c : tie.After-put) → Lent (start (began c)).args.m (start (began c)).args.paths (start (began c)).args.arrays (at-put c)
 unfolding memory
@@ -145,14 +145,14 @@ unfolding memory
 copied-in c b vs o q =
     let t = began c in
     let a = (start t).args in
-    let rows = c.before.before.before.before.share.new.0 in
-    let holders = c.before.before.before.before.share.new.1.0 in
+    let rows = c.before.before.before.before.share.new.rows in
+    let holders = c.before.before.before.before.share.new.holders in
     let f = c.before.before.before.before.share.ensures in
     let copied : Copied a.m (slot_at a.e) a.to a.rows.now rows =
     subst (λ (i : ℕ). Copied a.m i a.to a.rows.now rows) (slot_is t) f.1.0 in
     let more : MoreBy (a.m + 1) a.rows.now (slot_at a.e) a.holders.now holders =
     subst (λ (i : ℕ). MoreBy (a.m + 1) a.rows.now i a.holders.now holders) (slot_is t) f.1.1 in
-    let Put : ℕ → ℕ → Type 0 = λ p r. PutRow a.to rows c.put.new.0 p a.found.first.cost a.found.first.number r a.found.first.parities in
+    let Put : ℕ → ℕ → Type 0 = λ p r. PutRow a.to rows c.put.new.rows p a.found.first.cost a.found.first.number r a.found.first.parities in
     let put : Put (cell-of t spent_at) (cell-of t earlier_at) = subst₂ Put (spent-is t) (earlier-is t) c.put.ensures in
     fork-written o (start t).requires.0.0.enough a.number (entry-is c b vs o q) holders (start t).requires.0.0 copied more put
 

@@ -46,6 +46,6 @@ returns c = let a = c.args in
     ap (queue_of (set a.vacant.now v slot.result)) u ∙ queue-put v a.vacant.now slot.result (omega arith) in record { held = (c.release.ensures.held_2, c.cut.ensures.order_len.0, simp length-set c.requires.rows.3, omega arith, omega arith, c.cut.ensures.order_len.1 ∙ sym (room_cut a.paths (a.queued - 1) (queue_of a.order.now a.queued) d)); by_index_2 = λ arrays e numbers bytes x small.
             let level : length x.rest ≡ a.queued = omega (arith, stands-length x.stands, queue-length a.queued a.order.now) in
             let less = rw (sym x.deep, slot.ensures.0) at c.release.ensures.less_by in
-            let left = last-remove a.order.now a.queued (a.queued - 1) q x.stands c.release.new.1.0 (omega arith) less in
+            let left = last-remove a.order.now a.queued (a.queued - 1) q x.stands c.release.new.holders (omega arith) less in
             let room = room_cut a.paths (a.queued - 1) x.rest d in
             (rw room (sym (length-take-le (a.queued - 1) x.rest (omega arith))), rw (room, put, c.cut.ensures.order_len.1, slot.ensures.0) left); rising_2 = c.cut.ensures.rising c.requires.rising }

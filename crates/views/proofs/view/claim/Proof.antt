@@ -30,7 +30,7 @@ abbrev start : tie.After-take-to → tie.Start
 start c = c.before.before.before.before.before.before
 
 taken : (c : tie.After-take-to) →
-    Took (start c).args.arrays (start c).args.slot (start c).args.h (start c).args.rows.now (start c).args.holders.now c.take-to.new.0 c.take-to.new.1.0 c.take-to.result
+    Took (start c).args.arrays (start c).args.slot (start c).args.h (start c).args.rows.now (start c).args.holders.now c.take-to.new.rows c.take-to.new.holders c.take-to.result
 taken c = let a = (start c).args in took a.slot a.h a.rows.now a.holders.now c.take-to.ensures
 
 copy-half-requires : tie.Need-copy_half-requires
@@ -63,12 +63,12 @@ returns c =
     let s = start c.before.before.before.before.before.before.before in
     let a = s.args in
     let p = s.requires.0 in (
-      (has_on f.new.0 a.bytes.now p.0 (taken c.before.before.before.before.before.before.before) f.ensures.0 refl, ids-only c.before.before.before.before.before.before.before.take-to.result a.rows.now p.2 (taken c.before.before.before.before.before.before.before).stored),
+      (has_on f.new.numbers a.bytes.now p.0 (taken c.before.before.before.before.before.before.before) f.ensures.0 refl, ids-only c.before.before.before.before.before.before.before.take-to.result a.rows.now p.2 (taken c.before.before.before.before.before.before.before).stored),
       λ others v seen met.
           let g = v.arrays.vals in
           rw (eq-eqb a.h a.j c.before.before.before.before.if-h-j.true)
-          (seen-put seen p.0 p.1 p.2 (taken c.before.before.before.before.before.before.before) f.new.0 (g a.h (v.ids a.h))
-          (subst (λ (i : ℕ). Parts a.m a.arrays f.new.0 (store g a.h c.before.before.before.before.before.before.before.take-to.result (g a.h i)))
+          (seen-put seen p.0 p.1 p.2 (taken c.before.before.before.before.before.before.before) f.new.numbers (g a.h (v.ids a.h))
+          (subst (λ (i : ℕ). Parts a.m a.arrays f.new.numbers (store g a.h c.before.before.before.before.before.before.before.take-to.result (g a.h i)))
           (c.before.before.before.before.before.before.before.before.before.before.id_of-from.ensures ∙ seen-id seen p.2) (f.ensures.1 g seen.vals))),
     )
 

@@ -41,11 +41,11 @@ abbrev start : tie.After-take-to → tie.Start
 start c = c.before.before.before.before.before
 
 taken : (c : tie.After-take-to) →
-    Took (start c).args.arrays (start c).args.slot (start c).args.h (start c).args.rows.now (start c).args.holders.now c.take-to.new.0 c.take-to.new.1.0 c.take-to.result
+    Took (start c).args.arrays (start c).args.slot (start c).args.h (start c).args.rows.now (start c).args.holders.now c.take-to.new.rows c.take-to.new.holders c.take-to.result
 taken c = let a = (start c).args in took a.slot a.h a.rows.now a.holders.now c.take-to.ensures
 
 -- the slot's row is there still
-row-there : (c : tie.After-take-to) → HasRow (start c).args.slot c.take-to.new.0
+row-there : (c : tie.After-take-to) → HasRow (start c).args.slot c.take-to.new.rows
 unfolding memory
 row-there c =
     let a = (start c).args in
@@ -78,7 +78,7 @@ end_is : (u : tie.After-put_word) →
     ≡ spot (start (before u)).args.m (before u).take-to.result (start (before u)).args.h + 2 ^ (start (before u)).args.h - 2 ^ (start (before u)).args.j
 end_is u = omega arith
 
-inside : (u : tie.After-put_word) → let a = (start (before u)).args in Joined a.m a.h (before u).take-to.result a.bytes.now u.put_word.new.0
+inside : (u : tie.After-put_word) → let a = (start (before u)).args in Joined a.m a.h (before u).take-to.result a.bytes.now u.put_word.new.bytes
 unfolding memory
 inside u =
     let a = (start (before u)).args in
@@ -86,7 +86,7 @@ inside u =
     put-joined p.3 (taken (before u)).id p.2 a.bytes.now p.0.bytes a.word (end_is u) u.before.before.before.before.power-n.ensures u.put_word.ensures
 
 word-is : (u : tie.After-put_word) → let a = (start (before u)).args in
-    part (spot a.m (before u).take-to.result a.h + (2 ^ a.h - 2 ^ a.j)) (2 ^ a.j) u.put_word.new.0 ≡ bits_of (2 ^ a.j) a.word
+    part (spot a.m (before u).take-to.result a.h + (2 ^ a.h - 2 ^ a.j)) (2 ^ a.j) u.put_word.new.bytes ≡ bits_of (2 ^ a.j) a.word
 unfolding memory
 word-is u =
     let a = (start (before u)).args in
@@ -101,11 +101,11 @@ join-requires c κs =
     let a = s.args in
     let p = s.requires.0 in
     let w = s.requires.1 in (
-      (row-there t, p.0.deep, p.0.many, p.2, p.3, joined-room p.3 (taken t).id a.bytes.now c.before.before.before.put_word.new.0 p.0.bytes (inside c.before.before.before), (taken t).id),
+      (row-there t, p.0.deep, p.0.many, p.2, p.3, joined-room p.3 (taken t).id a.bytes.now c.before.before.before.put_word.new.bytes p.0.bytes (inside c.before.before.before), (taken t).id),
       (
         λ k b d. (
-          lower-id p.0 p.3 (taken t) c.before.before.before.put_word.new.0 (inside c.before.before.before) w.seen w.met k b d,
-          lower-bits p.0 p.3 (taken t) c.before.before.before.put_word.new.0 (inside c.before.before.before) w.seen w.met k b d,
+          lower-id p.0 p.3 (taken t) c.before.before.before.put_word.new.bytes (inside c.before.before.before) w.seen w.met k b d,
+          lower-bits p.0 p.3 (taken t) c.before.before.before.put_word.new.bytes (inside c.before.before.before) w.seen w.met k b d,
         ),
         subst (All Bit) (sym (word-is c.before.before.before)) (bits-bits (2 ^ a.j) a.word),
       ),
@@ -126,11 +126,11 @@ returns c =
     let a = s.args in
     let p = s.requires.0 in (
       (
-        has_on a.numbers.now f.new.1.0 p.0 (taken t) refl (f.ensures.0.size ∙ (inside c.before.before.before.before.before.before).size),
+        has_on a.numbers.now f.new.bytes p.0 (taken t) refl (f.ensures.0.size ∙ (inside c.before.before.before.before.before.before).size),
         ids-only t.take-to.result a.rows.now p.3 (taken t).stored,
       ),
       λ others v seen met.
-          seen-commit p.0 p.3 (taken t) c.before.before.before.before.before.before.put_word.new.0 (inside c.before.before.before.before.before.before) seen met p.1 p.2 (bits_of (2 ^ a.j) a.word) f.new.1.0
+          seen-commit p.0 p.3 (taken t) c.before.before.before.before.before.before.put_word.new.bytes (inside c.before.before.before.before.before.before) seen met p.1 p.2 (bits_of (2 ^ a.j) a.word) f.new.bytes
           f.ensures.0 f.ensures.1 (word-is c.before.before.before.before.before.before),
     )
 

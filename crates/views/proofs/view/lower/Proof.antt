@@ -36,7 +36,7 @@ abbrev start : tie.After-take-to → tie.Start
 start c = c.before.before.before.before.before.before
 
 taken : (c : tie.After-take-to) →
-    Took (start c).args.arrays (start c).args.slot (start c).args.h (start c).args.rows.now (start c).args.holders.now c.take-to.new.0 c.take-to.new.1.0 c.take-to.result
+    Took (start c).args.arrays (start c).args.slot (start c).args.h (start c).args.rows.now (start c).args.holders.now c.take-to.new.rows c.take-to.new.holders c.take-to.result
 taken c = let a = (start c).args in took a.slot a.h a.rows.now a.holders.now c.take-to.ensures
 
 -- the id of the height above
@@ -70,11 +70,11 @@ returns c =
     let p = s.requires.0 in
     let h = a.h in
     let l : h ≤ a.m = omega arith in (
-      (has_on f.new.0 a.bytes.now p.0 (taken c.before.before.before.before.before) f.ensures.0 refl, ids-only c.before.before.before.before.before.take-to.result a.rows.now l (taken c.before.before.before.before.before).stored),
+      (has_on f.new.numbers a.bytes.now p.0 (taken c.before.before.before.before.before) f.ensures.0 refl, ids-only c.before.before.before.before.before.take-to.result a.rows.now l (taken c.before.before.before.before.before).stored),
       λ others v seen met.
           let g = v.arrays.vals in
-          seen-put seen p.0 p.1 l (taken c.before.before.before.before.before) f.new.0 _
-          (subst (λ (i : ℕ). Parts a.m a.arrays f.new.0 (store g h c.before.before.before.before.before.take-to.result (Qs (take (2 ^ h) (g (suc h) i)) (drop (2 ^ h) (g (suc h) i)))))
+          seen-put seen p.0 p.1 l (taken c.before.before.before.before.before) f.new.numbers _
+          (subst (λ (i : ℕ). Parts a.m a.arrays f.new.numbers (store g h c.before.before.before.before.before.take-to.result (Qs (take (2 ^ h) (g (suc h) i)) (drop (2 ^ h) (g (suc h) i)))))
           (above c.before.before.before.before.before ∙ seen-id seen p.2) (f.ensures.1 g seen.vals)),
     )
 
