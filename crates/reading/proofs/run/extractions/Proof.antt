@@ -7,7 +7,6 @@ use mathlib.Core.List.{List}
 use Prim.Native.Nat.{ℕ, ◌-◌, ◌≤◌, ◌<◌}
 use native.Mathlib.Omega.{arith}
 use lib.IntN.{ℤ}
-use borrow.Author.Tests.{eqb-true, eqb-false, not-true, not-false}
 use lib.ListN.{length, length-set, length-replicate}
 use Rattle.codebook.specs.declared.Shape.{Shape}
 use Rattle.settings.specs.declared.Settings.{Settings}
@@ -98,14 +97,14 @@ entry-requires c κs = search rules
 
 -- the values received
 received-now : (c : tie.After-entry-e invariant-loop decreases-loop) →
-    let a = (start c).args in c.before.before.receive.new.0 ≡ received a.x.m a.values.now a.numbers.now
+    let a = (start c).args in c.before.before.receive.new.numbers ≡ received a.x.m a.values.now a.numbers.now
 received-now c =
     let a = (start c).args in
     c.before.before.receive.ensures ∙ received_is a.x.m c.before.before.before.power.result a.values.now a.numbers.now c.before.before.before.power.ensures
 
 -- the received values are at the root
 root-now : (c : tie.After-entry-e invariant-loop decreases-loop) →
-    let a = (start c).args in (arrays_of a.x.m c.before.before.receive.new.0 a.bytes.now).vals a.x.m 1 ≡ a.values.now
+    let a = (start c).args in (arrays_of a.x.m c.before.before.receive.new.numbers a.bytes.now).vals a.x.m 1 ≡ a.values.now
 root-now c =
     let s = start c in
     let a = s.args in
@@ -119,7 +118,7 @@ loop-holds c =
     let a = s.args in
     let p = s.requires.1.1.0 in
     let q = s.requires.1.1.1.1.0 in
-    let room : Room a.x.m a.arrays c.before.before.receive.new.0 = subst (Room a.x.m a.arrays) (sym (received-now c))
+    let room : Room a.x.m a.arrays c.before.before.receive.new.numbers = subst (Room a.x.m a.arrays) (sym (received-now c))
     (received-room a.x.m a.arrays a.values.now a.numbers.now s.requires.1.1.1.1.0.0 (some-arrays s) (input s).size) in (
       (
         record {
@@ -138,11 +137,11 @@ loop-holds c =
       λ r.
           run-before r
           (subst
-          (λ w. Going r.book a.values.now a.s.visits a.s.paths a.arrays (arrays_of a.x.m c.before.before.receive.new.0 a.bytes.now)
-          (memory c.before.before.before.before.before.before.before.before.before.before.begin.new.0 c.before.before.before.before.before.before.before.before.before.before.begin.new.1.0 c.before.before.receive.new.0 a.bytes.now) a.order.now c.before.before.before.before.before.fill_vacant.new.0 w a.kept.now
+          (λ w. Going r.book a.values.now a.s.visits a.s.paths a.arrays (arrays_of a.x.m c.before.before.receive.new.numbers a.bytes.now)
+          (memory c.before.before.before.before.before.before.before.before.before.before.begin.new.rows c.before.before.before.before.before.before.before.before.before.before.begin.new.holders c.before.before.receive.new.numbers a.bytes.now) a.order.now c.before.before.before.before.before.fill_vacant.new.vacant w a.kept.now
           (record { queued = 0; next = 1; extractions = 0; crowded = 0; outrun = 0 }) c.entry-e.result a.walk_path.now a.walk_blocks.now a.walk_score.now
           a.walk_path.now a.walk_blocks.now a.walk_score.now) (sym s.requires.1.0.3)
-          (run-first r a.s.visits a.s.paths a.arrays c.before.before.before.before.before.before.before.before.before.before.begin.new.0 c.before.before.before.before.before.before.before.before.before.before.begin.new.1.0 c.before.before.before.before.before.fill_vacant.new.0 c.before.before.receive.new.0 a.bytes.now c.entry-e.result a.order.now a.kept.now
+          (run-first r a.s.visits a.s.paths a.arrays c.before.before.before.before.before.before.before.before.before.before.begin.new.rows c.before.before.before.before.before.before.before.before.before.before.begin.new.holders c.before.before.before.before.before.fill_vacant.new.vacant c.before.before.receive.new.numbers a.bytes.now c.entry-e.result a.order.now a.kept.now
           a.walk_path.now a.walk_blocks.now a.walk_score.now (omega (arith, p.alive)) q.2 q.3 a.rows.now s.requires.0.1 (omega (arith, s.requires.0.0, p.alive)) c.before.before.before.before.before.before.before.before.before.before.begin.ensures.0 c.before.before.before.before.before.before.before.before.before.before.begin.ensures.2
           c.before.before.before.before.before.fill_vacant.ensures.1 c.entry-e.ensures (root-now c))) (rising_none _) 0 (omega arith) (λ k. absurd (omega arith)),
       omega arith,
@@ -158,19 +157,19 @@ began c = start c.before
 
 -- the path has a next block
 more : (c : tie.Then-blocks_of-blocks invariant-loop decreases-loop) → (key_at c.before.before.before.before.loop-t.e).blocks ≡ (began c.before.before.before.before).args.x.blocks → ⊥
-more c q = eqb-false c.before.blocks_of.result (began c.before.before.before.before).args.x.blocks (not-true _ c.if-blocks_of-blocks.true) (c.before.blocks_of.ensures ∙ q)
+more c q = c.if-blocks_of-blocks.true (c.before.blocks_of.ensures ∙ q)
 
 -- what the turn needs for an input
 abbrev turning : (c : tie.Then-blocks_of-blocks invariant-loop decreases-loop) (r : Input (began c.before.before.before.before)) → let a = (began c.before.before.before.before).args in let l = c.before.before.before.before.loop-t in
     Turning a.x a.s a.arrays a.kinds.now a.terms.now a.heights.now a.starts.now a.biases.now (memory l.rows l.holders l.numbers l.bytes)
-    l.order l.vacant l.visits l.auto l.t l.e l.walk_path l.walk_blocks l.walk_score
+    l.order l.vacant l.visits l.kept l.t l.e l.walk_path l.walk_blocks l.walk_score
 turning c r =
     let s = began c.before.before.before.before in
     let a = s.args in
     record {
       values = a.values.now;
       input = r;
-      arrays = arrays_of a.x.m c.before.before.before.before.before.before.before.receive.new.0 a.bytes.now;
+      arrays = arrays_of a.x.m c.before.before.before.before.before.before.before.receive.new.numbers a.bytes.now;
       root = root-now c.before.before.before.before.before;
       path₀ = a.walk_path.now;
       blocks₀ = a.walk_blocks.now;
@@ -196,13 +195,13 @@ turned c = c.before.before.before.before.before.before.before.before.before.befo
 loop-less : tie.Need-loop-t-smaller invariant-loop decreases-loop
 loop-less c =
     let y = (turned c.before.before.before.before.before.before.before.before.before.before.before).before.before.before.before in
-    omega (arith, c.before.before.before.before.before.before.before.before.before.before.before.turn-stage.ensures.1.0, stop-left (input (began y)) (y.loop.inv.2 (input (began y))))
+    omega (arith, c.before.before.before.before.before.before.before.before.before.before.before.turn-stage.ensures.1.0, stop-left (input (began y)) (y.loop-t.invariant.2 (input (began y))))
 
 loop-again : tie.Need-loop-t-preserved invariant-loop decreases-loop
 unfolding memory
 loop-again c =
     let y = (turned c.before.before.before.before.before.before.before.before.before.before.before).before.before.before.before in
-    let i = y.loop.inv.1 in
+    let i = y.loop-t.invariant.1 in
     let o = c.before.before.before.before.before.before.before.before.before.before.before.turn-stage.ensures in (
       (o.0.0, o.0.1, o.0.2, o.0.3, o.0.4, o.0.5),
       (
@@ -231,14 +230,14 @@ leave-numbers c = omega (arith, c.loop-t.invariant.1.0, c.before.before.numbers-
 leave : (c : tie.At-loop-t invariant-loop decreases-loop) → (c.loop-t.t.extractions < (began c).args.most → (key_at c.loop-t.e).blocks ≡ (began c).args.x.blocks) →
     (r : Input (began c)) → let a = (began c).args in let y = c.loop-t in
     Before r.book a.s.visits a.s.paths a.arrays (arrays_of a.x.m (received a.x.m a.values.now a.numbers.now) a.bytes.now) a.most
-    (memory y.rows y.holders y.numbers y.bytes) y.order y.vacant y.visits y.auto y.t y.e
+    (memory y.rows y.holders y.numbers y.bytes) y.order y.vacant y.visits y.kept y.t y.e
     a.walk_path.now a.walk_blocks.now a.walk_score.now y.walk_path y.walk_blocks y.walk_score
 leave c d r =
     let a = (began c).args in
     let y = c.loop-t in
     subst
     (λ l. Before r.book a.s.visits a.s.paths a.arrays (arrays_of a.x.m l a.bytes.now) a.most (memory y.rows y.holders y.numbers y.bytes)
-    y.order y.vacant y.visits y.auto y.t y.e a.walk_path.now a.walk_blocks.now a.walk_score.now y.walk_path y.walk_blocks y.walk_score)
+    y.order y.vacant y.visits y.kept y.t y.e a.walk_path.now a.walk_blocks.now a.walk_score.now y.walk_path y.walk_blocks y.walk_score)
     (received-now c.before) (before-most (y.invariant.2 r) a.most y.invariant.3 (λ k. d k ∙ sym r.blocks))
 
 -- by a path with all blocks
@@ -271,7 +270,7 @@ same-length-7 : tie.Need-shape_of-walk_score-else-blocks_of-blocks invariant-loo
 same-length-7 c = (at_all c).loop-t.invariant.1.4
 
 returns : tie.Need-returns-else-blocks_of-blocks invariant-loop decreases-loop
-returns c = ((at_all c).loop-t.invariant.0.0, leave (at_all c) (λ _. sym c.before.blocks_of.ensures ∙ eqb-true c.before.blocks_of.result (began (at_all c)).args.x.blocks (not-false _ c.if-blocks_of-blocks.false)))
+returns c = ((at_all c).loop-t.invariant.0.0, leave (at_all c) (λ _. sym c.before.blocks_of.ensures ∙ c.if-blocks_of-blocks.false))
 
 same-length-8 : tie.Need-shape_of-rows-after-loop-t invariant-loop decreases-loop
 same-length-8 c = leave-rows (at_most c)

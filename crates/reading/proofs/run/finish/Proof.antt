@@ -54,10 +54,10 @@ abbrev slot : tie.After-commit → tie.After-slot_of-slot
 slot u = u.before.before.before.before.before
 
 abbrev summed : tie.After-commit → Memory
-summed u = memory u.commit.new.0 u.commit.new.1.0 (start u).args.numbers.now u.commit.new.1.1.1.0
+summed u = memory u.commit.new.rows u.commit.new.holders (start u).args.numbers.now u.commit.new.bytes
 
 -- the slot's row is there
-row-there : (u : tie.After-commit) → HasRow (slot u).slot_of-slot.result u.commit.new.0
+row-there : (u : tie.After-commit) → HasRow (slot u).slot_of-slot.result u.commit.new.rows
 row-there u = hand-row (start u) (slot u).slot_of-slot.ensures.0 u.commit.ensures.0.1.size
 
 sum-seen : (u : tie.After-commit) {es vs : List ℕ} (c : Hand (start u) es vs) →
@@ -68,9 +68,9 @@ sum-seen u c = commit-seen c.hand (start u).requires.0.0.enough (slot u).slot_of
 -- the row's spent and cost
 row-spent : (u : tie.After-commit) {es vs : List ℕ} (c : Hand (start u) es vs) →
     let i = (slot u).slot_of-slot.result in
-    (cell u.commit.new.0 i spent_at ≡ c.hand.taken.spent) × (cell u.commit.new.0 i cost_at ≡ c.hand.taken.cost)
+    (cell u.commit.new.rows i spent_at ≡ c.hand.taken.spent) × (cell u.commit.new.rows i cost_at ≡ c.hand.taken.cost)
 unfolding memory
-row-spent u c = end-spent c (slot u).slot_of-slot.ensures.0 (start u).requires.0.0.has.deep u.commit.new.0 u.commit.ensures.0.1
+row-spent u c = end-spent c (slot u).slot_of-slot.ensures.0 (start u).requires.0.0.has.deep u.commit.new.rows u.commit.ensures.0.1
 
 add-t22 : tie.Need-overflow_add-counts
 add-t22 c = search rules

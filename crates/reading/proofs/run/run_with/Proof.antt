@@ -49,13 +49,13 @@ began c = c.before.before.before.before.before.before.before.before.before.befor
 
 -- the memory then
 abbrev left : tie.After-extractions-stage → Memory
-left c = memory c.extractions-stage.new.1.0 c.extractions-stage.new.1.1.0 c.extractions-stage.new.1.1.1.1.1.1.1.1.1.1.1.1.1.1.1.1.0 c.extractions-stage.new.1.1.1.1.1.1.1.1.1.1.1.1.1.1.1.1.1.0
+left c = memory c.extractions-stage.new.rows c.extractions-stage.new.holders c.extractions-stage.new.numbers c.extractions-stage.new.bytes
 
 -- what their contract says
 abbrev stopped : (c : tie.After-extractions-stage) (r : Input (began c)) → let a = (began c).args in
     Before r.book a.s.visits a.s.paths a.arrays (arrays_of a.x.m (received a.x.m a.values.now a.numbers.now) a.bytes.now) (a.s.visits * a.x.blocks + 1)
-    (left c) c.extractions-stage.new.1.1.1.0 c.extractions-stage.new.1.1.1.1.0 c.extractions-stage.new.1.1.1.1.1.0 c.extractions-stage.new.1.1.1.1.1.1.0 c.extractions-stage.result.tally c.extractions-stage.result.entry
-    a.walk_path.now a.walk_blocks.now a.walk_score.now c.extractions-stage.new.1.1.1.1.1.1.1.1.1.1.1.1.1.1.1.1.1.1.0 c.extractions-stage.new.1.1.1.1.1.1.1.1.1.1.1.1.1.1.1.1.1.1.1.0 c.extractions-stage.new.1.1.1.1.1.1.1.1.1.1.1.1.1.1.1.1.1.1.1.1.0
+    (left c) c.extractions-stage.new.order c.extractions-stage.new.vacant c.extractions-stage.new.visits c.extractions-stage.new.kept c.extractions-stage.result.tally c.extractions-stage.result.entry
+    a.walk_path.now a.walk_blocks.now a.walk_score.now c.extractions-stage.new.walk_path c.extractions-stage.new.walk_blocks c.extractions-stage.new.walk_score
 stopped c r = c.extractions-stage.ensures.1 r
 
 -- no run has as many before its end
@@ -106,8 +106,8 @@ block-at-requires c κs =
 
 -- what the end needs for an input
 abbrev last-hand : (c : tie.After-block_at-last) (r : Input (began (made c.before))) → let x = made c.before in let a = (began x).args in let t = x.extractions-stage.result.tally in
-    Ending a.x.m a.s.paths a.arrays (left x) x.extractions-stage.result.entry (queue_of x.extractions-stage.last.1.1.1.0 t.queued)
-    (queue_of x.extractions-stage.last.1.1.1.1.0 (a.s.paths - (t.queued + 1))) c.block_at-last.result
+    Ending a.x.m a.s.paths a.arrays (left x) x.extractions-stage.result.entry (queue_of x.extractions-stage.new.order t.queued)
+    (queue_of x.extractions-stage.new.vacant (a.s.paths - (t.queued + 1))) c.block_at-last.result
 last-hand c r =
     stop-ending r (stopped (made c.before) r) (fewer (made c.before)) (root (made c.before)) (began (made c.before)).requires.1.0.alive c.block_at-last.result c.before.before-2.result c.before.before-2.ensures c.block_at-last.ensures
 
@@ -120,7 +120,7 @@ finish-requires c κs =
     let a = (began x).args in
     let t = x.extractions-stage.result.tally in (
       (x.extractions-stage.ensures.0, omega (arith, fewer x, most-fits (began x))),
-      (queue_of x.extractions-stage.last.1.1.1.0 t.queued, queue_of x.extractions-stage.last.1.1.1.1.0 (a.s.paths - (t.queued + 1)), last-hand c.before.before.before.before (input (began x))),
+      (queue_of x.extractions-stage.new.order t.queued, queue_of x.extractions-stage.new.vacant (a.s.paths - (t.queued + 1)), last-hand c.before.before.before.before (input (began x))),
     )
 
 -- the end's last call, and the extractions
@@ -162,7 +162,7 @@ returns c r =
     let n = noted c.before.before.before.before in
     let w = stop-walks r (stopped x r) (fewer x) s.requires.1.1.1.1.0
     (record { path-set = n.note.ensures.0; blocks-set = n.note.ensures.1; score-set = n.note.ensures.2 }) in (
-      stop-ran r (stopped x r) (fewer x) c.before.before.before.before.finish.result c.before.before.before.before.finish.new.1.1.1.0 (c.before.before.before.before.finish.ensures _ _ (last-hand u r)),
+      stop-ran r (stopped x r) (fewer x) c.before.before.before.before.finish.result c.before.before.before.before.finish.new.bytes (c.before.before.before.before.finish.ensures _ _ (last-hand u r)),
       w.path-is,
       w.blocks_is,
       w.score-is,

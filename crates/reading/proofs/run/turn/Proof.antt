@@ -180,10 +180,10 @@ returns c =
             let made = o.1.1.0 (extracting (read c.before.before.before.before.before.before.before.before.before.before.before) r) in
             run-before r.input
             (run-turn r.input (going s r) s.requires.1.0.alive s.requires.1.0.paths (found s r) (turning-more r) (counted c.before.before.before.before.before.before.before.before.before.before.before.extract-after.result)
-            (memory l.0 l.1.0 l.1.1.1.1.1.0 l.1.1.1.1.1.1.0) l.1.1.0 l.1.1.1.0 l.1.1.1.1.0 l.1.1.1.1.1.1.1.1.1.1.1.1.1.1.1.1.0
+            (memory l.rows l.holders l.numbers l.bytes) l.order l.vacant l.visits l.kept
             (made.0, made.1, made.2, made.3, made.4, made.5, made.6) (omega (arith, o.1.0.0)) r.room
             (record { path-set = n.note.ensures.0; blocks-set = n.note.ensures.1; score-set = n.note.ensures.2 }))
-            (rising-less l.1.1.0 c.before.before.before.before.before.before.before.before.before.before.before.extract-after.result.queued _ o.1.1.1 (omega arith)) (s.args.t.extractions + 1) (omega (arith, o.1.0.0)) (λ k. absurd (omega (arith, o.1.0.0))),
+            (rising-less l.order c.before.before.before.before.before.before.before.before.before.before.before.extract-after.result.queued _ o.1.1.1 (omega arith)) (s.args.t.extractions + 1) (omega (arith, o.1.0.0)) (λ k. absurd (omega (arith, o.1.0.0))),
       ),
     )
 
