@@ -2,8 +2,9 @@
 -- these; and zeros past the last extraction. By induction on the number of records copied. Assumes nothing.
 use mathlib.Core.Path.{◌≡◌, refl, sym, ap, ap₂, ◌∙◌}
 use mathlib.Core.List.{List, [], ◌++◌, map}
-use Prim.Native.Nat.{ℕ, zero, suc, ◌<◌, ◌≤◌}
+use Prim.Native.Nat.{ℕ, zero, suc, ◌+◌, ◌<◌, ◌≤◌}
 use native.Mathlib.Nat.{zero-add}
+use native.Mathlib.Numerals.{add-one}
 use native.Mathlib.Omega.{arith}
 use lib.IntN.{ℤ, pos}
 use lib.ListN.{length, set, get_or, drop, take, length-set, length-map, get_or-append, get_or-map, get_or-eq_default}
@@ -18,6 +19,13 @@ unfolding copied
 length-copied old paths blocks scores zero = refl
 length-copied old paths blocks scores (suc n) =
     length-set (copied old paths blocks scores n) n (record_at paths blocks scores n) ∙ length-copied old paths blocks scores n
+
+-- the entries of one more record
+pub copied-next : (old : List StepRecord) (paths blocks scores : List ℤ) (n : ℕ) (l : List StepRecord) (p b z : ℤ) → l ≡ copied old paths blocks scores n
+    → p ≡ get_or paths n (pos 0) → b ≡ get_or blocks n (pos 0) → z ≡ get_or scores n (pos 0)
+    → set l n (record { path = p; blocks = b; score = z }) ≡ copied old paths blocks scores (n + 1)
+unfolding copied record_at
+copied-next old paths blocks scores n l p b z el ep eb ez = rw (add-one n, el, ep, eb, ez) refl
 
 -- an entry of a walk buffer is that of its extraction
 walked-entry : (entry : Step → ℤ) (steps : List Step) (old : List ℤ) (i : ℕ) (d : Step) → i < length steps → get_or (walked entry steps old) i (entry d) ≡ entry (get_or steps i d)

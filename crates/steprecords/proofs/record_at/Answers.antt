@@ -1,5 +1,4 @@
 -- `steprecords::record_at` meets its contract: the first entry of the parts from i on is entry i, and past n it is zeros. Assumes nothing.
-use borrow.Author.Rules.{rules}
 use Rattle.steprecords.proofs.Entries.{entry-made, none_made}
 use Rattle.steprecords.proofs.record_at.Goals as goal
 
