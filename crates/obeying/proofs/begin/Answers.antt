@@ -15,44 +15,41 @@ use Rattle.obeying.proofs.begin.Goals as goal
 pub returns-in_default : goal.returns-in_default
 returns-in_default c t n old s h =
     let a = c.args in
-    refuse _ _ _ _ Misplaced (verdict-misplaced s a.c a.whole (begin-misplaced a.p s h.counts c.requires a.c (let h = c.in_default in ?) n))
+    refuse _ _ _ _ Misplaced (verdict-misplaced s a.c a.whole (begin-misplaced a.p s h.counts c.requires a.c (search rules) n))
 
 pub returns-then-not-whole : goal.returns-then-not-whole
 returns-then-not-whole c t n old s h =
-    let g = c.c-1.given in
+    let m = c.in-Length.m in
     let a = c.args in
-    rw g.1 (refuse _ _ _ _ Truncated (length-stands a.p s h.counts a.whole c.requires g.0.0 ∙ operands-cut a.whole _ c.if-not-whole.true))
+    rw c.in-Length.is (refuse _ _ _ _ Truncated (length-stands a.p s h.counts a.whole c.requires m ∙ operands-cut a.whole _ c.if-not-whole.true))
 
 pub returns-then-m-lt2 : goal.returns-then-m-lt2
 returns-then-m-lt2 c t n old s h =
-    let g = c.c-1.given in
+    let m = c.in-Length.m in
     let a = c.args in
-    let m = g.0.0 in
     let whole = operands-whole a.whole (fault s (Length m)) c.if-not-whole.false in
-    rw g.1 (refuse _ _ _ _ OutOfRange (length-stands a.p s h.counts a.whole c.requires m ∙ whole ∙ length-low a.p s h.counts m c.if-m-lt2.true))
+    rw c.in-Length.is (refuse _ _ _ _ OutOfRange (length-stands a.p s h.counts a.whole c.requires m ∙ whole ∙ length-low a.p s h.counts m c.if-m-lt2.true))
 
 pub returns-then-m-gt9 : goal.returns-then-m-gt9
 returns-then-m-gt9 c t n old s h =
-    let g = c.c-1.given in
+    let m = c.in-Length.m in
     let a = c.args in
-    let m = g.0.0 in
     let whole = operands-whole a.whole (fault s (Length m)) c.if-not-whole.false in
-    rw g.1 (refuse _ _ _ _ OutOfRange (length-stands a.p s h.counts a.whole c.requires m ∙ whole ∙ length_high a.p s h.counts m c.if-m-lt2.false c.if-m-gt9.true))
+    rw c.in-Length.is (refuse _ _ _ _ OutOfRange (length-stands a.p s h.counts a.whole c.requires m ∙ whole ∙ length_high a.p s h.counts m c.if-m-lt2.false c.if-m-gt9.true))
 
 pub clear-requires : goal.clear-requires
 clear-requires c =
-    let m = c.c-1.given.0.0 in
+    let m = c.in-Length.m in
     omega (arith, c.word_power-n.ensures, pow_mono {i = m} {j = 9} c.if-m-gt9.false)
 
 pub returns : goal.returns
 unfolding is_end byte_of
 returns c t n old s h =
-    let g = c.c-1.given in
+    let m = c.in-Length.m in
     let a = c.args in
-    let m = g.0.0 in
     let low = c.if-m-lt2.false in
     let high = c.if-m-gt9.false in
     let power = c.word_power-n.ensures in
     let whole = operands-whole a.whole (fault s (Length m)) c.if-not-whole.false in
-    rw g.1 (proceed _ _ _ _ (length-stands a.p s h.counts a.whole c.requires m ∙ whole ∙ length-fits a.p s h.counts m low high)
+    rw c.in-Length.is (proceed _ _ _ _ (length-stands a.p s h.counts a.whole c.requires m ∙ whole ∙ length-fits a.p s h.counts m low high)
     (rw power (begin-holds a.p (with_indices t t.kinds a.terms.now) old s h m _ c.requires low high (rw power at c.clear.ensures))))

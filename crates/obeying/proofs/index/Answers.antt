@@ -11,13 +11,13 @@ pub returns-in-Free : goal.returns-in-Free
 unfolding run_command
 returns-in-Free c t n old s h =
     let a = c.args in
-    rw c.c-1.given.1 (c.run.ensures (with_indices t a.kinds.now a.terms.now) old s h)
+    rw c.in-Free.is (c.run.ensures (with_indices t a.kinds.now a.terms.now) old s h)
 
 pub returns-in-Zero : goal.returns-in-Zero
 unfolding run_command
 returns-in-Zero c t n old s h =
     let a = c.args in
-    rw c.c-in-Zero-1.given.1 (c.run-in-Zero.ensures (with_indices t a.kinds.now a.terms.now) old s h)
+    rw c.in-Zero.is (c.run-in-Zero.ensures (with_indices t a.kinds.now a.terms.now) old s h)
 
 pub returns-in_default-c-2 : goal.returns-in_default-c-2
 returns-in_default-c-2 c t n old s h =
@@ -25,8 +25,8 @@ returns-in_default-c-2 c t n old s h =
     let table = with_indices t a.kinds.now a.terms.now in
     let left = c.requires.filled_lt_n in
     let none = uncovered a.p table old s h (unfilled a.p table old s h left) in
-    refuse _ _ _ _ Misplaced (verdict-misplaced s a.c a.whole (index-misplaced a.p s h.counts left (omega (arith, h.counts.covered)) a.c c.in_default.keys2 c.in_default-c.keys2 c.in_default-c-2.keys2 n))
+    refuse _ _ _ _ Misplaced (verdict-misplaced s a.c a.whole (index-misplaced a.p s h.counts left (omega (arith, h.counts.covered)) a.c (search rules) (search rules) (search rules) n))
 
 pub returns : goal.returns
 returns c t n old s h =
-    rw c.c-in-Tie-1.given.1 (c.tie.ensures t old s h)
+    rw c.in-Tie.is (c.tie.ensures t old s h)

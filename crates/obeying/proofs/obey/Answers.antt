@@ -11,32 +11,32 @@ use Rattle.obeying.proofs.obey.Goals as goal
 pub returns-in-Term : goal.returns-in-Term
 returns-in-Term c old s h =
     let a = c.args in
-    rw c.c-1.given.1 (c.term.ensures (tables a.kinds.now a.terms.now a.heights.now a.starts.now a.biases.now) old s h)
+    rw c.in-Term.is (c.term.ensures (tables a.kinds.now a.terms.now a.heights.now a.starts.now a.biases.now) old s h)
 
 pub returns-then-p-eq0 : goal.returns-then-p-eq0
 returns-then-p-eq0 c old s h =
     let a = c.args in
-    c.begin.ensures (tables a.kinds.now a.terms.now a.heights.now a.starts.now a.biases.now) (not-term a.c c.in_default.keys2) old s h
+    c.begin.ensures (tables a.kinds.now a.terms.now a.heights.now a.starts.now a.biases.now) (not-term a.c (search rules)) old s h
 
 pub returns-then-p : goal.returns-then-p
 returns-then-p c old s h =
     let a = c.args in
-    c.index.ensures (tables a.kinds.now a.terms.now a.heights.now a.starts.now a.biases.now) (not-term a.c c.in_default.keys2) old s h
+    c.index.ensures (tables a.kinds.now a.terms.now a.heights.now a.starts.now a.biases.now) (not-term a.c (search rules)) old s h
 
 pub returns-then-p-2 : goal.returns-then-p-2
 returns-then-p-2 c old s h =
     let a = c.args in
-    c.block.ensures a.terms.now (not-term a.c c.in_default.keys2) old s h
+    c.block.ensures a.terms.now (not-term a.c (search rules)) old s h
 
 pub returns-in_default-c : goal.returns-in_default-c
 returns-in_default-c c old s h =
     let a = c.args in
     let begun = c.if-p-eq0.false in
-    refuse _ _ _ _ Misplaced (verdict-misplaced s a.c a.whole (end-misplaced a.p s h.counts begun (omega (arith, c.requires, c.if-p.false)) (omega (arith, c.requires, c.if-p-2.false)) a.c c.in_default-c.keys2 (not-term a.c c.in_default.keys2)))
+    refuse _ _ _ _ Misplaced (verdict-misplaced s a.c a.whole (end-misplaced a.p s h.counts begun (omega (arith, c.requires, c.if-p.false)) (omega (arith, c.requires, c.if-p-2.false)) a.c (search rules) (not-term a.c (search rules))))
 
 pub returns : goal.returns
 unfolding is_end byte_of next
 returns c old s h =
     let a = c.args in
     let begun = c.if-p-eq0.false in
-    rw c.enum_told-1.given.1 (ends _ _ _ _ (end-stands a.p s h.counts a.whole begun (omega (arith, c.requires, c.if-p-2.false))) h)
+    rw c.in-End.is (ends _ _ _ _ (end-stands a.p s h.counts a.whole begun (omega (arith, c.requires, c.if-p-2.false))) h)

@@ -4,6 +4,7 @@ use Prim.Native.Nat.{◌<◌}
 use native.Mathlib.Omega.{arith}
 use lib.Dec.{T}
 use borrow.Author.Rules.{rules}
+use borrow.Author.Tests.{not-true, not-false}
 use Rattle.codebook.specs.declared.Refusal.TheVariants.{Truncated, Misplaced, OutOfRange}
 use Rattle.codebook.specs.declared.Command.TheVariants.{Term}
 use Rattle.codebook.specs.Loading.{fault}
@@ -15,37 +16,37 @@ use Rattle.obeying.proofs.term.Goals as goal
 pub returns-then-not-p : goal.returns-then-not-p
 returns-then-not-p c t old s h =
     let a = c.args in
-    refuse _ _ _ _ Misplaced (term-misplaced a.p s h.counts a.whole c.if-not-p.true a.i)
+    refuse _ _ _ _ Misplaced (term-misplaced a.p s h.counts a.whole (not-true c.args.p.tying c.if-not-p.true) a.i)
 
 pub returns-then-not-whole : goal.returns-then-not-whole
 returns-then-not-whole c t old s h =
     let a = c.args in
-    let stands = term-stands a.p s h.counts a.whole c.if-not-p.false a.i in
+    let stands = term-stands a.p s h.counts a.whole (not-false c.args.p.tying c.if-not-p.false) a.i in
     refuse _ _ _ _ Truncated (stands ∙ operands-cut a.whole _ c.if-not-whole.true)
 
 pub returns-then-p-i : goal.returns-then-p-i
 returns-then-p-i c t old s h =
     let a = c.args in
-    let stands = term-stands a.p s h.counts a.whole c.if-not-p.false a.i in
+    let stands = term-stands a.p s h.counts a.whole (not-false c.args.p.tying c.if-not-p.false) a.i in
     let whole = operands-whole a.whole (fault s (Term a.i)) c.if-not-whole.false in
     refuse _ _ _ _ OutOfRange (stands ∙ whole ∙ term-later a.p s h.counts a.i (omega (arith, c.if-p-i.true)))
 
 pub returns-then-p-i-le1 : goal.returns-then-p-i-le1
 returns-then-p-i-le1 c t old s h =
     let a = c.args in
-    let stands = term-stands a.p s h.counts a.whole c.if-not-p.false a.i in
+    let stands = term-stands a.p s h.counts a.whole (not-false c.args.p.tying c.if-not-p.false) a.i in
     let whole = operands-whole a.whole (fault s (Term a.i)) c.if-not-whole.false in
     refuse _ _ _ _ OutOfRange (stands ∙ whole ∙ term-later a.p s h.counts a.i (omega (arith, c.if-p-i-le1.true)))
 
 pub overflow_sub-p-2 : goal.overflow_sub-p-2
 overflow_sub-p-2 c =
-    let y = subst T (sym c.if-not-p.false) tt in
+    let y = subst T (sym (not-false c.args.p.tying c.if-not-p.false)) tt in
     omega (arith, c.requires.tie y)
 
 pub returns-then-bit-terms : goal.returns-then-bit-terms
 returns-then-bit-terms c t old s h =
     let a = c.args in
-    let tying = c.if-not-p.false in
+    let tying = not-false c.args.p.tying c.if-not-p.false in
     let y = subst T (sym (sym h.counts.tying ∙ tying)) tt in
     let stands = term-stands a.p s h.counts a.whole tying a.i in
     let whole = operands-whole a.whole (fault s (Term a.i)) c.if-not-whole.false in
@@ -56,7 +57,7 @@ pub returns : goal.returns
 unfolding is_end byte_of
 returns c t old s h =
     let a = c.args in
-    let tying = c.if-not-p.false in
+    let tying = not-false c.args.p.tying c.if-not-p.false in
     let y = subst T (sym (sym h.counts.tying ∙ tying)) tt in
     let stands = term-stands a.p s h.counts a.whole tying a.i in
     let whole = operands-whole a.whole (fault s (Term a.i)) c.if-not-whole.false in

@@ -19,7 +19,7 @@ read_command-requires c = c.loop-at-test.true
 pub returns-in_default : goal.returns-in_default
 returns-in_default c = let book = c.args.book.now in
     let l = c.loop-at in
-    let read = sym c.read_command.ensures ∙ c.enum_told-1.given.1 in
+    let read = sym c.read_command.ensures ∙ c.in_default.is in
     let the-whole = refused-answer book _ _ Unknown _ (reached-unlisted _ _ _ _ _ l.invariant c.loop-at-test.true read) c.refuse.ensures in record { answer = the-whole.0; filled = the-whole.1 }
 
 pub obey-requires : goal.obey-requires
@@ -27,34 +27,34 @@ obey-requires c = c.loop-at.invariant.holds.counts.safe
 
 pub loop-at-smaller : goal.loop-at-smaller
 loop-at-smaller c =
-    let x = c.c-1.given.0 in
-    let e = sym c.read_command.ensures ∙ c.c-1.given.1 in
+    let x = c.in-Found in
+    let e = sym c.read_command.ensures ∙ x.is in
     let h = c.loop-at-test.true in
     let l = c.loop-at in
-    omega (arith, (reached-next _ _ _ _ _ l.invariant h x.0 x.1.0 x.1.1.0 e _ _ (rw c.q-1.given.1 at (c.obey.ensures _ l.invariant.s l.invariant.holds))).1, h)
+    omega (arith, (reached-next _ _ _ _ _ l.invariant h x.c x.next x.whole e _ _ (c.in-Next.ensures _ l.invariant.s l.invariant.holds)).1, h)
 
 pub loop-at-preserved : goal.loop-at-preserved
 loop-at-preserved c =
-    let x = c.c-1.given.0 in
-    let e = sym c.read_command.ensures ∙ c.c-1.given.1 in
+    let x = c.in-Found in
+    let e = sym c.read_command.ensures ∙ x.is in
     let h = c.loop-at-test.true in
     let l = c.loop-at in
-    (reached-next _ _ _ _ _ l.invariant h x.0 x.1.0 x.1.1.0 e _ _ (rw c.q-1.given.1 at (c.obey.ensures _ l.invariant.s l.invariant.holds))).0
+    (reached-next _ _ _ _ _ l.invariant h x.c x.next x.whole e _ _ (c.in-Next.ensures _ l.invariant.s l.invariant.holds)).0
 
 pub returns-in-End : goal.returns-in-End
-returns-in-End c = let x = c.c-1.given.0 in
-    let e = sym c.read_command.ensures ∙ c.c-1.given.1 in
+returns-in-End c = let x = c.in-Found in
+    let e = sym c.read_command.ensures ∙ x.is in
     let h = c.loop-at-test.true in
     let l = c.loop-at in
-    let k = reached-last _ _ _ _ _ l.invariant h x.0 x.1.0 x.1.1.0 e _ _ (rw c.q-in-End-1.given.1 at (c.obey.ensures _ l.invariant.s l.invariant.holds)) in
+    let k = reached-last _ _ _ _ _ l.invariant h x.c x.next x.whole e _ _ (c.in-End.ensures _ l.invariant.s l.invariant.holds) in
     record { answer = c.finish.ensures ∙ sym k.0; filled = k.1 }
 
 pub returns-in-Refused : goal.returns-in-Refused
-returns-in-Refused c = let x = c.c-1.given.0 in
-    let e = sym c.read_command.ensures ∙ c.c-1.given.1 in
+returns-in-Refused c = let x = c.in-Found in
+    let e = sym c.read_command.ensures ∙ x.is in
     let h = c.loop-at-test.true in
     let l = c.loop-at in
-    let the-whole = refused-answer _ _ _ _ _ (reached-refused _ _ _ _ _ l.invariant h x.0 x.1.0 x.1.1.0 e _ _ _ (rw c.r-1.given.1 at (c.obey.ensures _ l.invariant.s l.invariant.holds))) c.refuse-in-Refused.ensures in record { answer = the-whole.0; filled = the-whole.1 }
+    let the-whole = refused-answer _ _ _ _ _ (reached-refused _ _ _ _ _ l.invariant h x.c x.next x.whole e _ _ _ (c.in-Refused.ensures _ l.invariant.s l.invariant.holds)) c.refuse-in-Refused.ensures in record { answer = the-whole.0; filled = the-whole.1 }
 
 pub returns : goal.returns
 returns c = let the-whole = refused-answer _ _ _ Truncated _ (reached-end _ _ _ _ _ c.loop-at.invariant c.loop-at-test.false) c.refuse-2.ensures in record { answer = the-whole.0; filled = the-whole.1 }

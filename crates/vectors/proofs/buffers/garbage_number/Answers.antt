@@ -10,4 +10,4 @@ pub overflow_cast-result : goal.overflow_cast-result
 overflow_cast-result c = abs-fits (pos ((7919 * (c.args.i % 65521) + 104729) % 65521)) (omega arith)
 
 pub overflow_sub-result : goal.overflow_sub-result
-overflow_sub-result c = sub-fits (cast-result c) (abs-fits (pos 30000) (omega arith)) (omega arith)
+overflow_sub-result c = sub-fits (abs-fits (pos ((7919 * (c.args.i % 65521) + 104729) % 65521)) (omega arith)) (abs-fits (pos 30000) (omega arith)) (omega arith)

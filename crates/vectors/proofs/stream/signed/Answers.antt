@@ -10,8 +10,8 @@ pub overflow_cast-result-2 : goal.overflow_cast-result-2
 overflow_cast-result-2 c = abs-fits (pos c.args.x) (omega arith)
 
 pub overflow_sub-result : goal.overflow_sub-result
-overflow_sub-result c = sub-fits (cast-result-2 c) (abs-fits (pos 65536) (omega arith)) (omega arith)
+overflow_sub-result c = sub-fits (abs-fits (pos c.args.x) (omega arith)) (abs-fits (pos 65536) (omega arith)) (omega arith)
 
 pub overflow_cast-result-3 : goal.overflow_cast-result-3
 overflow_cast-result-3 c =
-    rw (sub_is (cast-result-2 c) (abs-fits (pos 65536) (omega arith)) (omega arith)) (lowered c.args.x (omega arith) (omega arith))
+    rw (sub_is (abs-fits (pos c.args.x) (omega arith)) (abs-fits (pos 65536) (omega arith)) (omega arith)) (lowered c.args.x (omega arith) (omega arith))
