@@ -30,7 +30,7 @@ loop-i-preserved c =
     let i = c.loop-i.i in
     let f = c.loop-i.faults in
     let z = get_or ys i (pos 0) in
-    let u : leb (nat_abs z) 2047 ≡ c.value_ok.result = grind (arith, to_z-of_z {w = w16} (search rules)) in
+    let u : leb (nat_abs z) 2047 ≡ c.value_ok.result = grind (arith, to_z-of_z {w = w16} {z = z} (search rules)) in
     let after = values_ok (drop (i + 1) ys) in (
       omega arith,
       elim c.if-not-value_ok.branch [
