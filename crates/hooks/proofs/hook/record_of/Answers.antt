@@ -36,5 +36,4 @@ returns-in-4 c = c.record_with-in-4.ensures ∙ by-status _ _ 4 c.field_at.ensur
 pub returns-in_default : goal.returns-in_default
 unfolding read_record record_with record_read
 returns-in_default c =
-    let h = c.in_default in
-    ?
+    c.not_read.ensures ∙ ap (λ o. record_read (record_with c.args.bits.now o)) (sym (status-none (field_at c.args.bits.now 27 3) (omega (arith, c.field_at.ensures))))
