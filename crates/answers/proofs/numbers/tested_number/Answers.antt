@@ -5,4 +5,4 @@ use Rattle.codec.specs.Numbers.{tested_number}
 use Rattle.answers.proofs.numbers.tested_number.Goals as goal
 
 pub returns-in-NotInCode : goal.returns-in-NotInCode
-returns-in-NotInCode c = sym (ap tested_number c.enum_told-in-NotInCode-1.given.1)
+returns-in-NotInCode c = sym (ap tested_number c.in-NotInCode.is)

@@ -1,9 +1,7 @@
 -- `checks::tests::values_ok` meets its contract. The loop's invariant: all values are good where none was at fault before index i and those from i on
 -- are good. Assumes nothing.
-use mir.Syntax.{w32}
 use mathlib.Core.Path.{◌≡◌, refl, sym, ap, ◌∙◌}
 use mathlib.Core.Bool.{Bool, true, false, ◌&&◌}
-use mathlib.Core.Logic.{⊎_elim}
 use Prim.Native.Nat.{◌+◌, ◌-◌, ◌≤◌}
 use native.Mathlib.Omega.{arith}
 use lib.IntN.{ℤ, pos, nat_abs}
@@ -12,8 +10,7 @@ use lib.Dec.{leb, eqb}
 use mir.Syntax.{w16}
 use mir.Val.{to_z, of_z}
 use mir.Facts.{to_z-of_z}
-use borrow.Author.Rules.{sfits_of}
-use borrow.Author.Tests.{not-true, not-false}
+use borrow.Author.Rules.{rules}
 use Rattle.machine.specs.Calls.{values_ok}
 use Rattle.checks.proofs.Valued.{value-good, value-bad, values-end}
 use Rattle.checks.proofs.tests.values_ok.Goals as goal
@@ -33,7 +30,7 @@ loop-i-preserved c =
     let i = c.loop-i.i in
     let f = c.loop-i.faults in
     let z = get_or ys i (pos 0) in
-    let u : leb (nat_abs z) 2047 ≡ c.value_ok.result = grind (arith, to_z-of_z {w = w16} (sfits_of (c.type_inv.values i))) in
+    let u : leb (nat_abs z) 2047 ≡ c.value_ok.result = grind (arith, to_z-of_z {w = w16} {z = z} (search rules)) in
     let after = values_ok (drop (i + 1) ys) in (
       omega arith,
       elim c.if-not-value_ok.branch [
