@@ -60,11 +60,10 @@ loop-less c = omega arith
 
 loop-again : tie.Need-loop-i-preserved invariant-loop decreases-loop
 loop-again c =
-    let h = c.numbers-1 in ?
     let x = c.before.before.loop-i in (
       omega arith,
       simp length-set (omega arith),
-      next c.before.before.before.args.values.now (clear c.before.before.before) refl (pos 0) x.i x.invariant.2 (omega arith) (to_z-of_z (cast-numbers c) ∙ to_z-of_z {w = w32} (sfits_of c.numbers-1.given)),
+      next c.before.before.before.args.values.now (clear c.before.before.before) refl (pos 0) x.i x.invariant.2 (omega arith) (to_z-of_z (cast-numbers c) ∙ to_z-of_z {w = w16} (sfits_of c.numbers-1.given)),
     )
 
 same_length : tie.Need-shape_of-numbers invariant-loop decreases-loop
