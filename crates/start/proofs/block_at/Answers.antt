@@ -27,6 +27,6 @@ returns c B kinds terms ok t l =
       within = l;
       start = t.start b l;
       height = t.height b l;
-      bias = to_z-of_z {w = w32} (sfits_of c.result-1.given) ∙ t.bias b l;
+      bias = to_z-of_z {w = w32} (record { sfits = omega arith }) ∙ t.bias b l;
       word = c.twos.ensures.1 B.m ok.high (omega (arith, (ok.blocks b l).within)) ∙ ap (turn (suc B.m)) e;
     }

@@ -39,8 +39,8 @@ shared-slice-copy-out-numbers c = omega arith
 cast-numbers : tie.Need-overflow_cast-numbers invariant-loop decreases-loop
 cast-numbers c =
     let z = get_or c.before.before.before.args.values.now c.before.before.loop-i.i (pos 0) in
-    let f : SFits w16 z = sfits_of c.numbers-1.given in
-    let g : SFits w32 z = record { sfits = omega (arith, c.numbers-1.given) } in
+    let f : SFits w16 z = record { sfits = omega arith } in
+    let g : SFits w32 z = record { sfits = omega arith } in
     subst (SFits w32) (sym (to_z-of_z f)) g
 
 add-t10 : tie.Need-overflow_add-at invariant-loop decreases-loop
@@ -60,11 +60,10 @@ loop-less c = omega arith
 
 loop-again : tie.Need-loop-i-preserved invariant-loop decreases-loop
 loop-again c =
-    let h = c.numbers-1 in ?
     let x = c.before.before.loop-i in (
       omega arith,
       simp length-set (omega arith),
-      next c.before.before.before.args.values.now (clear c.before.before.before) refl (pos 0) x.i x.invariant.2 (omega arith) (to_z-of_z (cast-numbers c) ∙ to_z-of_z {w = w32} (sfits_of c.numbers-1.given)),
+      next c.before.before.before.args.values.now (clear c.before.before.before) refl (pos 0) x.i x.invariant.2 (omega arith) (to_z-of_z (cast-numbers c) ∙ to_z-of_z {w = w16} (record { sfits = omega arith })),
     )
 
 same_length : tie.Need-shape_of-numbers invariant-loop decreases-loop

@@ -15,7 +15,7 @@ use Rattle.tables.proofs.costs.value.Goals as goal
 pub returns-then-i-n : goal.returns-then-i-n
 returns-then-i-n c =
     let a = c.args in
-    let f : SFits w32 (get_or a.numbers.now (a.at + a.i) (pos 0)) = record { sfits = c.result-1.given } in
+    let f : SFits w32 (get_or a.numbers.now (a.at + a.i) (pos 0)) = record { sfits = omega arith } in
     to_z-of_z f ∙ sym (part_at a.at a.n a.numbers.now (pos 0) a.i c.if-i-n.true)
 
 pub returns-else-i-n : goal.returns-else-i-n
