@@ -2,7 +2,6 @@
 -- blocks or fewer are gone. Assumes nothing.
 use mathlib.Core.Path.{◌≡◌, sym, ap, ◌∙◌}
 use mathlib.Core.List.{List, ◌∷◌}
-use mathlib.Core.Logic.{⊎_elim}
 use Prim.Native.Nat.{ℕ, suc, ◌+◌, ◌-◌, ◌≤◌}
 use native.Mathlib.Nat.{sub-zero}
 use native.Mathlib.Omega.{arith}
@@ -15,6 +14,7 @@ use Rattle.standing.specs.Seen.{memory}
 use Rattle.steps.specs.Steps.{Queued}
 use Rattle.advance.proofs.Dismissals.{Passed, passed_none, passed-all, next-slot, next-held, passed-out, passed-in}
 use Rattle.advance.proofs.outruns.dismiss.Goals as goal
+use Rattle.advance.proofs.outruns.dismiss.Goals.{then-blocks_of-b, else-blocks_of-b}
 
 pub loop-i-init : goal.loop-i-init
 loop-i-init c =
@@ -84,29 +84,30 @@ loop-i-preserved c =
     let n = a.queued - (y.i + 1) in
     let q : a.queued - y.i ≡ suc n = omega arith in
     let u : a.paths - a.queued + (y.gone + 1) ≡ suc v = omega arith in
-    ⊎_elim
-    (λ w.
-    let slot = w.1.result in
-    let put : queue_of (set y.vacant v slot) (a.paths - a.queued + (y.gone + 1)) ≡ slot ∷ queue_of y.vacant v =
-    ap (queue_of (set y.vacant v slot)) u ∙ queue-put v y.vacant slot (omega arith) in
-    rw (w.4, w.5, w.6) (
-      omega arith,
-      omega arith,
-      w.3.ensures.0,
-      simp length-set y.invariant.3,
-      λ arrays numbers bytes x small.
-          let less = rw (sym x.deep, w.1.ensures.0) at w.3.ensures.1 in
-          rw (put, w.1.ensures.0) (passed-out n q (y.invariant.4 arrays numbers bytes x small) w.3.last.1.0 (omega arith) (omega (arith, e, w.0.taken)) less),
-    ))
-    (λ w.
-    rw (w.1, w.2, w.3) (
-      omega arith,
-      omega arith,
-      y.invariant.2,
-      y.invariant.3,
-      λ arrays numbers bytes x small. passed-in n q (y.invariant.4 arrays numbers bytes x small) (omega (arith, e, w.0.left)),
-    ))
-    c.if-blocks_of-b.branch
+    elim c.if-blocks_of-b.branch [
+      then-blocks_of-b w ↦
+          let slot = w.slot_of-slot.result in
+          let put : queue_of (set y.vacant v slot) (a.paths - a.queued + (y.gone + 1)) ≡ slot ∷ queue_of y.vacant v =
+          ap (queue_of (set y.vacant v slot)) u ∙ queue-put v y.vacant slot (omega arith) in
+          rw (w.holders-is, w.vacant-is, w.gone-is) (
+            omega arith,
+            omega arith,
+            w.release.ensures.held_2,
+            simp length-set y.invariant.3,
+            λ arrays numbers bytes x small.
+                let less = rw (sym x.deep, w.slot_of-slot.ensures.0) at w.release.ensures.less_by in
+                rw (put, w.slot_of-slot.ensures.0)
+                (passed-out n q (y.invariant.4 arrays numbers bytes x small) w.release.new.holders (omega arith) (omega (arith, e, w.if-blocks_of-b.true)) less),
+          )
+    | else-blocks_of-b w ↦
+          rw (w.holders-is, w.vacant-is, w.gone-is) (
+            omega arith,
+            omega arith,
+            y.invariant.2,
+            y.invariant.3,
+            λ arrays numbers bytes x small. passed-in n q (y.invariant.4 arrays numbers bytes x small) (omega (arith, e, w.if-blocks_of-b.false)),
+          )
+    ]
 
 pub returns : goal.returns
 returns c = let a = c.args in

@@ -112,10 +112,10 @@ returns-2 c =
             stay-ahead (key_of q.book) a.s.visits a.b (visit a.visits.now a.b) q.paths lth in
             let level : length q.paths ≡ a.t.queued = omega (arith, stands-length q.stands, queue-length a.t.queued a.order.now) in
             let many : left.result ≡ length (ahead (key_of q.book) a.b q.paths) =
-            sym (queue-length left.result left.new.0) ∙ ap length left.ensures.0.2 ∙ stands-length w.1 in
+            sym (queue-length left.result left.new.order) ∙ ap length left.ensures.0.2 ∙ stands-length w.1 in
             let slots : a.s.paths - left.result ≡ a.s.paths - a.t.queued + gone.result =
             omega (arith, sides-length (key_of q.book) a.b q.paths, w.0) in
-            let same : numbers key_at (queue_of left.new.0 left.result) ≡ numbers (key_of q.book) (ahead (key_of q.book) a.b q.paths) =
+            let same : numbers key_at (queue_of left.new.order left.result) ≡ numbers (key_of q.book) (ahead (key_of q.book) a.b q.paths) =
             ap (numbers key_at) left.ensures.0.2 ∙ stands-numbers w.1 in (
               rw stay.0 many,
               rw stay.1 (ap (λ n. a.t.outrun + n) w.0),

@@ -62,7 +62,7 @@ abbrev left : tie.After-commit → tie.Else-at-eq0
 left u = u.before.before.before.before.before
 
 abbrev summed : tie.After-commit → Memory
-summed u = memory u.commit.new.0 u.commit.new.1.0 (start u).args.numbers.now u.commit.new.1.1.1.0
+summed u = memory u.commit.new.rows u.commit.new.holders (start u).args.numbers.now u.commit.new.bytes
 
 sum-seen : (u : tie.After-commit) {es vs : List ℕ} (c : Hand (start u) es vs) →
     Seen (start u).args.m (start u).args.arrays (chosen u).slot_of-slot.result (summed u) (away c.hand) (committed c.hand)
@@ -85,7 +85,7 @@ abbrev sums : tie.After-turn_over → tie.After-commit
 sums t = t.before.before.before.before.before.before.before.before
 
 abbrev turned : tie.After-turn_over → Memory
-turned t = memory t.turn_over.new.0 t.turn_over.new.1.0 t.turn_over.new.1.1.0 (sums t).commit.new.1.1.1.0
+turned t = memory t.turn_over.new.rows t.turn_over.new.holders t.turn_over.new.numbers (sums t).commit.new.bytes
 
 turn-seen : (t : tie.After-turn_over) {es vs : List ℕ} (c : Hand (start (sums t)) es vs) →
     let a = (start (sums t)).args in
@@ -93,14 +93,14 @@ turn-seen : (t : tie.After-turn_over) {es vs : List ℕ} (c : Hand (start (sums 
 unfolding StepSeen
 turn-seen t c =
     let u = sums t in
-    t.turn_over.ensures.1 (away c.hand) (committed c.hand) (sum-seen u c) (committed-turning c (chosen u).slot_of-slot.ensures.0 (left u).if-at-eq0.left)
+    t.turn_over.ensures.1 (away c.hand) (committed c.hand) (sum-seen u c) (committed-turning c (chosen u).slot_of-slot.ensures.0 (left u).if-at-eq0.false)
 
 go-down-requires-2 : tie.Need-go_down-requires-else-at-eq0
 go-down-requires-2 c κs =
     let u = sums c.before.before.before.before.before.before in
     let r = (chosen u).slot_of-slot.ensures in
     let h = (start u).requires.1.2 in
-    let n = (left u).if-at-eq0.left in
+    let n = (left u).if-at-eq0.false in
     let l = later-heights h r.0 n in (
       (c.before.before.before.before.before.before.turn_over.ensures.0.0, hand-row (start u) r.0 (c.before.before.before.before.before.before.turn_over.ensures.0.1.size ∙ u.commit.ensures.0.1.size), l.2, omega arith),
       record {
@@ -114,7 +114,7 @@ go-down-requires-2 c κs =
 -- by either way, the path is at its next block: first for each way at its end, then where the ways meet
 gone-first : (t : tie.After-go_down) →
     Gone t.before.before.before.before.before.before.before.before.before.args.m t.before.before.before.before.before.before.before.before.before.args.paths t.before.before.before.before.before.before.before.before.before.args.arrays t.before.before.before.before.before.before.before.before.before.args.e t.before.before.before.before.before.before.slot_of-slot.result t.before.before.before.before.before.before.before.before.before.args.last t.before.before.before.before.before.before.before.before.before.args.at (old t.before.before.before.before.before.before.before.before.before)
-    (memory t.go_down.new.0 t.go_down.new.1.0 t.go_down.new.1.1.0 t.before.before.before.before.before.before.before.before.before.args.bytes.now)
+    (memory t.go_down.new.rows t.go_down.new.holders t.go_down.new.numbers t.before.before.before.before.before.before.before.before.before.args.bytes.now)
 unfolding memory
 gone-first t =
     let f = t.go_down.ensures in
@@ -126,15 +126,15 @@ gone-later : (t : tie.After-go_down-else-at-eq0) →
     let u = sums t.before.before.before.before.before.before.before in
     let s = start u in
     Gone s.args.m s.args.paths s.args.arrays s.args.e (chosen u).slot_of-slot.result s.args.last s.args.at (old s)
-    (memory t.go_down-else-at-eq0.new.0 t.go_down-else-at-eq0.new.1.0 t.go_down-else-at-eq0.new.1.1.0 u.commit.last.1.1.1.0)
+    (memory t.go_down-else-at-eq0.new.rows t.go_down-else-at-eq0.new.holders t.go_down-else-at-eq0.new.numbers u.commit.new.bytes)
 unfolding memory
 gone-later t =
     let u = sums t.before.before.before.before.before.before.before in
     let f = t.go_down-else-at-eq0.ensures in
     record {
       has = f.0.0;
-      only = ids-on (start u).args.rows.now t.before.before.before.before.before.before.before.turn_over.new.0 (ids-on (start u).args.rows.now u.commit.last.0 u.commit.ensures.0.1 t.before.before.before.before.before.before.before.turn_over.ensures.0.1) f.0.1;
-      seen = λ c. down-seen c (chosen u).slot_of-slot.ensures.0 (left u).if-at-eq0.left (turned t.before.before.before.before.before.before.before) _ (turn-seen t.before.before.before.before.before.before.before c) f.1;
+      only = ids-on (start u).args.rows.now t.before.before.before.before.before.before.before.turn_over.new.rows (ids-on (start u).args.rows.now u.commit.new.rows u.commit.ensures.0.1 t.before.before.before.before.before.before.before.turn_over.ensures.0.1) f.0.1;
+      seen = λ c. down-seen c (chosen u).slot_of-slot.ensures.0 (left u).if-at-eq0.false (turned t.before.before.before.before.before.before.before) _ (turn-seen t.before.before.before.before.before.before.before c) f.1;
     }
 
 gone : (c : tie.Joined-at-eq0) →
@@ -208,7 +208,7 @@ returns c =
     let f = c.before.before.before.claim in
     let r = c.before.before.before.before.before.before.before.before.before.slot_of-slot.ensures in
     let only = ids-on c.before.before.before.before.before.before.before.before.before.before.before.before.args.rows.now c.before.before.before.before.before.before.before.if-at-eq0.rows (gone c.before.before.before.before.before.before.before).only f.ensures.0.1 in (
-      (record { few = c.before.before.before.before.before.before.before.before.before.before.before.before.requires.0.few; rows = omega (arith, c.before.before.before.before.before.before.before.before.before.before.before.before.requires.0.rows, only.size); has = f.ensures.0.0; enough = c.before.before.before.before.before.before.before.before.before.before.before.before.requires.0.enough }, subst (λ (k : ℕ). IdsOnly c.before.before.before.before.before.before.before.before.before.before.before.before.args.m k c.before.before.before.before.before.before.before.before.before.before.before.before.args.rows.now f.new.0) r.0 only),
+      (record { few = c.before.before.before.before.before.before.before.before.before.before.before.before.requires.0.few; rows = omega (arith, c.before.before.before.before.before.before.before.before.before.before.before.before.requires.0.rows, only.size); has = f.ensures.0.0; enough = c.before.before.before.before.before.before.before.before.before.before.before.before.requires.0.enough }, subst (λ (k : ℕ). IdsOnly c.before.before.before.before.before.before.before.before.before.before.before.before.args.m k c.before.before.before.before.before.before.before.before.before.before.before.before.args.rows.now f.new.rows) r.0 only),
       λ es vs h. claimed-stands h r.0 _ _ c.before.before.before.before.before.before.before.before.before.before.before.before.requires.0.has.deep ((gone c.before.before.before.before.before.before.before).seen h) f.ensures.1 only,
     )
 
