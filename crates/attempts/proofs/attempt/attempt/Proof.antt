@@ -26,7 +26,7 @@ abbrev start : tie.After-load_tables-x → tie.Start
 start l = l.before.before.before.before.before.before.before.before.before.before
 
 abbrev loading : tie.In_default → tie.After-load_tables-x
-loading t = t.before.before
+loading t = t.before
 
 -- what the call is given and lent
 abbrev call : tie.Start → Input
@@ -39,7 +39,7 @@ buffers s = let a = s.args in lent a.word.now a.bits.now a.numbers.now a.bytes.n
 has : (t : tie.In_default) → Has (start (loading t)).args.book.now (loading t).load_tables-x.result
 has t =
     let l = loading t in
-    shape_has (start l).args.book.now l.load_tables-x.result l.load_tables-x.ensures.0 t.enum_told-1.given.1
+    shape_has (start l).args.book.now l.load_tables-x.result l.load_tables-x.ensures.0 t.in_default.is
 
 load-tables-requires : tie.Need-load_tables-x-requires
 load-tables-requires c κs = search rules
@@ -53,10 +53,9 @@ refused-requires c κs = search rules
 returns : tie.Need-returns-in-Refused
 unfolding refused_call
 returns c =
-    let s = start c.before.before.before.before in
+    let s = start c.before.before in
     let a = s.args in
-    let r = c.before.before.outcome-1.given in
-    let e = call-refused reader_run a.k (call s) (buffers s) r.0.0 (shape-refused a.book.now c.before.before.before.before.load_tables-x.result r.0.0 c.before.before.before.before.load_tables-x.ensures.0 r.1) in
+    let e = call-refused reader_run a.k (call s) (buffers s) c.in-Refused.r (shape-refused a.book.now c.before.before.load_tables-x.result c.in-Refused.r c.before.before.load_tables-x.ensures.0 c.in-Refused.is) in
     (c.refused.ensures ∙ sym (ap (λ (w : Called HookDecoded). w.answer) e), sym (ap (λ (w : Called HookDecoded). w.lent) e))
 
 enum_told : tie.Need-enum_told-1
@@ -83,22 +82,22 @@ slice-aggregate-decide-2 : tie.Need-slice_bounds-decide-end-in-Good
 slice-aggregate-decide-2 c = search rules
 
 -- where the call is admitted: nothing bars it, and the settings are those asked
-abbrev tested : tie.In-Good-2 → tie.After-admit-admitted
-tested e = e.before.before
+abbrev tested : tie.In-Good → tie.After-admit-admitted
+tested e = e.before
 
-good : (e : tie.In-Good-2) → let m = tested e in
+good : (e : tie.In-Good) → let m = tested e in
     let s = start (loading m.before) in
     let a = s.args in
-    (first_failed (tests_before a.k (loading m.before).load_tables-x.result a.asked (lengths_of (call s) (buffers s)) a.values.now) ≡ none) × (e.admitted-in-Good-1.given.0.0 ≡ a.asked)
+    (first_failed (tests_before a.k (loading m.before).load_tables-x.result a.asked (lengths_of (call s) (buffers s)) a.values.now) ≡ none) × (e.in-Good.s ≡ a.asked)
 good e =
     let m = tested e in
     let a = (start (loading m.before)).args in
-    admitted-good _ a.asked e.admitted-in-Good-1.given.0.0 (sym m.admit-admitted.ensures ∙ e.admitted-in-Good-1.given.1)
+    admitted-good _ a.asked e.in-Good.s (sym m.admit-admitted.ensures ∙ e.in-Good.is)
 
-free : (e : tie.In-Good-2) → let m = tested e in
+free : (e : tie.In-Good) → let m = tested e in
     let s = start (loading m.before) in
     let a = s.args in
-    Free a.k (loading m.before).load_tables-x.result e.admitted-in-Good-1.given.0.0 (lengths_of (call s) (buffers s)) a.values.now
+    Free a.k (loading m.before).load_tables-x.result e.in-Good.s (lengths_of (call s) (buffers s)) a.values.now
 free e =
     let m = tested e in
     let s = start (loading m.before) in
@@ -108,47 +107,46 @@ free e =
     (nothing-bars a.k x a.asked (lengths_of (call s) (buffers s)) a.values.now (good e).0)
 
 -- so the run has what it needs
-abbrev readied : (e : tie.In-Good-2) → let l = loading (tested e).before in
-    let y = l.load_tables-x.last.1 in
-    Ready l.load_tables-x.result (start l).args.values.now y.0 y.1.0 y.1.1.0 y.1.1.1.0 y.1.1.1.1.0
+abbrev readied : (e : tie.In-Good) → let l = loading (tested e).before in
+    let y = l.load_tables-x.new in
+    Ready l.load_tables-x.result (start l).args.values.now y.kinds y.terms y.heights y.starts y.biases
 readied e =
     let t = (tested e).before in
     let l = loading t in
-    let y = l.load_tables-x.last.1 in
+    let y = l.load_tables-x.new in
     let a = (start l).args in
     ready a.book.now a.values.now l.load_tables-x.result (has t) _
-    (tables y.0 y.1.0 y.1.1.0 y.1.1.1.0 y.1.1.1.1.0) l.load_tables-x.ensures.1 (free e).sized.values (free e).valued
+    (tables y.kinds y.terms y.heights y.starts y.biases) l.load_tables-x.ensures.1 (free e).sized.values (free e).valued
 
 -- the tables as the loader leaves them
-long : (t : tie.In_default) → let y = (loading t).load_tables-x.new.1.1.1 in (length y.0 ≡ 512) × (length y.1.0 ≡ 512) × (length y.1.1.0 ≡ 512)
+long : (t : tie.In_default) → let y = (loading t).load_tables-x.new in (length y.heights ≡ 512) × (length y.starts ≡ 512) × (length y.biases ≡ 512)
 long t =
     let l = loading t in
-    let y = l.load_tables-x.last.1 in
+    let y = l.load_tables-x.new in
     load-long (start l).args.book.now (has t).is (has t).loads _
-    (tables y.0 y.1.0 y.1.1.0 y.1.1.1.0 y.1.1.1.1.0) l.load_tables-x.ensures.1 (omega arith)
+    (tables y.kinds y.terms y.heights y.starts y.biases) l.load_tables-x.ensures.1 (omega arith)
     (length-replicate {A = ℕ} 512 0) (length-replicate {A = ℕ} 512 0) (length-replicate {A = ℤ} 512 (pos 0))
 
 decide-requires : tie.Need-decide-requires
 decide-requires c κs =
-    let t = (tested c.before.before.before.before.before.before.before.before.before.before.before.before.before.before.before).before in
-    let f = free c.before.before.before.before.before.before.before.before.before.before.before.before.before.before.before in
+    let t = (tested c.before.before.before.before.before.before.before.before.before.before.before.before.before.before).before in
+    let f = free c.before.before.before.before.before.before.before.before.before.before.before.before.before.before in
     let z = f.sized in (
       (f.ranged, f.held, z.word, z.bits),
       (
         ((long t).0, (long t).1, (long t).2, length-replicate {A = ℕ} 512 0, length-replicate {A = ℕ} 512 0),
-        ((z.numbers, z.bytes), ((z.paths, z.blocks, z.scores), readied c.before.before.before.before.before.before.before.before.before.before.before.before.before.before.before)),
+        ((z.numbers, z.bytes), ((z.paths, z.blocks, z.scores), readied c.before.before.before.before.before.before.before.before.before.before.before.before.before.before)),
       ),
     )
 
 returns-2 : tie.Need-returns-in-Bad
 unfolding refused_call
 returns-2 c =
-    let s = start (loading c.before.before.before.before.before) in
+    let s = start (loading c.before.before.before) in
     let a = s.args in
-    let r = c.before.before.admitted-1.given in
-    let h = has c.before.before.before.before.before in
-    let b = sym (barred-is a.k (call s) (buffers s) (loading c.before.before.before.before.before).load_tables-x.result h) ∙ admitted-bad _ a.asked r.0.0 (sym c.before.before.before.before.admit-admitted.ensures ∙ r.1) in
-    let e = call-barred reader_run a.k (call s) (buffers s) h.is r.0.0 h.loads b in
+    let h = has c.before.before.before in
+    let b = sym (barred-is a.k (call s) (buffers s) (loading c.before.before.before).load_tables-x.result h) ∙ admitted-bad _ a.asked c.in-Bad.r (sym c.admit-admitted.ensures ∙ c.in-Bad.is) in
+    let e = call-barred reader_run a.k (call s) (buffers s) h.is c.in-Bad.r h.loads b in
     (c.refused-in-Bad.ensures ∙ sym (ap (λ (w : Called HookDecoded). w.answer) e), sym (ap (λ (w : Called HookDecoded). w.lent) e))
 
 same_length : tie.Need-shape_of-word
@@ -174,16 +172,16 @@ same-length-7 c = search rules
 
 returns-3 : tie.Need-returns-in-Good
 returns-3 c =
-    let m = tested c.before.before.before.before.before.before.before.before.before.before.before.before.before.before.before.before.before.before.before.before.before.before.before.before.before.before.before.before in
+    let m = tested c.before.before.before.before.before.before.before.before.before.before.before.before.before.before.before.before.before.before.before.before.before.before.before.before.before.before.before in
     let l = loading m.before in
     let s = start l in
     let a = s.args in
     let h = has m.before in
-    let b = sym (barred-is a.k (call s) (buffers s) l.load_tables-x.result h) ∙ (good c.before.before.before.before.before.before.before.before.before.before.before.before.before.before.before.before.before.before.before.before.before.before.before.before.before.before.before.before).0 in
+    let b = sym (barred-is a.k (call s) (buffers s) l.load_tables-x.result h) ∙ (good c.before.before.before.before.before.before.before.before.before.before.before.before.before.before.before.before.before.before.before.before.before.before.before.before.before.before.before).0 in
     let w =
-    ap₂ (λ (x : Shape) (z : Settings). ran_call a.k.reads x z (buffers s) (reader_run h.is z a.values.now (buffers s))) h.shape (good c.before.before.before.before.before.before.before.before.before.before.before.before.before.before.before.before.before.before.before.before.before.before.before.before.before.before.before.before).1
+    ap₂ (λ (x : Shape) (z : Settings). ran_call a.k.reads x z (buffers s) (reader_run h.is z a.values.now (buffers s))) h.shape (good c.before.before.before.before.before.before.before.before.before.before.before.before.before.before.before.before.before.before.before.before.before.before.before.before.before.before.before).1
     ∙ sym (call-ran reader_run a.k (call s) (buffers s) h.is h.loads b) in
-    let o = c.before.before.before.before.before.before.before.before.before.before.before.before.decide.ensures (readied c.before.before.before.before.before.before.before.before.before.before.before.before.before.before.before.before.before.before.before.before.before.before.before.before.before.before.before.before) in
+    let o = c.before.before.before.before.before.before.before.before.before.before.before.before.decide.ensures (readied c.before.before.before.before.before.before.before.before.before.before.before.before.before.before.before.before.before.before.before.before.before.before.before.before.before.before.before) in
     (o.0 ∙ ap (λ (x : Called HookDecoded). x.answer) w, o.1 ∙ ap (λ (x : Called HookDecoded). x.lent) w)
 
 pub attempt_spec : {M : Type 1} → statement M

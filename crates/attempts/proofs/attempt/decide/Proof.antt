@@ -119,8 +119,8 @@ run-cleared-requires c κs =
 cleared : (c : tie.After-run_cleared-counts) → let a = (start c.before).args in
     let size = numbers_needed a.x a.s in
     let room = bytes_needed a.x a.s in
-    let l = c.run_cleared-counts.new.1.1.1.1.1.1.1.1 in
-    (l.0 ++ drop size a.numbers.now ≡ replicate size (pos 0) ++ drop size a.numbers.now) × (l.1.0 ++ drop room a.bytes.now ≡ replicate room 0 ++ drop room a.bytes.now)
+    let l = c.run_cleared-counts.new in
+    (l.numbers ++ drop size a.numbers.now ≡ replicate size (pos 0) ++ drop size a.numbers.now) × (l.bytes ++ drop room a.bytes.now ≡ replicate room 0 ++ drop room a.bytes.now)
 unfolding numbers_needed bytes_needed
 cleared c =
     let s = start c.before in
@@ -148,11 +148,11 @@ final-exact : (s : tie.Start) (r : Input s) → Exact r.book s.args.values.now (
 final-exact s r = exact r s.args.s.visits s.args.s.paths s.requires.0.0.visited (arrays s) (root s r)
 
 -- the word that the run left is its final word, for each input
-word-is : (c : tie.After-run_cleared-counts) (r : Input (start c.before)) → c.run_cleared-counts.new.1.1.1.1.1.1.1.1.1.1.1.1.1.0 ≡ (final_in (run (start c.before) r).end).word
+word-is : (c : tie.After-run_cleared-counts) (r : Input (start c.before)) → c.run_cleared-counts.new.found ≡ (final_in (run (start c.before) r).end).word
 unfolding arrays_lent numbers_needed bytes_needed
 word-is c r = (c.run_cleared-counts.ensures.1 (ready-running r)).1
 
-word_size : (c : tie.After-run_cleared-counts) → length c.run_cleared-counts.new.1.1.1.1.1.1.1.1.1.1.1.1.1.0 ≡ (start c.before).args.x.n
+word_size : (c : tie.After-run_cleared-counts) → length c.run_cleared-counts.new.found ≡ (start c.before).args.x.n
 word_size c =
     let s = start c.before in
     let r = input s in
@@ -160,19 +160,19 @@ word_size c =
 
 -- the word's buffer after the run: the word, and what was behind it
 abbrev left : tie.After-run_cleared-counts → List ℕ
-left c = let a = (start c.before).args in c.run_cleared-counts.new.1.1.1.1.1.1.1.1.1.1.1.1.1.0 ++ drop a.x.n a.found.now
+left c = let a = (start c.before).args in c.run_cleared-counts.new.found ++ drop a.x.n a.found.now
 
 left-room : (c : tie.After-run_cleared-counts) → (start c.before).args.x.n ≤ length (left c)
 left-room c =
     let a = (start c.before).args in
-    let w = c.run_cleared-counts.new.1.1.1.1.1.1.1.1.1.1.1.1.1.0 in
+    let w = c.run_cleared-counts.new.found in
     omega (arith, word_size c, length-append w (drop a.x.n a.found.now))
 
 -- its first n bytes are that word
 left_word : (c : tie.After-run_cleared-counts) (r : Input (start c.before)) → take (start c.before).args.x.n (left c) ≡ (final_in (run (start c.before) r).end).word
 left_word c r =
     let a = (start c.before).args in
-    take_at c.run_cleared-counts.new.1.1.1.1.1.1.1.1.1.1.1.1.1.0 (drop a.x.n a.found.now) a.x.n (word_size c) ∙ word-is c r
+    take_at c.run_cleared-counts.new.found (drop a.x.n a.found.now) a.x.n (word_size c) ∙ word-is c r
 
 slice-reshare-prefix-data-of : tie.Need-slice_bounds-data_of-end
 slice-reshare-prefix-data-of c = left-room (made c)
@@ -225,7 +225,7 @@ abbrev read : tie.After-data_of → tie.After-run_cleared-counts
 read d = made d.before.before.before
 
 -- they are those of the final word, for each input
-data_is : (d : tie.After-data_of) (r : Input (start (read d).before)) → d.data_of.new.1.1.1.1.0 ≡ (final_in (run (start (read d).before) r).end).bits
+data_is : (d : tie.After-data_of) (r : Input (start (read d).before)) → d.data_of.new.bits ≡ (final_in (run (start (read d).before) r).end).bits
 unfolding read_data
 data_is d r =
     let x = read d in
@@ -235,7 +235,7 @@ data_is d r =
     ∙ ap₂ (λ m w. free_bits r.book.kinds (transform m w)) (ready-deep r) (left_word x r)
     ∙ sym (final-exact s r).databits
 
-data-size : (d : tie.After-data_of) → length d.data_of.new.1.1.1.1.0 ≡ (start (read d).before).args.x.k
+data-size : (d : tie.After-data_of) → length d.data_of.new.bits ≡ (start (read d).before).args.x.k
 data-size d =
     let s = start (read d).before in
     let r = input s in
@@ -243,18 +243,18 @@ data-size d =
 
 -- the data's buffer then
 abbrev info : tie.After-data_of → List ℕ
-info d = let a = (start (read d).before).args in d.data_of.new.1.1.1.1.0 ++ drop a.x.k a.info.now
+info d = let a = (start (read d).before).args in d.data_of.new.bits ++ drop a.x.k a.info.now
 
 info-room : (d : tie.After-data_of) → (start (read d).before).args.x.k ≤ length (info d)
 info-room d =
     let a = (start (read d).before).args in
-    let bits = d.data_of.new.1.1.1.1.0 in
+    let bits = d.data_of.new.bits in
     omega (arith, data-size d, length-append bits (drop a.x.k a.info.now))
 
-info-data : (d : tie.After-data_of) → take (start (read d).before).args.x.k (info d) ≡ d.data_of.new.1.1.1.1.0
+info-data : (d : tie.After-data_of) → take (start (read d).before).args.x.k (info d) ≡ d.data_of.new.bits
 info-data d =
     let a = (start (read d).before).args in
-    take_at d.data_of.new.1.1.1.1.0 (drop a.x.k a.info.now) a.x.k (data-size d)
+    take_at d.data_of.new.bits (drop a.x.k a.info.now) a.x.k (data-size d)
 
 slice-reshare-prefix-judge : tie.Need-slice_bounds-judge-end
 slice-reshare-prefix-judge c = info-room c.before.before.before
@@ -310,8 +310,8 @@ returns c =
     let s = start x.before in
     let a = s.args in
     let l = buffers s in
-    let w = x.run_cleared-counts.last.1.1.1.1.1.1.1.1 in
-    let after = lent c.before.before.before.before.before.give.new.1.1.1.0 c.before.before.before.before.before.give.new.1.1.1.1.0 (w.0 ++ drop (numbers_needed a.x a.s) a.numbers.now) (w.1.0 ++ drop (bytes_needed a.x a.s) a.bytes.now) w.1.1.0 w.1.1.1.0 w.1.1.1.1.0 in
+    let w = x.run_cleared-counts.new in
+    let after = lent c.before.before.before.before.before.give.new.word c.before.before.before.before.before.give.new.bits (w.numbers ++ drop (numbers_needed a.x a.s) a.numbers.now) (w.bytes ++ drop (bytes_needed a.x a.s) a.bytes.now) w.walk_path w.walk_blocks w.walk_score in
     λ r.
     let y = run s r in
     let o = x.run_cleared-counts.ensures.1 (ready-running r) in

@@ -23,7 +23,7 @@ made p = p.before.before.before.before.before.before.before.before
 -- the run that there is
 ran : (r : tie.After-run-r) → let a = (start r).args in let p = (start r).requires.1.1.1.1 in
     RanIs a.x.m a.s.paths (R.run_of p.book a.s.visits a.s.paths (arrays_of a.x.m (received a.x.m a.values.now a.numbers.now) a.bytes.now))
-    r.run-r.result r.run-r.new.1.1.1.1.1.1.1.1.1.0
+    r.run-r.result r.run-r.new.bytes
 ran r = (r.run-r.ensures (start r).requires.1.1.1.1).0
 
 cast-m : tie.Need-overflow_cast-m
@@ -75,11 +75,11 @@ returns c =
     let r = made c.before.before.before.before.before.before.before.before.before.before.before in
     let a = (start r).args in
     let p = (start r).requires in
-    let l = r.run-r.last.1.1.1.1.1.1.1.1 in
-    let word = c.before.before.before.before.before.before.before.before.before.before.hand_out.ensures ∙ ap₂ (λ i c.before.before.before.before.before.before. part i c.before.before.before.before.before.before l.1.0) c.before.before.before.before.before.before.before.before.before.before.before.spot_of.ensures p.1.0.3 in (
+    let l = r.run-r.new in
+    let word = c.before.before.before.before.before.before.before.before.before.before.hand_out.ensures ∙ ap₂ (λ i n. part i n l.bytes) c.before.before.before.before.before.before.before.before.before.before.before.spot_of.ensures p.1.0.3 in (
       (
-        c.before.before.before.before.before.before.clear_numbers.ensures ∙ all-cleared (pos 0) l.0 (length l.0) refl (length a.numbers.now) (omega (arith, c.before.before.before.before.before.before.before.before.before.before.before.before.before.before.before.before.before.before.numbers-1.given)),
-        c.before.before.before.clear_bytes.ensures ∙ all-cleared 0 l.1.0 (length l.1.0) refl (length a.bytes.now) (omega (arith, c.before.before.before.before.before.before.before.before.before.before.before.before.before.before.before.before.before.bytes-1.given)),
+        c.before.before.before.before.before.before.clear_numbers.ensures ∙ all-cleared (pos 0) l.numbers (length l.numbers) refl (length a.numbers.now) (omega (arith, c.before.before.before.before.before.before.before.before.before.before.before.before.before.before.before.before.before.before.numbers-1.given)),
+        c.before.before.before.clear_bytes.ensures ∙ all-cleared 0 l.bytes (length l.bytes) refl (length a.bytes.now) (omega (arith, c.before.before.before.before.before.before.before.before.before.before.before.before.before.before.before.before.before.bytes-1.given)),
       ),
       λ x. let o = r.run-r.ensures x in (ran-counts o.0, word ∙ ran-word o.0, o.1, o.2, o.3),
     )

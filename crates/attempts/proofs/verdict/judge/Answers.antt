@@ -14,16 +14,16 @@ returns-then-s-discrepancy c =
 pub record_of-requires : goal.record_of-requires
 unfolding RecordIn
 record_of-requires c =
-    subst (λ (r : Reads). RecordIn r c.args.info.now) c.enum_told-in-Record-1.given.1 c.requires
+    subst (λ (r : Reads). RecordIn r c.args.info.now) c.in-Record.is c.requires
 
 pub returns-in-Data : goal.returns-in-Data
 returns-in-Data c =
     let a = c.args in
     let f = judged_final a.discrepancy a.info.now in
-    judged-data a.s f c.if-s-discrepancy.false ∙ sym (ap (λ (r : Reads). judged_as r a.s f) c.enum_told-1.given.1)
+    judged-data a.s f c.if-s-discrepancy.false ∙ sym (ap (λ (r : Reads). judged_as r a.s f) c.in-Data.is)
 
 pub returns-in-Record : goal.returns-in-Record
 returns-in-Record c =
     let a = c.args in
     let f = judged_final a.discrepancy a.info.now in
-    c.record_of.ensures ∙ judged-record a.s f c.if-s-discrepancy.false ∙ sym (ap (λ (r : Reads). judged_as r a.s f) c.enum_told-in-Record-1.given.1)
+    c.record_of.ensures ∙ judged-record a.s f c.if-s-discrepancy.false ∙ sym (ap (λ (r : Reads). judged_as r a.s f) c.in-Record.is)

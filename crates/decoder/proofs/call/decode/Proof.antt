@@ -40,8 +40,8 @@ same-length-7 c = search rules
 
 returns : tie.Need-returns
 returns c =
-    let l = c.before.before.before.before.before.before.before.before.before.before.before.decode_in-x.new.1.1.1.1 in
-    let after = lent l.0 l.1.0 l.1.1.0 l.1.1.1.0 l.1.1.1.1.0 l.1.1.1.1.1.0 l.1.1.1.1.1.1.0 in
+    let l = c.before.before.before.before.before.before.before.before.before.before.before.decode_in-x.new in
+    let after = lent l.word l.bits l.numbers l.bytes l.walk_path l.walk_blocks l.walk_score in
     without-record plain (call c.before.before.before.before.before.before.before.before.before.before.before.before.before.before.before.before.before.before.before.before.before.before.before) (buffers c.before.before.before.before.before.before.before.before.before.before.before.before.before.before.before.before.before.before.before.before.before.before.before) c.before.before.before.before.before.before.before.before.before.before.before.decode_in-x.result after refl c.before.before.before.before.before.before.before.before.before.before.before.decode_in-x.ensures
 
 pub decode_spec : {M : Type 1} → statement M

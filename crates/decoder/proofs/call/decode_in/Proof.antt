@@ -39,8 +39,8 @@ same-length-7 c = search rules
 
 returns : tie.Need-returns
 returns c =
-    let l = c.before.before.before.before.before.before.before.before.before.before.attempt.new.1.1.1.1 in
-    let after = lent l.0 l.1.0 l.1.1.0 l.1.1.1.0 l.1.1.1.1.0 l.1.1.1.1.1.0 l.1.1.1.1.1.1.0 in
+    let l = c.before.before.before.before.before.before.before.before.before.before.attempt.new in
+    let after = lent l.word l.bits l.numbers l.bytes l.walk_path l.walk_blocks l.walk_score in
     decodes c.before.before.before.before.before.before.before.before.before.before.before.before.before.before.before.before.before.before.before.before.before.before.args.k (call c.before.before.before.before.before.before.before.before.before.before.before.before.before.before.before.before.before.before.before.before.before.before) (buffers c.before.before.before.before.before.before.before.before.before.before.before.before.before.before.before.before.before.before.before.before.before.before) c.before.before.before.before.before.before.before.before.before.before.attempt.result after c.before.before.before.before.before.before.before.before.before.before.attempt.ensures.0 c.before.before.before.before.before.before.before.before.before.before.attempt.ensures.1
 
 pub decode_in_spec : {M : Type 1} → statement M
