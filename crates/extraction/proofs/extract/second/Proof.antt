@@ -56,7 +56,7 @@ returns-2 c =
         (
           λ o.
               let k =
-              second-done o two (some-blocks c.before.before.before.before.before.before.before.before.before.before.before.before.before.before.before).1 a.t.crowded c.before.before.before.before.before.copy.new.1.1.1.1.1.1.1.1.1.1.1.1.1.1.1.0
+              second-done o two (some-blocks c.before.before.before.before.before.before.before.before.before.before.before.before.before.before.before).1 a.t.crowded c.before.before.before.before.before.copy.new.kept
               (f.1.1.0 _ (second-copying o two (some-blocks c.before.before.before.before.before.before.before.before.before.before.before.before.before.before.before).1) (some-blocks c.before.before.before.before.before.before.before.before.before.before.before.before.before.before.before).0) in
               (k, second-crowds o k.3),
           f.1.1.1,
