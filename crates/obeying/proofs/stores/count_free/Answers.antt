@@ -34,8 +34,8 @@ loop-i-preserved c =
     let l = c.loop-i in
     let v = get_or a.kinds.now (a.from + l.i) 0 in
     elim c.if-kinds-from-eq0.branch [
-      then-kinds-from-eq0 w ↦ (omega arith, omega arith, λ e. omega (arith, l.invariant.2 e, free_more a.kinds.now a.from l.i (omega arith), free-zero v w.if-kinds-from-eq0.true))
-    | else-kinds-from-eq0 w ↦ (omega arith, omega arith, λ e. omega (arith, l.invariant.2 e, free_more a.kinds.now a.from l.i (omega arith), free_other v w.if-kinds-from-eq0.false))
+      | then-kinds-from-eq0 w ↦ (omega arith, omega arith, λ e. omega (arith, l.invariant.2 e, free_more a.kinds.now a.from l.i (omega arith), free-zero v w.if-kinds-from-eq0.true))
+      | else-kinds-from-eq0 w ↦ (omega arith, omega arith, λ e. omega (arith, l.invariant.2 e, free_more a.kinds.now a.from l.i (omega arith), free_other v w.if-kinds-from-eq0.false))
     ]
 
 pub returns : goal.returns

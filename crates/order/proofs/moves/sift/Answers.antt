@@ -42,8 +42,8 @@ loop-i-preserved c =
     let e = c.blocks_of.ensures in (
       omega arith,
       elim c.if-blocks_of-b.branch [
-        then-blocks_of-b w ↦ rw (w.order-is, w.kept-is) (sifted-in x.invariant.1 (omega arith) (omega arith))
-      | else-blocks_of-b w ↦ rw (w.order-is, w.kept-is) (sifted-out x.invariant.1 (omega arith))
+        | then-blocks_of-b w ↦ rw (w.order-is, w.kept-is) (sifted-in x.invariant.1 (omega arith) (omega arith))
+        | else-blocks_of-b w ↦ rw (w.order-is, w.kept-is) (sifted-out x.invariant.1 (omega arith))
       ],
     )
 
