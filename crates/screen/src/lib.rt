@@ -1,6 +1,5 @@
-// The screen's calls: the decoding calls with the walk also as a lent slice of step records. A slice of structs is proved by hand, so the functions that have
-// one are few and thin (those of the crate steprecords, and call.rt); all else is covered (within.rt, and step.rt, which has plain parameters and serves
-// other callers).
+// The screen's calls: the decoding calls with the walk also as a lent slice of step records (call.rt), what they do before the records are copied (within.rt),
+// and the plain call with one record (step.rt).
 
 #![tactic(auto)]
 

@@ -1,5 +1,5 @@
-// Step records: number buffers copied into a slice of them, and one entry of the buffers as a record. A slice of structs is proved by hand, so the functions
-// that have one are few (copy_steps, and first_record, whose signature is plain). Relies on no other file; specs/Records.antt says what is copied.
+// Step records: number buffers copied into a slice of them, and one entry of the buffers as a record. Relies on no other file; specs/Records.antt says what is
+// copied.
 
 #![tactic(auto)]
 
