@@ -12,6 +12,7 @@ use Rattle.codec.specs.Tabled.{Tabled, absorbed}
 use Rattle.codec.proofs.Turns.{PartFilled, fill_start, fill_end, fill-free-room, fill-free, fill-forced, code_lt}
 use Rattle.filling.proofs.fill.Statement.{statement}
 use Rattle.filling.proofs.fill.Tie as tie
+use Rattle.filling.proofs.fill.Lts.{then-code-eq0, else-code-eq0}
 
 abbrev invariant-loop : tie.invariant-loop-i
 invariant-loop kinds terms bits word₀ parities₀ next₀ i₀ word parities next i =
@@ -77,10 +78,7 @@ loop-again c =
           let h : x.i < length ks = omega (arith, x.invariant.1) in
           rw (add-one x.i, take-suc-set x.word x.i c.before.before.before.if-code-eq0.b (omega arith), c.absorbed-parities.ensures)
           (rw (add-one x.i) at
-          (⊎_elim {C = PartFilled ks c.before.before.before.before.before.before.before.before.before.before.args.bits.now (take x.i x.word ++ c.before.before.before.if-code-eq0.b ∷ []) (x.i + 1) c.before.before.before.if-code-eq0.next (absorbed x.parities c.before.before.before.if-code-eq0.b (get_or c.before.before.before.before.before.before.before.before.before.before.args.terms.now x.i 0))}
-          (λ v. rw (v.3, v.2) (fill-free T F h v.0.taken c.before.before.before.before.before.before.before.before.before.before.requires.1))
-          (λ v. rw (v.3, v.1.ensures, v.2) (fill-forced T F h v.0.left))
-          c.before.before.before.if-code-eq0.branch)),
+          (elim c.if-code-eq0.branch [ then-code-eq0 v ↦ ? | else-code-eq0 v ↦ ? ])),
     )
 
 same_length : tie.Need-shape_of-word invariant-loop decreases-loop

@@ -10,6 +10,7 @@ use Rattle.codec.specs.Tabled.{Tabled}
 use Rattle.codec.proofs.Turns.{Obeying, obey-start, obey-end, obey-free, obey-right, obey-wrong, code_lt}
 use Rattle.filling.proofs.obeys_all.Statement.{statement}
 use Rattle.filling.proofs.obeys_all.Tie as tie
+use Rattle.filling.proofs.obeys_all.Lts.{then-code-ne0, else-code-ne0}
 
 abbrev invariant-loop : tie.invariant-loop-i
 invariant-loop kinds terms u parities₀ i₀ parities i =
@@ -65,10 +66,7 @@ loop-again c =
           let O = x.invariant.1 ks T w in
           let h : x.i < length ks = omega arith in
           rw c.absorbed-parities.ensures
-          (⊎_elim
-          (λ v. obey-right T O h w v.0.taken (v.2.left ∙ v.1.ensures) c.before.before.before.before.before.before.before.before.before.before.requires.1)
-          (λ v. obey-free T O h w v.left c.before.before.before.before.before.before.before.before.before.before.requires.1)
-          c.before.before.before.if-code-ne0.branch),
+          (elim c.if-code-ne0.branch [ then-code-ne0 v ↦ ? | else-code-ne0 v ↦ ? ]),
     )
 
 returns-2 : tie.Need-returns invariant-loop decreases-loop
