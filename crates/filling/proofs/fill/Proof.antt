@@ -1,7 +1,6 @@
 -- `filling::fill` meets its contract. The loop's invariant: the bits before index i are filled. Assumes nothing.
 use mathlib.Core.Path.{◌≡◌, refl, sym, ◌∙◌}
 use mathlib.Core.List.{List, [], ◌∷◌, ◌++◌}
-use mathlib.Core.Logic.{⊎_elim}
 use Prim.Native.Nat.{◌+◌, ◌-◌, ◌≤◌, ◌<◌}
 use native.Mathlib.Numerals.{add-one}
 use native.Mathlib.Omega.{arith}
@@ -76,9 +75,14 @@ loop-again c =
       λ ks T w f.
           let F = x.invariant.2 ks T w f in
           let h : x.i < length ks = omega (arith, x.invariant.1) in
-          rw (add-one x.i, take-suc-set x.word x.i c.before.before.before.if-code-eq0.b (omega arith), c.absorbed-parities.ensures)
-          (rw (add-one x.i) at
-          (elim c.if-code-eq0.branch [ then-code-eq0 v ↦ ? | else-code-eq0 v ↦ ? ])),
+          let s = c.before.before.before.before.before.before.before.before.before.before in
+          let j = c.before.before.before.if-code-eq0 in
+          let filled : PartFilled ks s.args.bits.now (take x.i x.word ++ j.b ∷ []) (x.i + 1) j.next (absorbed x.parities j.b (get_or s.args.terms.now x.i 0)) =
+              elim j.branch [
+                then-code-eq0 v ↦ rw (v.next-is, v.b-is) (fill-free T F h v.if-code-eq0.true s.requires.1)
+              | else-code-eq0 v ↦ rw (v.next-is, v.b-is, v.forced-b.ensures) (fill-forced T F h v.if-code-eq0.false)
+              ] in
+          rw (add-one x.i, take-suc-set x.word x.i j.b (omega arith), c.absorbed-parities.ensures) (rw (add-one x.i) at filled),
     )
 
 same_length : tie.Need-shape_of-word invariant-loop decreases-loop
