@@ -1,7 +1,6 @@
 -- `filling::fill` meets its contract. The loop's invariant: the bits before index i are filled. Assumes nothing.
 use mathlib.Core.Path.{◌≡◌, refl, sym, ◌∙◌}
 use mathlib.Core.List.{List, [], ◌∷◌, ◌++◌}
-use mathlib.Core.Logic.{⊎_elim}
 use Prim.Native.Nat.{◌+◌, ◌-◌, ◌≤◌, ◌<◌}
 use native.Mathlib.Numerals.{add-one}
 use native.Mathlib.Omega.{arith}
@@ -12,6 +11,7 @@ use Rattle.codec.specs.Tabled.{Tabled, absorbed}
 use Rattle.codec.proofs.Turns.{PartFilled, fill_start, fill_end, fill-free-room, fill-free, fill-forced, code_lt}
 use Rattle.filling.proofs.fill.Statement.{statement}
 use Rattle.filling.proofs.fill.Tie as tie
+use Rattle.filling.proofs.fill.Lts.{then-code-eq0, else-code-eq0}
 
 abbrev invariant-loop : tie.invariant-loop-i
 invariant-loop kinds terms bits word₀ parities₀ next₀ i₀ word parities next i =
@@ -75,12 +75,14 @@ loop-again c =
       λ ks T w f.
           let F = x.invariant.2 ks T w f in
           let h : x.i < length ks = omega (arith, x.invariant.1) in
-          rw (add-one x.i, take-suc-set x.word x.i c.before.before.before.if-code-eq0.b (omega arith), c.absorbed-parities.ensures)
-          (rw (add-one x.i) at
-          (⊎_elim {C = PartFilled ks c.before.before.before.before.before.before.before.before.before.before.args.bits.now (take x.i x.word ++ c.before.before.before.if-code-eq0.b ∷ []) (x.i + 1) c.before.before.before.if-code-eq0.next (absorbed x.parities c.before.before.before.if-code-eq0.b (get_or c.before.before.before.before.before.before.before.before.before.before.args.terms.now x.i 0))}
-          (λ v. rw (v.3, v.2) (fill-free T F h v.0.taken c.before.before.before.before.before.before.before.before.before.before.requires.1))
-          (λ v. rw (v.3, v.1.ensures, v.2) (fill-forced T F h v.0.left))
-          c.before.before.before.if-code-eq0.branch)),
+          let s = c.before.before.before.before.before.before.before.before.before.before in
+          let j = c.before.before.before.if-code-eq0 in
+          let filled : PartFilled ks s.args.bits.now (take x.i x.word ++ j.b ∷ []) (x.i + 1) j.next (absorbed x.parities j.b (get_or s.args.terms.now x.i 0)) =
+              elim j.branch [
+                then-code-eq0 v ↦ rw (v.next-is, v.b-is) (fill-free T F h v.if-code-eq0.true s.requires.1)
+              | else-code-eq0 v ↦ rw (v.next-is, v.b-is, v.forced-b.ensures) (fill-forced T F h v.if-code-eq0.false)
+              ] in
+          rw (add-one x.i, take-suc-set x.word x.i j.b (omega arith), c.absorbed-parities.ensures) (rw (add-one x.i) at filled),
     )
 
 same_length : tie.Need-shape_of-word invariant-loop decreases-loop

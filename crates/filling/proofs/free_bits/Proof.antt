@@ -1,7 +1,6 @@
 -- `filling::free_bits` meets its contract. The loop's invariant: the free bits before index i are written. Assumes nothing.
 use mathlib.Core.Path.{◌≡◌, refl, ap, ◌∙◌}
 use mathlib.Core.List.{List}
-use mathlib.Core.Logic.{⊎_elim}
 use Prim.Native.Nat.{◌-◌, ◌≤◌, ◌<◌}
 use native.Mathlib.Omega.{arith}
 use lib.ListN.{length, get_or, length-set}
@@ -10,6 +9,7 @@ use Rattle.codec.specs.Tabled.{Coded}
 use Rattle.codec.proofs.Turns.{Reading, read-start, read-end, read-room, read-free, read-other}
 use Rattle.filling.proofs.free_bits.Statement.{statement}
 use Rattle.filling.proofs.free_bits.Tie as tie
+use Rattle.filling.proofs.free_bits.Lts.{then-kinds-i-eq0, else-kinds-i-eq0}
 
 abbrev invariant-loop : tie.invariant-loop-i
 invariant-loop kinds u bits₀ next₀ i₀ bits next i =
@@ -55,11 +55,17 @@ loop-again : tie.Need-loop-i-preserved invariant-loop decreases-loop
 loop-again c =
     let x = c.before.before.before.before.loop-i in (
       omega arith,
-      ⊎_elim (λ v. ap length v.2 ∙ length-set x.bits x.next _ ∙ x.invariant.1) (λ v. ap length v.1 ∙ x.invariant.1) c.if-kinds-i-eq0.branch,
+      elim c.if-kinds-i-eq0.branch [
+        then-kinds-i-eq0 v ↦ ap length v.bits-is ∙ length-set x.bits x.next _ ∙ x.invariant.1
+      | else-kinds-i-eq0 v ↦ ap length v.bits-is ∙ x.invariant.1
+      ],
       λ ks C w f.
           let R = x.invariant.2 ks C w f in
           let h : x.i < length ks = omega arith in
-          ⊎_elim (λ v. rw (v.2, v.3) (read-free C R h w v.0.taken)) (λ v. rw (v.1, v.2) (read-other C R h w v.0.left)) c.if-kinds-i-eq0.branch,
+          elim c.if-kinds-i-eq0.branch [
+            then-kinds-i-eq0 v ↦ rw (v.bits-is, v.next-is) (read-free C R h w v.if-kinds-i-eq0.true)
+          | else-kinds-i-eq0 v ↦ rw (v.bits-is, v.next-is) (read-other C R h w v.if-kinds-i-eq0.false)
+          ],
     )
 
 same_length : tie.Need-shape_of-bits invariant-loop decreases-loop

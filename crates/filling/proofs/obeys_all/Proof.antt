@@ -1,7 +1,6 @@
 -- `filling::obeys_all` meets its contract. The loop's invariant: it goes by the bits from index i on. Assumes nothing.
 use mathlib.Core.Path.{◌≡◌, sym, ◌∙◌}
 use mathlib.Core.List.{List}
-use mathlib.Core.Logic.{⊎_elim}
 use Prim.Native.Nat.{◌-◌, ◌≤◌, ◌<◌}
 use native.Mathlib.Omega.{arith}
 use lib.ListN.{length}
@@ -10,6 +9,7 @@ use Rattle.codec.specs.Tabled.{Tabled}
 use Rattle.codec.proofs.Turns.{Obeying, obey-start, obey-end, obey-free, obey-right, obey-wrong, code_lt}
 use Rattle.filling.proofs.obeys_all.Statement.{statement}
 use Rattle.filling.proofs.obeys_all.Tie as tie
+use Rattle.filling.proofs.obeys_all.Lts.{then-code-ne0+else-bit-forced, else-code-ne0}
 
 abbrev invariant-loop : tie.invariant-loop-i
 invariant-loop kinds terms u parities₀ i₀ parities i =
@@ -64,11 +64,12 @@ loop-again c =
       λ ks T w.
           let O = x.invariant.1 ks T w in
           let h : x.i < length ks = omega arith in
+          let bits = c.before.before.before.before.before.before.before.before.before.before.requires.1 in
           rw c.absorbed-parities.ensures
-          (⊎_elim
-          (λ v. obey-right T O h w v.0.taken (v.2.left ∙ v.1.ensures) c.before.before.before.before.before.before.before.before.before.before.requires.1)
-          (λ v. obey-free T O h w v.left c.before.before.before.before.before.before.before.before.before.before.requires.1)
-          c.before.before.before.if-code-ne0.branch),
+          (elim c.if-code-ne0.branch [
+            then-code-ne0+else-bit-forced v ↦ obey-right T O h w v.if-code-ne0.true (v.if-bit-forced.false ∙ v.forced.ensures) bits
+          | else-code-ne0 v ↦ obey-free T O h w v.if-code-ne0.false bits
+          ]),
     )
 
 returns-2 : tie.Need-returns invariant-loop decreases-loop
