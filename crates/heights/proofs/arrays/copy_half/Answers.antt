@@ -13,6 +13,9 @@ copy_values-requires c =
 pub returns : goal.returns
 returns c = let l = c.args.numbers.now in
     let e = c.copy_values.ensures in
-    let n = c.power-n.ensures in record { numbers_len_unchanged = search rules; by_index = λ vals p. parts-written l vals p c.requires.3 c.requires.1 c.requires.5 e c.spot_of-2.ensures
+    let n = c.power-n.ensures in record {
+      numbers_len_unchanged = search rules;
+      by_index = λ vals p. parts-written l vals p c.requires.3 c.requires.1 c.requires.5 e c.spot_of-2.ensures
           (parts-read l vals p c.requires.1 c.requires.4 c.spot_of.ensures n)
-          (parts-length l vals p c.requires.3 c.requires.1 c.requires.4) }
+          (parts-length l vals p c.requires.3 c.requires.1 c.requires.4);
+    }

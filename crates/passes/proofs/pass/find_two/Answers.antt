@@ -3,7 +3,6 @@ use Prim.Native.Nat.{ℕ, ◌^◌, ◌≤◌}
 use mathlib.Core.Path.{◌≡◌, ap, ◌∙◌}
 use native.Mathlib.Omega.{arith}
 use lib.Pow.{pow_mono}
-use borrow.Author.Rules.{rules}
 use Rattle.polar.specs.Layers.{part}
 use Rattle.polar.proofs.Writes.{part_length}
 use Rattle.outer.specs.Search.{least_from, answer, setting_key}
@@ -51,10 +50,13 @@ returns c = let a = c.args in
     let d = c.double_all-count in
     let p = c.prepare-runs in
     let t = c.pass-two in
-    let vs = part a.at a.n a.numbers.now in record { words_len = (d.ensures.0, p.ensures.0); by_index = λ e h l.
+    let vs = part a.at a.n a.numbers.now in record {
+      words_len = (d.ensures.0, p.ensures.0);
+      by_index = λ e h l.
           let q =
           answers _ _ _ _ a.free d.result p.result e vs h (λ w i. d.ensures.2 w (omega (arith, d.ensures.1))) p.ensures.1 l c.requires.5
           (omega (arith, part_length a.at a.n a.numbers.now c.requires.4)) a.bound t.result t.ensures in (
             c.candidate-first.ensures ∙ q.0 ∙ ap (λ i. answer e vs (least_from (setting_key e vs) a.bound i)) d.ensures.1,
             c.candidate-second.ensures ∙ q.1 ∙ ap (λ i. answer e vs (after_first (setting_key e vs) a.bound i)) d.ensures.1,
-          ) }
+          );
+    }
