@@ -7,7 +7,6 @@ use native.Mathlib.Omega.{arith}
 use lib.ListN.{get_or}
 use lib.Pow.{pow_pos}
 use mir.Facts.{to_z-of_z}
-use borrow.Author.Rules.{rules, sfits_of}
 use Rattle.codebook.specs.Book.{start_of, block_at}
 use Rattle.reader.specs.Arrays.{turn}
 use Rattle.reader.specs.Paths.{place}

@@ -1,9 +1,9 @@
 -- `start::fill_vacant` meets its contract. The loop's invariant: the first i numbers are 1 to i. Assumes nothing.
-use Prim.Native.Nat.{◌+◌, ◌-◌, ◌≤◌}
+use Prim.Native.Nat.{◌+◌}
 use mathlib.Core.Path.{refl, ◌∙◌}
 use native.Mathlib.Nat.{zero-add}
 use native.Mathlib.Omega.{arith}
-use Rattle.laws.proofs.Stores.{Stored, stored-none, stored_more}
+use Rattle.laws.proofs.Stores.{stored-none, stored_more}
 use Rattle.start.proofs.fill_vacant.Goals as goal
 
 pub loop-i-init : goal.loop-i-init

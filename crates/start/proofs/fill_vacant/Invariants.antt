@@ -1,9 +1,6 @@
 -- The loop invariants of fill_vacant, and what falls at each turn.
 use Prim.Native.Nat.{◌+◌, ◌-◌, ◌≤◌}
-use mathlib.Core.Path.{refl, ◌∙◌}
-use native.Mathlib.Nat.{zero-add}
-use native.Mathlib.Omega.{arith}
-use Rattle.laws.proofs.Stores.{Stored, stored-none, stored_more}
+use Rattle.laws.proofs.Stores.{Stored}
 use Rattle.start.proofs.fill_vacant.Given as goal
 
 abbrev pub invariant-loop-i : goal.invariant-loop-i

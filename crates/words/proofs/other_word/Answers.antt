@@ -6,7 +6,6 @@ use Prim.Native.Nat.{ℕ, ◌<◌}
 use native.Mathlib.Omega.{arith}
 use Rattle.words.specs.Kept.{kept_cell, kept_at, Keeps}
 use Rattle.words.proofs.Kepts.{first_cell}
-use borrow.Author.Rules.{rules}
 use Rattle.words.proofs.other_word.Goals as goal
 
 pub recall-first-requires : goal.recall-first-requires

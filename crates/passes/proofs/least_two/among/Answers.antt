@@ -3,7 +3,6 @@ use mathlib.Core.Path.{◌≡◌, ap, ◌∙◌}
 use mathlib.Core.Bool.{cond}
 use Prim.Native.Nat.{ℕ}
 use lib.Dec.{ltb}
-use borrow.Author.Rules.{rules}
 use Rattle.passes.specs.Pass.{opened}
 use Rattle.passes.proofs.LeastTwo.{key-lt, merged, two-same, merged-least}
 use Rattle.passes.proofs.least_two.among.Goals as goal

@@ -1,6 +1,5 @@
 -- `passes::least_two::key` meets its contract. Assumes nothing.
 use mathlib.Core.Path.{refl}
-use borrow.Author.Rules.{rules}
 use Rattle.outer.specs.Search.{key_of}
 use Rattle.passes.proofs.least_two.key.Goals as goal
 

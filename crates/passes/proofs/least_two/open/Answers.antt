@@ -1,5 +1,4 @@
 -- `passes::least_two::open` meets its contract, by its tests. Assumes nothing.
-use borrow.Author.Rules.{rules}
 use Rattle.passes.proofs.LeastTwo.{opened-first, opened-other}
 use Rattle.passes.proofs.least_two.open.Goals as goal
 

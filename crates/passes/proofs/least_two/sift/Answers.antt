@@ -1,7 +1,6 @@
 -- `passes::least_two::sift` meets its contract: a key whose cost is above the second's changes nothing; any other goes the way of `among`. Assumes
 -- nothing.
 use native.Mathlib.Omega.{arith}
-use borrow.Author.Rules.{rules}
 use Rattle.passes.proofs.LeastTwo.{costly}
 use Rattle.passes.proofs.least_two.sift.Goals as goal
 

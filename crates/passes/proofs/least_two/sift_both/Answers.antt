@@ -1,9 +1,7 @@
 -- `passes::least_two::sift_both` meets its contract: two keys whose costs are above the second's change nothing; any others go the way of `among`, one
 -- after the other. Assumes nothing.
 use mathlib.Core.Path.{ap, ◌∙◌}
-use Prim.Native.Nat.{◌/◌}
 use native.Mathlib.Omega.{arith}
-use borrow.Author.Rules.{rules}
 use Rattle.passes.specs.Pass.{two_least}
 use Rattle.passes.proofs.LeastTwo.{costly}
 use Rattle.passes.proofs.least_two.sift_both.Goals as goal

@@ -1,5 +1,4 @@
 -- `passes::pass::candidate` meets its contract: what the key and the directions say of the setting. Assumes nothing.
-use borrow.Author.Rules.{rules}
 use borrow.Author.Tests.{eq-eqb, ne_eqb}
 use Rattle.passes.specs.Pass.{chosen}
 use Rattle.passes.proofs.pass.candidate.Goals as goal

@@ -1,10 +1,9 @@
 -- `passes::pass::many_turned` meets its contract. The loop's invariant is `Passed`: the two least of the first w settings, where w is even.
 -- Both keys go the way of `sift_both`. Assumes nothing.
 use mathlib.Core.Path.{ap, ◌∙◌}
-use Prim.Native.Nat.{◌-◌}
 use native.Mathlib.Omega.{arith}
 use Rattle.passes.specs.Pass.{two_least}
-use Rattle.passes.proofs.Turned.{Passed, pair-keys}
+use Rattle.passes.proofs.Turned.{pair-keys}
 use Rattle.passes.proofs.pass.many_turned.Goals as goal
 
 pub none-two-requires : goal.none-two-requires

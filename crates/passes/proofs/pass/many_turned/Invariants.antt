@@ -1,9 +1,6 @@
 -- The loop invariants of pass.many_turned, and what falls at each turn.
-use mathlib.Core.Path.{ap, ◌∙◌}
 use Prim.Native.Nat.{◌-◌}
-use native.Mathlib.Omega.{arith}
-use Rattle.passes.specs.Pass.{two_least}
-use Rattle.passes.proofs.Turned.{Passed, pair-keys}
+use Rattle.passes.proofs.Turned.{Passed}
 use Rattle.passes.proofs.pass.many_turned.Given as goal
 
 abbrev pub invariant-loop-w : goal.invariant-loop-w

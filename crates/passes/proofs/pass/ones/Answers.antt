@@ -4,7 +4,6 @@ use Prim.Native.Nat.{ℕ, ◌-◌, ◌*◌, ◌%◌, ◌^◌, ◌≤◌}
 use native.Mathlib.Nat.{one-mul}
 use native.Mathlib.Omega.{arith}
 use lib.Pow.{pow_mono, pow_pos, shl_exact}
-use borrow.Author.Rules.{rules}
 use Rattle.passes.proofs.pass.ones.Goals as goal
 
 -- the power that the shift makes

@@ -1,6 +1,5 @@
 -- `passes::pass::pass` meets its contract, by what its parts ensure. Assumes nothing.
 use native.Mathlib.Omega.{arith}
-use borrow.Author.Rules.{rules}
 use Rattle.passes.proofs.pass.pass.Goals as goal
 
 pub many_turned-requires : goal.many_turned-requires

@@ -1,6 +1,5 @@
 -- `passes::pass::two_each` meets its contract. The loop's invariant: the two least of the first w settings. Assumes nothing.
 use mathlib.Core.Path.{◌≡◌, ap, ◌∙◌}
-use Prim.Native.Nat.{◌-◌, ◌≤◌}
 use native.Mathlib.Omega.{arith}
 use lib.ListN.{get_or}
 use Rattle.outer.specs.Search.{key_of}

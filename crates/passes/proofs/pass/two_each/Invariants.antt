@@ -1,9 +1,6 @@
 -- The loop invariants of pass.two_each, and what falls at each turn.
-use mathlib.Core.Path.{◌≡◌, ap, ◌∙◌}
+use mathlib.Core.Path.{◌≡◌}
 use Prim.Native.Nat.{◌-◌, ◌≤◌}
-use native.Mathlib.Omega.{arith}
-use lib.ListN.{get_or}
-use Rattle.outer.specs.Search.{key_of}
 use Rattle.passes.specs.Pass.{two_least, summed_key}
 use Rattle.passes.proofs.pass.two_each.Given as goal
 

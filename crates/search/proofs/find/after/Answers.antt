@@ -1,6 +1,5 @@
 -- `search::find::after` meets its contract: a key has room above it. Assumes nothing.
 use native.Mathlib.Omega.{arith}
-use borrow.Author.Rules.{rules}
 use Rattle.outer.specs.Search.{key_of}
 use Rattle.search.proofs.find.after.Goals as goal
 

@@ -4,7 +4,6 @@ use mathlib.Core.Bool.{true}
 use mathlib.Core.Option.{Option, some}
 use Prim.Native.Nat.{ℕ, ◌+◌, ◌^◌, ◌<◌}
 use native.Mathlib.Omega.{arith}
-use borrow.Author.Rules.{rules}
 use Rattle.polar.specs.Layers.{part}
 use Rattle.polar.proofs.Writes.{part_length}
 use Rattle.codebook.specs.Book.{Book}
@@ -23,7 +22,9 @@ some-found B w p q = ap (λ (y : Candidate). y.some) (p ∙ ap (candidate_of B) 
 pub returns : goal.returns
 returns c = let a = c.args in
     let l = part a.at (2 ^ a.j) a.numbers.now in
-    let size = part_length a.at (2 ^ a.j) a.numbers.now c.requires.searchable.within in record { scratch_2 = c.search.ensures.scratch_2; fact = λ B b x own o h e p q.
+    let size = part_length a.at (2 ^ a.j) a.numbers.now c.requires.searchable.within in record {
+      scratch_2 = c.search.ensures.scratch_2;
+      fact = λ B b x own o h e p q.
           let bound : c.after.result ≡ key_of own.cost own.number + 1 = c.after.ensures ∙ ap₂ (λ k n. key_of k n + 1) (sym p) (sym q) in
           let small : own.number < 4294967296 = omega (arith, c.ranges.number) in
           let from : ℕ → ℕ → Candidate = λ m n. found a.kinds.now a.terms.now a.start m (2 ^ a.j) l n in
@@ -35,4 +36,5 @@ returns c = let a = c.args in
                 c.search.ensures.fact.1 k (some-found B w is z)
                 ∙ ap₂ (λ (m : ℕ) (y : Candidate). from m (key_of y.cost y.number + 1)) e first
                 ∙ found_after B b a.kinds.now a.terms.now a.start a.j o x h l size own small w z;
-          } }
+          };
+    }

@@ -3,7 +3,6 @@
 use native.Mathlib.Omega.{arith}
 use Rattle.sharing.specs.Sharing.{held_at, low_at}
 use Rattle.sharing.proofs.Tables.{held-past, held-drop}
-use borrow.Author.Rules.{rules}
 use Rattle.sharing.proofs.holders.drop_one.Goals as goal
 
 pub overflow_sub-holders : goal.overflow_sub-holders

@@ -1,5 +1,5 @@
 -- `sharing::holders::find_from` meets its contract. The loop's invariant: each id from 1 on and below `id` is held. Assumes nothing.
-use Prim.Native.Nat.{ℕ, ◌+◌, ◌-◌, ◌≤◌, ◌<◌}
+use Prim.Native.Nat.{ℕ, ◌≤◌}
 use native.Mathlib.Omega.{arith}
 use borrow.Author.Count.{below_more}
 use Rattle.sharing.specs.Sharing.{held_at}

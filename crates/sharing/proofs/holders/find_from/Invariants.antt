@@ -1,7 +1,5 @@
 -- The loop invariants of holders.find_from, and what falls at each turn.
 use Prim.Native.Nat.{ℕ, ◌+◌, ◌-◌, ◌≤◌, ◌<◌}
-use native.Mathlib.Omega.{arith}
-use borrow.Author.Count.{below_more}
 use Rattle.sharing.specs.Sharing.{held_at}
 use Rattle.sharing.proofs.holders.find_from.Given as goal
 

@@ -1,7 +1,6 @@
 -- `sharing::holders::first_free` meets its contract: no id is free before the search begins; where it begins one is, or it is looked for from there on.
 -- Assumes nothing.
 use Rattle.sharing.specs.Sharing.{held_at}
-use borrow.Author.Rules.{rules}
 use Rattle.sharing.proofs.holders.first_free.Goals as goal
 
 pub returns-then-holders-height-eq0 : goal.returns-then-holders-height-eq0

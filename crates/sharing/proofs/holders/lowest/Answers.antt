@@ -1,7 +1,6 @@
 -- `sharing::holders::lowest` meets its contract: each id below the height's number is held. Assumes nothing.
 use native.Mathlib.Omega.{arith}
 use Rattle.sharing.specs.Sharing.{low_at}
-use borrow.Author.Rules.{rules}
 use Rattle.sharing.proofs.holders.lowest.Goals as goal
 
 pub returns : goal.returns

@@ -4,7 +4,6 @@ use Prim.Native.Nat.{ℕ, ◌*◌, ◌^◌}
 use native.Mathlib.Nat.{zero-mul}
 use native.Mathlib.Omega.{arith}
 use lib.Pow.{shl_exact}
-use borrow.Author.Rules.{rules}
 use Rattle.sharing.proofs.Vacant.{vacant-none, vacant-held}
 use Rattle.sharing.proofs.holders.mark.Goals as goal
 

@@ -1,6 +1,5 @@
 -- `short::bytes::fill_halves` meets its contract, by what `value` and `half_keys` ensure. Assumes nothing.
 use native.Mathlib.Omega.{arith}
-use borrow.Author.Rules.{rules}
 use Rattle.polar.specs.Layers.{part}
 use Rattle.polar.proofs.Writes.{part_length}
 use Rattle.outer.proofs.Sums.{read_back}

@@ -1,11 +1,7 @@
 -- The loop invariants of bytes.least_byte, and what falls at each turn.
-use mathlib.Core.Path.{◌≡◌, refl, ap, ap₂, ◌∙◌}
-use Prim.Native.Nat.{◌+◌, ◌-◌, ◌*◌, ◌≤◌, min}
-use native.Mathlib.Omega.{arith}
-use lib.ListN.{get_or}
+use mathlib.Core.Path.{◌≡◌}
+use Prim.Native.Nat.{◌-◌, ◌*◌, ◌≤◌}
 use Rattle.short.specs.Short.{least_key, byte_key}
-use Rattle.short.proofs.LeastKey.{key-same, key-first, key-runs}
-use Rattle.short.proofs.Octets.{row-key}
 use Rattle.short.proofs.bytes.least_byte.Given as goal
 
 abbrev pub invariant-loop-h : goal.invariant-loop-h

@@ -1,6 +1,6 @@
 -- `short::bytes::least_key` meets its contract. The loop's invariant: the least of the first w of the keys. Assumes nothing.
 use mathlib.Core.Path.{◌≡◌, refl, ap, ap₂, ◌∙◌}
-use Prim.Native.Nat.{◌+◌, ◌-◌, ◌≤◌, min}
+use Prim.Native.Nat.{◌+◌, min}
 use native.Mathlib.Omega.{arith}
 use lib.ListN.{get_or}
 use Rattle.short.specs.Short.{least_key}

@@ -1,10 +1,8 @@
 -- The loop invariants of bytes.least_key, and what falls at each turn.
-use mathlib.Core.Path.{◌≡◌, refl, ap, ap₂, ◌∙◌}
-use Prim.Native.Nat.{◌+◌, ◌-◌, ◌≤◌, min}
-use native.Mathlib.Omega.{arith}
+use mathlib.Core.Path.{◌≡◌}
+use Prim.Native.Nat.{◌+◌, ◌-◌, ◌≤◌}
 use lib.ListN.{get_or}
 use Rattle.short.specs.Short.{least_key}
-use Rattle.short.proofs.LeastKey.{key_more}
 use Rattle.short.proofs.bytes.least_key.Given as goal
 
 abbrev pub invariant-loop-w : goal.invariant-loop-w

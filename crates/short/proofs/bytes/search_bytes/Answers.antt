@@ -1,6 +1,5 @@
 -- `short::bytes::search_bytes` meets its contract: the least key of all bytes from the bound on is that of the word found. Assumes nothing.
 use mathlib.Core.Path.{◌∙◌}
-use borrow.Author.Rules.{rules}
 use Rattle.short.proofs.Answers.{bytes-answer}
 use Rattle.short.proofs.bytes.search_bytes.Goals as goal
 
@@ -8,6 +7,9 @@ pub returns-then-key : goal.returns-then-key
 returns-then-key c = let f = c.fill_halves in record { halves_len = f.ensures.0; by_index = λ e k. (bytes-answer c.requires.3 f.ensures.1 k c.args.bound _ c.narrow.ensures _ c.least_byte-key.ensures).0 c.if-key.true }
 
 pub returns : goal.returns
-returns c = let f = c.fill_halves in record { halves_len = f.ensures.0; by_index = λ e k.
-          c.byte_with.ensures
-          ∙ (bytes-answer c.requires.3 f.ensures.1 k c.args.bound _ c.narrow.ensures _ c.least_byte-key.ensures).1 c.if-key.false }
+returns c = let f = c.fill_halves in record {
+  halves_len = f.ensures.0;
+  by_index = λ e k.
+      c.byte_with.ensures
+      ∙ (bytes-answer c.requires.3 f.ensures.1 k c.args.bound _ c.narrow.ensures _ c.least_byte-key.ensures).1 c.if-key.false;
+}

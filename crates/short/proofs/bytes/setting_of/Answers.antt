@@ -2,7 +2,6 @@
 use mathlib.Core.Path.{ap, ◌∙◌}
 use mathlib.Core.List.{List}
 use Prim.Native.Nat.{ℕ}
-use borrow.Author.Rules.{rules}
 use Rattle.outer.specs.Search.{spread}
 use Rattle.short.proofs.bytes.setting_of.Goals as goal
 

@@ -1,5 +1,4 @@
 -- `short::bytes::word_with` meets its contract, by what `spread_at` ensures. Assumes nothing.
-use borrow.Author.Rules.{rules}
 use Rattle.short.specs.Short.{word_with}
 use Rattle.short.proofs.bytes.word_with.Goals as goal
 

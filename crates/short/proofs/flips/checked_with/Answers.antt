@@ -1,7 +1,6 @@
 -- `short::flips::checked_with` meets its contract, by what `setting_of` and `word_with` ensure. Assumes nothing.
 use mathlib.Core.Path.{ap, ◌∙◌}
 use Prim.Native.Nat.{ℕ, ◌%◌}
-use borrow.Author.Rules.{rules}
 use Rattle.short.specs.Short.{word_with}
 use Rattle.short.proofs.flips.checked_with.Goals as goal
 

@@ -8,7 +8,6 @@ use lib.IntN.{ℤ, pos}
 use lib.ListN.{length, get_or, drop, drop_of_length-le}
 use lib.Pow.{pow_mono}
 use lib.Seq.{drop-cons}
-use borrow.Author.Rules.{rules}
 use Rattle.laws.specs.Lists.{All}
 use Rattle.laws.proofs.Signed.{back}
 use Rattle.polar.specs.Layers.{part, Within}

@@ -1,5 +1,4 @@
 -- `standing::row::id_of` meets its contract: the ids by height come first in a row. Assumes nothing.
-use borrow.Author.Rules.{rules}
 use Rattle.sharing.specs.Sharing.{id_at}
 use Rattle.standing.specs.Standing.{cell}
 use Rattle.standing.proofs.row.id_of.Goals as goal

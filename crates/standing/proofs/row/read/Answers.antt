@@ -1,6 +1,5 @@
 -- `standing::row::read` meets its contract: a row has 16 numbers. Assumes nothing.
 use mathlib.Core.Path.{refl}
-use borrow.Author.Rules.{rules}
 use Rattle.standing.specs.Standing.{cell}
 use Rattle.standing.proofs.row.read.Goals as goal
 

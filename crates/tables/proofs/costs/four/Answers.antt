@@ -1,6 +1,5 @@
 -- `tables::costs::four` meets its contract, by what `pick` ensures. Assumes nothing.
 use native.Mathlib.Omega.{arith}
-use borrow.Author.Rules.{rules}
 use Rattle.outer.proofs.Sums.{entry-small, picked-four}
 use Rattle.tables.proofs.costs.four.Goals as goal
 

@@ -1,12 +1,10 @@
 -- `tables::costs::prepare` meets its contract. The loop's invariant: the first p runs are there. Assumes nothing.
-use mathlib.Core.Path.{◌≡◌}
-use Prim.Native.Nat.{◌+◌, ◌-◌, ◌*◌, ◌≤◌}
+use Prim.Native.Nat.{◌+◌, ◌*◌}
 use native.Mathlib.Omega.{arith}
-use lib.ListN.{length}
 use Rattle.polar.specs.Layers.{part}
 use Rattle.polar.proofs.Writes.{part_length}
 use Rattle.outer.specs.Search.{Costs}
-use Rattle.outer.proofs.Sums.{RunsFilled, runs-more, costs-small, read_back}
+use Rattle.outer.proofs.Sums.{runs-more, costs-small, read_back}
 use Rattle.tables.proofs.costs.prepare.Goals as goal
 
 pub run_count-runs-requires : goal.run_count-runs-requires

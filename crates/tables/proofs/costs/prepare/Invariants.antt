@@ -1,12 +1,9 @@
 -- The loop invariants of costs.prepare, and what falls at each turn.
 use mathlib.Core.Path.{◌≡◌}
-use Prim.Native.Nat.{◌+◌, ◌-◌, ◌*◌, ◌≤◌}
-use native.Mathlib.Omega.{arith}
+use Prim.Native.Nat.{◌-◌, ◌≤◌}
 use lib.ListN.{length}
 use Rattle.polar.specs.Layers.{part}
-use Rattle.polar.proofs.Writes.{part_length}
-use Rattle.outer.specs.Search.{Costs}
-use Rattle.outer.proofs.Sums.{RunsFilled, runs-more, costs-small, read_back}
+use Rattle.outer.proofs.Sums.{RunsFilled}
 use Rattle.tables.proofs.costs.prepare.Given as goal
 
 abbrev pub invariant-loop-p : goal.invariant-loop-p

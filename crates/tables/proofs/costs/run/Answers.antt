@@ -1,11 +1,10 @@
 -- `tables::costs::run` meets its contract. The loop's invariant: the first v sums of two pairs' costs are stored. Assumes nothing.
 use mathlib.Core.Path.{refl, ap, ap₂, ◌∙◌}
-use Prim.Native.Nat.{◌+◌, ◌-◌, ◌/◌, ◌%◌, ◌≤◌}
+use Prim.Native.Nat.{◌+◌, ◌/◌, ◌%◌}
 use native.Mathlib.Omega.{arith}
 use lib.IntN.{nat_abs}
-use lib.ListN.{get_or}
 use mir.Facts.{to_z-of_z}
-use Rattle.laws.proofs.Stores.{Stored, stored-none, stored_more}
+use Rattle.laws.proofs.Stores.{stored-none, stored_more}
 use Rattle.outer.proofs.Sums.{two-pairs, back-costs}
 use Rattle.tables.proofs.costs.run.Goals as goal
 

@@ -1,12 +1,7 @@
 -- The loop invariants of costs.run, and what falls at each turn.
-use mathlib.Core.Path.{refl, ap, ap₂, ◌∙◌}
 use Prim.Native.Nat.{◌+◌, ◌-◌, ◌/◌, ◌%◌, ◌≤◌}
-use native.Mathlib.Omega.{arith}
-use lib.IntN.{nat_abs}
 use lib.ListN.{get_or}
-use mir.Facts.{to_z-of_z}
-use Rattle.laws.proofs.Stores.{Stored, stored-none, stored_more}
-use Rattle.outer.proofs.Sums.{two-pairs, back-costs}
+use Rattle.laws.proofs.Stores.{Stored}
 use Rattle.tables.proofs.costs.run.Given as goal
 
 abbrev pub invariant-loop-v : goal.invariant-loop-v

@@ -7,7 +7,6 @@ use lib.ListN.{get_or, get_or-eq_default}
 use mir.Syntax.{w32}
 use mir.Val.{SFits}
 use mir.Facts.{to_z-of_z}
-use borrow.Author.Rules.{rules}
 use Rattle.polar.specs.Layers.{part}
 use Rattle.polar.proofs.Writes.{part_at, part_length}
 use Rattle.tables.proofs.costs.value.Goals as goal

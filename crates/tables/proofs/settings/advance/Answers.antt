@@ -4,7 +4,6 @@ use Prim.Native.Nat.{suc, ◌+◌, ◌^◌}
 use native.Mathlib.Nat.{two-pow-succ}
 use native.Mathlib.Numerals.{add-one}
 use native.Mathlib.Omega.{arith}
-use borrow.Author.Rules.{rules}
 use lib.ListN.{length-set}
 use Rattle.tables.proofs.Advance.{grown-free, grown-other, free-room, other-room, zero-spans, free-spans, tie-spans}
 use Rattle.tables.proofs.settings.advance.Goals as goal

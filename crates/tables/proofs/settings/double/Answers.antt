@@ -1,10 +1,8 @@
 -- `tables::settings::double` meets its contract. The loop's invariant: the first k entries after the table are stored. Assumes nothing.
 use mathlib.Core.Path.{ap, ◌∙◌}
-use Prim.Native.Nat.{◌-◌, ◌≤◌}
 use native.Mathlib.Omega.{arith}
-use lib.ListN.{get_or}
 use lib.Bits.{bit_xor}
-use Rattle.laws.proofs.Stores.{Stored, stored-none, stored_more}
+use Rattle.laws.proofs.Stores.{stored-none, stored_more}
 use Rattle.tables.proofs.settings.double.Goals as goal
 
 pub loop-k-init : goal.loop-k-init

@@ -1,10 +1,8 @@
 -- The loop invariants of settings.double, and what falls at each turn.
-use mathlib.Core.Path.{ap, ◌∙◌}
 use Prim.Native.Nat.{◌-◌, ◌≤◌}
-use native.Mathlib.Omega.{arith}
 use lib.ListN.{get_or}
 use lib.Bits.{bit_xor}
-use Rattle.laws.proofs.Stores.{Stored, stored-none, stored_more}
+use Rattle.laws.proofs.Stores.{Stored}
 use Rattle.tables.proofs.settings.double.Given as goal
 
 abbrev pub invariant-loop-k : goal.invariant-loop-k

@@ -2,7 +2,7 @@
 use mathlib.Core.Path.{◌≡◌, sym, ap, ◌∙◌, subst}
 use Prim.Native.Nat.{ℕ, ◌-◌, ◌^◌, ◌≤◌, ◌<◌}
 use native.Mathlib.Omega.{arith}
-use lib.ListN.{length, get_or, length-set}
+use lib.ListN.{get_or, length-set}
 use lib.Pow.{pow_mono}
 use Rattle.tables.proofs.Spread.{SettingsFilled, filled_none, filled_more}
 use Rattle.tables.proofs.settings.double_all.Goals as goal

@@ -1,10 +1,8 @@
 -- The loop invariants of settings.double_all, and what falls at each turn.
-use mathlib.Core.Path.{◌≡◌, sym, ap, ◌∙◌, subst}
-use Prim.Native.Nat.{ℕ, ◌-◌, ◌^◌, ◌≤◌, ◌<◌}
-use native.Mathlib.Omega.{arith}
-use lib.ListN.{length, get_or, length-set}
-use lib.Pow.{pow_mono}
-use Rattle.tables.proofs.Spread.{SettingsFilled, filled_none, filled_more}
+use mathlib.Core.Path.{◌≡◌}
+use Prim.Native.Nat.{◌-◌, ◌^◌, ◌≤◌}
+use lib.ListN.{length}
+use Rattle.tables.proofs.Spread.{SettingsFilled}
 use Rattle.tables.proofs.settings.double_all.Given as goal
 
 abbrev pub invariant-loop-left : goal.invariant-loop-left

@@ -1,12 +1,8 @@
 -- The loop invariants of settings.follow, and what falls at each turn.
-use native.Mathlib.Nat.{zero-add}
-use mathlib.Core.Path.{◌≡◌, sym, ap, ap₂, ◌∙◌}
-use mathlib.Core.List.{List}
-use Prim.Native.Nat.{ℕ, ◌-◌, ◌*◌, ◌/◌, ◌%◌, ◌^◌, ◌≤◌}
-use native.Mathlib.Omega.{arith}
+use Prim.Native.Nat.{◌-◌, ◌*◌, ◌/◌, ◌%◌, ◌^◌, ◌≤◌}
 use lib.ListN.{get_or}
 use lib.Bits.{bit_xor}
-use Rattle.laws.proofs.Stores.{Stored, stored-none, stored_more}
+use Rattle.laws.proofs.Stores.{Stored}
 use Rattle.tables.proofs.settings.follow.Given as goal
 
 abbrev pub invariant-loop-k : goal.invariant-loop-k

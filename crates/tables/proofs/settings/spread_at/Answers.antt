@@ -1,6 +1,6 @@
 -- `tables::settings::spread_at` meets its contract. The loop's invariant: what is left to spread, added to the sum so far. Assumes nothing.
 use mathlib.Core.Path.{◌≡◌, ap, ◌∙◌}
-use Prim.Native.Nat.{◌-◌, ◌/◌, ◌≤◌}
+use Prim.Native.Nat.{◌-◌, ◌/◌}
 use native.Mathlib.Omega.{arith}
 use lib.Bits.{bit_xor, xor_zero_l}
 use Rattle.outer.specs.Search.{spread}

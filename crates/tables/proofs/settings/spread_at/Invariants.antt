@@ -1,10 +1,8 @@
 -- The loop invariants of settings.spread_at, and what falls at each turn.
-use mathlib.Core.Path.{◌≡◌, ap, ◌∙◌}
-use Prim.Native.Nat.{◌-◌, ◌/◌, ◌≤◌}
-use native.Mathlib.Omega.{arith}
-use lib.Bits.{bit_xor, xor_zero_l}
+use mathlib.Core.Path.{◌≡◌}
+use Prim.Native.Nat.{◌≤◌}
+use lib.Bits.{bit_xor}
 use Rattle.outer.specs.Search.{spread}
-use Rattle.tables.proofs.Spread.{spread-last}
 use Rattle.tables.proofs.settings.spread_at.Given as goal
 
 abbrev pub invariant-loop-left : goal.invariant-loop-left

@@ -1,10 +1,10 @@
 -- `tables::settings::walk` meets its contract. The loop's invariant: the short tables span the entries of the first i indices. Assumes nothing.
 use mathlib.Core.Path.{◌≡◌, refl, sym, ap, ◌∙◌}
-use Prim.Native.Nat.{suc, ◌+◌, ◌-◌, ◌^◌, ◌≤◌}
+use Prim.Native.Nat.{suc, ◌+◌, ◌^◌}
 use native.Mathlib.Numerals.{add-one}
 use native.Mathlib.Omega.{arith}
-use lib.ListN.{length, get_or, length-set}
-use Rattle.outer.specs.Search.{grown, settings, entry, Spans}
+use lib.ListN.{get_or, length-set}
+use Rattle.outer.specs.Search.{grown, settings, entry}
 use Rattle.tables.proofs.Advance.{settings-le, spans-first, entry_more}
 use Rattle.tables.proofs.settings.walk.Goals as goal
 

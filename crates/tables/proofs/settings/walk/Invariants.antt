@@ -1,11 +1,8 @@
 -- The loop invariants of settings.walk, and what falls at each turn.
-use mathlib.Core.Path.{◌≡◌, refl, sym, ap, ◌∙◌}
-use Prim.Native.Nat.{suc, ◌+◌, ◌-◌, ◌^◌, ◌≤◌}
-use native.Mathlib.Numerals.{add-one}
-use native.Mathlib.Omega.{arith}
-use lib.ListN.{length, get_or, length-set}
-use Rattle.outer.specs.Search.{grown, settings, entry, Spans}
-use Rattle.tables.proofs.Advance.{settings-le, spans-first, entry_more}
+use mathlib.Core.Path.{◌≡◌}
+use Prim.Native.Nat.{◌-◌, ◌^◌, ◌≤◌}
+use lib.ListN.{length}
+use Rattle.outer.specs.Search.{settings, entry, Spans}
 use Rattle.tables.proofs.settings.walk.Given as goal
 
 abbrev pub invariant-loop-i : goal.invariant-loop-i

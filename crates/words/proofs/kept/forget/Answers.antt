@@ -5,7 +5,6 @@ use native.Mathlib.Omega.{arith}
 use lib.ListN.{length-set}
 use lib.Seq.{get_or-set_same, get_or-set_other}
 use Rattle.words.proofs.Kepts.{first_cell, one_kept}
-use borrow.Author.Rules.{rules}
 use Rattle.words.proofs.kept.forget.Goals as goal
 
 pub returns : goal.returns

@@ -9,7 +9,6 @@ use Rattle.laws.proofs.Stores.{stored-none}
 use Rattle.words.specs.Kept.{kept_cell, kept_at}
 use Rattle.standing.proofs.Cells.{store-next, store-read}
 use Rattle.words.proofs.Kepts.{one_kept}
-use borrow.Author.Rules.{rules}
 use Rattle.words.proofs.kept.keep.Goals as goal
 
 pub bounds-kept-at-2 : goal.bounds-kept-at-2

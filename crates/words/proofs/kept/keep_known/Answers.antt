@@ -1,7 +1,6 @@
 -- `words::kept::keep_known` meets its contract: what is kept is the word where it is known, and nothing where it is not. Assumes nothing.
 use mathlib.Core.Path.{◌∙◌}
 use native.Mathlib.Omega.{arith}
-use borrow.Author.Rules.{rules}
 use Rattle.words.specs.Kept.{Keeps}
 use Rattle.words.proofs.kept.keep_known.Goals as goal
 

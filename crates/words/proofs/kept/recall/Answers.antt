@@ -7,7 +7,6 @@ use lib.Dec.{eqb}
 use lib.ListN.{get_or}
 use Rattle.words.specs.Kept.{kept_cell, kept_at}
 use Rattle.words.proofs.Kepts.{first_cell}
-use borrow.Author.Rules.{rules}
 use Rattle.words.proofs.kept.recall.Goals as goal
 
 pub overflow_sub-setting : goal.overflow_sub-setting
