@@ -104,12 +104,12 @@ go_down-requires-else-at-eq0 c =
     record {
       has_arrays = (g.has_arrays_2.0, hand-row l h r (g.has_arrays_2.1.size ∙ f.has_arrays_2.1.size), k.2, omega (arith, k.1));
       viewed =
-      record {
-        others = away h.hand;
-        view = by_p (away h.hand) a.last.place (committed h.hand);
-        seen = g.step_seen (away h.hand) (committed h.hand) summed (committed-turning h r n);
-        met = turned-upper h r n;
-      };
+          record {
+            others = away h.hand;
+            view = by_p (away h.hand) a.last.place (committed h.hand);
+            seen = g.step_seen (away h.hand) (committed h.hand) summed (committed-turning h r n);
+            met = turned-upper h r n;
+          };
     }
 
 -- an array for the block's word
@@ -121,10 +121,10 @@ claim-requires c =
     let h = c.requires.by_index.2 in
     let r = c.slot_of-slot.ensures.0 in
     let gone : Gone a.m a.paths a.arrays a.e c.slot_of-slot.result a.last a.at (memory a.rows.now a.holders.now a.numbers.now a.bytes.now)
-      (memory c.if-at-eq0.rows c.if-at-eq0.holders c.if-at-eq0.numbers c.if-at-eq0.bytes) =
+    (memory c.if-at-eq0.rows c.if-at-eq0.holders c.if-at-eq0.numbers c.if-at-eq0.bytes) =
     elim c.if-at-eq0.branch [
-      then-at-eq0 w ↦ rw (w.rows-is, w.holders-is, w.numbers-is, w.bytes-is) (gone-first r w.if-at-eq0.true l.enough w.go_down.ensures.has_arrays_2 w.go_down.ensures.step_seen)
-    | else-at-eq0 w ↦
+      | then-at-eq0 w ↦ rw (w.rows-is, w.holders-is, w.numbers-is, w.bytes-is) (gone-first r w.if-at-eq0.true l.enough w.go_down.ensures.has_arrays_2 w.go_down.ensures.step_seen)
+      | else-at-eq0 w ↦
           let n = w.if-at-eq0.false in
           let f = w.commit.ensures in
           let g = w.turn_over.ensures in
@@ -147,10 +147,10 @@ returns c =
     let r = c.slot_of-slot.ensures.0 in
     let f = c.claim in
     let gone : Gone a.m a.paths a.arrays a.e c.slot_of-slot.result a.last a.at (memory a.rows.now a.holders.now a.numbers.now a.bytes.now)
-      (memory c.if-at-eq0.rows c.if-at-eq0.holders c.if-at-eq0.numbers c.if-at-eq0.bytes) =
+    (memory c.if-at-eq0.rows c.if-at-eq0.holders c.if-at-eq0.numbers c.if-at-eq0.bytes) =
     elim c.if-at-eq0.branch [
-      then-at-eq0 w ↦ rw (w.rows-is, w.holders-is, w.numbers-is, w.bytes-is) (gone-first r w.if-at-eq0.true l.enough w.go_down.ensures.has_arrays_2 w.go_down.ensures.step_seen)
-    | else-at-eq0 w ↦
+      | then-at-eq0 w ↦ rw (w.rows-is, w.holders-is, w.numbers-is, w.bytes-is) (gone-first r w.if-at-eq0.true l.enough w.go_down.ensures.has_arrays_2 w.go_down.ensures.step_seen)
+      | else-at-eq0 w ↦
           let n = w.if-at-eq0.false in
           let f = w.commit.ensures in
           let g = w.turn_over.ensures in
@@ -162,8 +162,7 @@ returns c =
     ] in
     let only = ids-on a.rows.now c.if-at-eq0.rows gone.only f.ensures.has_arrays_2.1 in
     record {
-      lent_2 =
-      (
+      lent_2 = (
         record { few = l.few; rows = omega (arith, l.rows, only.size); has = f.ensures.has_arrays_2.0; enough = l.enough },
         subst (λ (k : ℕ). IdsOnly a.m k a.rows.now f.new.rows) r only,
       );
