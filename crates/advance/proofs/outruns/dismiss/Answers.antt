@@ -49,9 +49,12 @@ release-requires c = let a = c.args in
     let q : a.queued - y.i ≡ suc (a.queued - (y.i + 1)) = omega arith in
     let passed = y.invariant.4 p.0 p.2 p.3 x p.1 in
     let low = next-slot (a.queued - (y.i + 1)) q passed in
-    let held = next-held (a.queued - (y.i + 1)) q passed in record { held = (y.invariant.2, c.requires.rows.4, (omega arith, omega (arith, low, c.slot_of-slot.ensures.0))); by_index = λ h l.
+    let held = next-held (a.queued - (y.i + 1)) q passed in record {
+      held = (y.invariant.2, c.requires.rows.4, (omega arith, omega (arith, low, c.slot_of-slot.ensures.0)));
+      by_index = λ h l.
           let k = held h (omega (arith, x.deep)) in
-          rw c.slot_of-slot.ensures.0 (omega (arith, k.0, p.1), k.1) }
+          rw c.slot_of-slot.ensures.0 (omega (arith, k.0, p.1), k.1);
+    }
 
 pub overflow_cast-vacant : goal.overflow_cast-vacant
 overflow_cast-vacant c = omega arith
@@ -85,7 +88,7 @@ loop-i-preserved c =
     let q : a.queued - y.i ≡ suc n = omega arith in
     let u : a.paths - a.queued + (y.gone + 1) ≡ suc v = omega arith in
     elim c.if-blocks_of-b.branch [
-      then-blocks_of-b w ↦
+      | then-blocks_of-b w ↦
           let slot = w.slot_of-slot.result in
           let put : queue_of (set y.vacant v slot) (a.paths - a.queued + (y.gone + 1)) ≡ slot ∷ queue_of y.vacant v =
           ap (queue_of (set y.vacant v slot)) u ∙ queue-put v y.vacant slot (omega arith) in
@@ -99,7 +102,7 @@ loop-i-preserved c =
                 rw (put, w.slot_of-slot.ensures.0)
                 (passed-out n q (y.invariant.4 arrays numbers bytes x small) w.release.new.holders (omega arith) (omega (arith, e, w.if-blocks_of-b.true)) less),
           )
-    | else-blocks_of-b w ↦
+      | else-blocks_of-b w ↦
           rw (w.holders-is, w.vacant-is, w.gone-is) (
             omega arith,
             omega arith,

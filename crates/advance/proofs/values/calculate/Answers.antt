@@ -2,16 +2,14 @@
 -- more than its ids and the arrays changed. Assumes nothing.
 use mathlib.Core.Path.{◌≡◌, refl, ap, ◌∙◌, subst}
 use mathlib.Core.List.{List}
-use Prim.Native.Nat.{ℕ, ◌+◌, ◌-◌, ◌*◌, ◌^◌, ◌≤◌, ◌<◌}
+use Prim.Native.Nat.{ℕ, ◌+◌, ◌-◌, ◌*◌, ◌≤◌, ◌<◌}
 use native.Mathlib.Omega.{arith}
 use lib.ListN.{length}
-use Rattle.reader.specs.Arrays.{sums_of, put_sums, descend, by_p, joined}
+use Rattle.reader.specs.Arrays.{descend, by_p}
 use Rattle.order.specs.Entries.{slot_at}
-use Rattle.heights.specs.Workspace.{bits_of}
 use Rattle.standing.specs.Seen.{Memory, memory, Enough, HasArrays, Lent, Seen, StepSeen, IdsOnly}
-use Rattle.standing.specs.Standing.{cell, word_at}
 use Rattle.standing.proofs.Sizes.{slot-low}
-use Rattle.views.specs.Steps.{Upper, Turning, Joinable}
+use Rattle.views.specs.Steps.{Upper, Turning}
 use Rattle.views.proofs.Seeing.{ids-on}
 use Rattle.words.specs.declared.Block.{Block}
 use Rattle.steps.specs.Steps.{committed, Moving}
@@ -27,33 +25,24 @@ hand-row l h q z =
     let low = slot-low h.hand.stands in
     (omega (arith, low, l.few), omega (arith, low, l.rows))
 
--- what the way to a later block does first: the last word, w, is in the sums
-abbrev Sums : ℕ → ℕ → ℕ → Memory → Memory → Block → ℕ → Type 0
-Sums m N s x y last w =
-    StepSeen m N s x y (Joinable last.height last.place)
-    (λ others v. put_sums others last.place (joined (sums_of v) last.height (last.place - last.height) (bits_of (2 ^ last.height) w)) v)
-
 module _ {m D N e s : ℕ} {x : Memory} {last at : Block} where
-  sum-seen : {es vs : List ℕ} {y : Memory} (h : Moving m D N x e es vs last at) → s ≡ slot_at e → (at.start ≡ 0 → ⊥) → Enough D N →
-      {w : ℕ} → w ≡ cell x.rows s word_at → Sums m N s x y last w → Seen m N s y (away h.hand) (committed h.hand)
-  sum-seen h r n enough i t = commit-seen h.hand enough r h.valid (later-own h r n) _ _ i t
-
   -- by either way, the path is at its next block
   gone-first : {y : Memory} → s ≡ slot_at e → at.start ≡ 0 → Enough D N → HasArrays m N y × IdsOnly m s x.rows y.rows →
       StepSeen m N s x y (Upper m) (λ others v. descend others (m - at.height) m 0 v) → Gone m D N e s last at x y
   gone-first r z enough f t = record { has = f.0; only = f.1; seen = λ h. first-seen h r z enough _ t }
 
-  gone-later : (y z : Memory) {u : Memory} {w : ℕ} → s ≡ slot_at e → (at.start ≡ 0 → ⊥) → Enough D N → w ≡ cell x.rows s word_at → Sums m N s x y last w →
-      IdsOnly m s x.rows y.rows → StepSeen m N s y z (Turning last.place) (λ others v. by_p others last.place v) → IdsOnly m s y.rows z.rows →
+  gone-later : (y z : Memory) {u : Memory} → s ≡ slot_at e → (at.start ≡ 0 → ⊥) →
+      ((es vs : List ℕ) (h : Moving m D N x e es vs last at) → Seen m N s y (away h.hand) (committed h.hand)) → IdsOnly m s x.rows y.rows →
+      StepSeen m N s y z (Turning last.place) (λ others v. by_p others last.place v) → IdsOnly m s y.rows z.rows →
       StepSeen m N s z u (Upper last.place) (λ others v. descend others (last.place - at.height) last.place 0 v) →
       HasArrays m N u × IdsOnly m s z.rows u.rows → Gone m D N e s last at x u
   unfolding StepSeen
-  gone-later y z {u} r n enough i sums only₁ turned only₂ down f =
+  gone-later y z {u} r n sums only₁ turned only₂ down f =
       record {
         has = f.0;
         only = ids-on x.rows z.rows (ids-on x.rows y.rows only₁ only₂) f.1;
         seen = λ h.
-            down-seen h r n z u (turned (away h.hand) (committed h.hand) (sum-seen h r n enough i sums) (committed-turning h r n)) down;
+            down-seen h r n z u (turned (away h.hand) (committed h.hand) (sums _ _ h) (committed-turning h r n)) down;
       }
 
 pub go_down-requires : goal.go_down-requires
@@ -93,7 +82,7 @@ turn_over-requires c =
     let r = c.slot_of-slot.ensures.0 in
     let n = c.if-at-eq0.false in
     let f = c.commit.ensures in
-    let summed = sum-seen h r n l.enough c.word_of-word.ensures f.step_seen in
+    let summed = commit-seen h.hand l.enough r h.valid (later-own h r n) _ _ c.word_of-word.ensures f.step_seen in
     record {
       has_arrays = (f.has_arrays_2.0, hand-row l h r f.has_arrays_2.1.size, (later-heights h r n).1);
       viewed = record { others = away h.hand; view = committed h.hand; seen = summed; met = committed-turning h r n };
@@ -111,16 +100,16 @@ go_down-requires-else-at-eq0 c =
     let k = later-heights h r n in
     let f = c.commit.ensures in
     let g = c.turn_over.ensures in
-    let summed = sum-seen h r n l.enough c.word_of-word.ensures f.step_seen in
+    let summed = commit-seen h.hand l.enough r h.valid (later-own h r n) _ _ c.word_of-word.ensures f.step_seen in
     record {
       has_arrays = (g.has_arrays_2.0, hand-row l h r (g.has_arrays_2.1.size ∙ f.has_arrays_2.1.size), k.2, omega (arith, k.1));
       viewed =
-      record {
-        others = away h.hand;
-        view = by_p (away h.hand) a.last.place (committed h.hand);
-        seen = g.step_seen (away h.hand) (committed h.hand) summed (committed-turning h r n);
-        met = turned-upper h r n;
-      };
+          record {
+            others = away h.hand;
+            view = by_p (away h.hand) a.last.place (committed h.hand);
+            seen = g.step_seen (away h.hand) (committed h.hand) summed (committed-turning h r n);
+            met = turned-upper h r n;
+          };
     }
 
 -- an array for the block's word
@@ -132,17 +121,18 @@ claim-requires c =
     let h = c.requires.by_index.2 in
     let r = c.slot_of-slot.ensures.0 in
     let gone : Gone a.m a.paths a.arrays a.e c.slot_of-slot.result a.last a.at (memory a.rows.now a.holders.now a.numbers.now a.bytes.now)
-      (memory c.if-at-eq0.rows c.if-at-eq0.holders c.if-at-eq0.numbers c.if-at-eq0.bytes) =
+    (memory c.if-at-eq0.rows c.if-at-eq0.holders c.if-at-eq0.numbers c.if-at-eq0.bytes) =
     elim c.if-at-eq0.branch [
-      then-at-eq0 w ↦ rw (w.rows-is, w.holders-is, w.numbers-is, w.bytes-is) (gone-first r w.if-at-eq0.true l.enough w.go_down.ensures.has_arrays_2 w.go_down.ensures.step_seen)
-    | else-at-eq0 w ↦
+      | then-at-eq0 w ↦ rw (w.rows-is, w.holders-is, w.numbers-is, w.bytes-is) (gone-first r w.if-at-eq0.true l.enough w.go_down.ensures.has_arrays_2 w.go_down.ensures.step_seen)
+      | else-at-eq0 w ↦
+          let n = w.if-at-eq0.false in
           let f = w.commit.ensures in
           let g = w.turn_over.ensures in
           let d = w.go_down-else-at-eq0.ensures in
           let y = memory w.commit.new.rows w.commit.new.holders a.numbers.now w.commit.new.bytes in
           let z = memory w.turn_over.new.rows w.turn_over.new.holders w.turn_over.new.numbers w.commit.new.bytes in
           rw (w.rows-is, w.holders-is, w.numbers-is, w.bytes-is)
-          (gone-later y z r w.if-at-eq0.false l.enough w.word_of-word.ensures f.step_seen f.has_arrays_2.1 g.step_seen g.has_arrays_2.1 d.step_seen d.has_arrays_2)
+          (gone-later y z r n (λ es vs h. commit-seen h.hand l.enough r h.valid (later-own h r n) y _ w.word_of-word.ensures f.step_seen) f.has_arrays_2.1 g.step_seen g.has_arrays_2.1 d.step_seen d.has_arrays_2)
     ] in
     record {
       has_arrays = (gone.has, hand-row l h r gone.only.size, (next-heights h r).1);
@@ -157,22 +147,22 @@ returns c =
     let r = c.slot_of-slot.ensures.0 in
     let f = c.claim in
     let gone : Gone a.m a.paths a.arrays a.e c.slot_of-slot.result a.last a.at (memory a.rows.now a.holders.now a.numbers.now a.bytes.now)
-      (memory c.if-at-eq0.rows c.if-at-eq0.holders c.if-at-eq0.numbers c.if-at-eq0.bytes) =
+    (memory c.if-at-eq0.rows c.if-at-eq0.holders c.if-at-eq0.numbers c.if-at-eq0.bytes) =
     elim c.if-at-eq0.branch [
-      then-at-eq0 w ↦ rw (w.rows-is, w.holders-is, w.numbers-is, w.bytes-is) (gone-first r w.if-at-eq0.true l.enough w.go_down.ensures.has_arrays_2 w.go_down.ensures.step_seen)
-    | else-at-eq0 w ↦
+      | then-at-eq0 w ↦ rw (w.rows-is, w.holders-is, w.numbers-is, w.bytes-is) (gone-first r w.if-at-eq0.true l.enough w.go_down.ensures.has_arrays_2 w.go_down.ensures.step_seen)
+      | else-at-eq0 w ↦
+          let n = w.if-at-eq0.false in
           let f = w.commit.ensures in
           let g = w.turn_over.ensures in
           let d = w.go_down-else-at-eq0.ensures in
           let y = memory w.commit.new.rows w.commit.new.holders a.numbers.now w.commit.new.bytes in
           let z = memory w.turn_over.new.rows w.turn_over.new.holders w.turn_over.new.numbers w.commit.new.bytes in
           rw (w.rows-is, w.holders-is, w.numbers-is, w.bytes-is)
-          (gone-later y z r w.if-at-eq0.false l.enough w.word_of-word.ensures f.step_seen f.has_arrays_2.1 g.step_seen g.has_arrays_2.1 d.step_seen d.has_arrays_2)
+          (gone-later y z r n (λ es vs h. commit-seen h.hand l.enough r h.valid (later-own h r n) y _ w.word_of-word.ensures f.step_seen) f.has_arrays_2.1 g.step_seen g.has_arrays_2.1 d.step_seen d.has_arrays_2)
     ] in
     let only = ids-on a.rows.now c.if-at-eq0.rows gone.only f.ensures.has_arrays_2.1 in
     record {
-      lent_2 =
-      (
+      lent_2 = (
         record { few = l.few; rows = omega (arith, l.rows, only.size); has = f.ensures.has_arrays_2.0; enough = l.enough },
         subst (λ (k : ℕ). IdsOnly a.m k a.rows.now f.new.rows) r only,
       );

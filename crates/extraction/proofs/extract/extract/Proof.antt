@@ -44,17 +44,17 @@ abbrev start : tie.After-second-x → tie.Start
 start c = c.before.before.before.before.before.before.before.before.before.before.before.before.before.before
 
 abbrev at_second : tie.After-second-x → Memory
-at_second c = let f = c.second-x.new in memory f.0 f.1.0 f.1.1.1.1.0 (start c).args.bytes.now
+at_second c = let f = c.second-x.new in memory f.rows f.holders f.numbers (start c).args.bytes.now
 
 abbrev entries : tie.After-second-x → List ℕ
-entries c = queue_of c.second-x.new.1.1.0 c.second-x.result.queued
+entries c = queue_of c.second-x.new.order c.second-x.result.queued
 
 abbrev vacants : tie.After-second-x → List ℕ
-vacants c = queue_of c.second-x.new.1.1.1.0 ((start c).args.s.paths - (c.second-x.result.queued + 1))
+vacants c = queue_of c.second-x.new.vacant ((start c).args.s.paths - (c.second-x.result.queued + 1))
 
 -- the words kept then
 abbrev words : tie.After-second-x → List ℕ
-words c = c.second-x.new.1.1.1.1.1.1.1.1.1.1.1.1.1.1.0
+words c = c.second-x.new.kept
 
 copied : (c : tie.After-second-x) (o : Extract (start c)) → let a = (start c).args in
     let d = extract-seconding o in
@@ -79,19 +79,19 @@ abbrev seconded : tie.After-third → tie.After-second-x
 seconded c = c.before.before.before.before.before.before.before.before.before.before.before.before.before.before
 
 abbrev at-third : tie.After-third → Memory
-at-third c = let f = c.third.new in memory f.0 f.1.0 f.1.1.1.0 f.1.1.1.1.0
+at-third c = let f = c.third.new in memory f.rows f.holders f.numbers f.bytes
 
 abbrev kept : tie.After-third → List ℕ
-kept c = c.third.new.1.1.1.1.1.1.1.1.1.1.1.1.1.1.0
+kept c = c.third.new.kept
 
 moved : (c : tie.After-third) (o : Extract (start (seconded c))) → let t = seconded c in
     let a = (start t).args in
-    MovedTo o (two t) a.t.crowded (words t) (copied t o) (at-third c) (queue_of c.third.new.1.1.0 (t.second-x.result.queued + 1)) (kept c)
+    MovedTo o (two t) a.t.crowded (words t) (copied t o) (at-third c) (queue_of c.third.new.order (t.second-x.result.queued + 1)) (kept c)
 moved c o =
     let t = seconded c in
     let a = (start t).args in
     let one : suc t.second-x.result.queued ≡ t.second-x.result.queued + 1 = omega arith in
-    subst (λ (i : ℕ). MovedTo o (two t) a.t.crowded (words t) (copied t o) (at-third c) (queue_of c.third.new.1.1.0 i) (kept c)) one
+    subst (λ (i : ℕ). MovedTo o (two t) a.t.crowded (words t) (copied t o) (at-third c) (queue_of c.third.new.order i) (kept c)) one
     (c.third.ensures.1.0 (vacants t) (extract-thirding o (two t) a.t.crowded (words t) (copied t o)))
 
 add-x : tie.Need-overflow_add-x
@@ -110,7 +110,7 @@ thirded c = c.before.before.before.before.before.before.before.before.before.bef
 abbrev outrunning : (c : tie.After-blocks_of) (o : Extract (start (seconded (thirded c)))) → let u = thirded c in
     let t = seconded u in
     let a = (start t).args in
-    Outrunning a.m a.s.visits a.s.paths a.arrays t.second-x.result.extractions c.blocks_of.result (at-third u) (queue_of u.third.last.1.1.0 (t.second-x.result.queued + 1))
+    Outrunning a.m a.s.visits a.s.paths a.arrays t.second-x.result.extractions c.blocks_of.result (at-third u) (queue_of u.third.new.order (t.second-x.result.queued + 1))
     (vacants t) a.visits.now
 outrunning c o =
     let u = thirded c in
@@ -144,7 +144,7 @@ returns c =
         (f.0.5 ∙ t.second-x.ensures.1.0.0, f.0.7),
         (
           λ o.
-              let w = f.1.0 a.arrays u.third.last.1.1.1.0 u.third.last.1.1.1.1.0 (outrunning c.before o) l.0.has.many in
+              let w = f.1.0 a.arrays u.third.new.numbers u.third.new.bytes (outrunning c.before o) l.0.has.many in
               let k =
               extract-done o (two t) a.t.crowded (words t) (copied t o) (kept u) (moved u o) t.second-x.result.outrun b c.before.blocks_of.ensures _ t.second-x.ensures.1.0.0 f.0.8
               (w.0, w.1, w.2) in
@@ -177,11 +177,11 @@ outrun-requires c κs =
           (
             a.arrays,
             l.0.has.many,
-            u.third.last.1.1.1.0,
-            u.third.last.1.1.1.1.0,
+            u.third.new.numbers,
+            u.third.new.bytes,
             outrunning c o,
           ),
-          subst (Rising u.third.last.1.1.0) one u.third.ensures.1.1,
+          subst (Rising u.third.new.order) one u.third.ensures.1.1,
         ),
       ),
     )
@@ -189,20 +189,20 @@ outrun-requires c κs =
 same_length : tie.Need-shape_of-rows
 same_length c =
     let u = thirded c.before in
-    omega (arith, u.third.kept.0, (seconded u).second-x.kept.0)
+    omega (arith, u.third.auto.rows, (seconded u).second-x.auto.rows)
 
 same-length-2 : tie.Need-shape_of-numbers
 same-length-2 c =
     let u = thirded c.before in
-    omega (arith, u.third.kept.1.1.1.0, (seconded u).second-x.kept.1.1.1.1.0)
+    omega (arith, u.third.auto.numbers, (seconded u).second-x.auto.numbers)
 
 same-length-3 : tie.Need-shape_of-bytes
-same-length-3 c = (thirded c.before).third.auto.1.1.1.1.0
+same-length-3 c = (thirded c.before).third.auto.bytes
 
 same-length-4 : tie.Need-shape_of-kept
 same-length-4 c =
     let u = thirded c.before in
-    omega (arith, u.third.kept.1.1.1.1.1.1.1.1.1.1.1.1.1.1.0, (seconded u).second-x.kept.1.1.1.1.1.1.1.1.1.1.1.1.1.1.0)
+    omega (arith, u.third.auto.kept, (seconded u).second-x.auto.kept)
 
 pub extract_spec : {M : Type 1} → statement M
 extract_spec =

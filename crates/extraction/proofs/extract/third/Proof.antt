@@ -56,7 +56,7 @@ abbrev made : tie.After-slot_of-slot → tie.After-calculate
 made c = c.before.before.before.before.before.before
 
 abbrev at-made : tie.After-calculate → Memory
-at-made c = let f = c.calculate.new in memory f.0 f.1.0 f.1.1.0 f.1.1.1.0
+at-made c = let f = c.calculate.new in memory f.rows f.holders f.numbers f.bytes
 
 values-there : (c : tie.After-calculate) (vs : List ℕ) (o : Third (start c) vs) → let a = (start c).args in
     Stands o.moving.hand.book a.paths a.arrays (at-made c) (a.e ∷ queue_of a.order.now a.queued) vs (view o).arrays (with_ids o.moving.hand.taken (view o).ids ∷ o.moving.hand.rest)
@@ -69,7 +69,7 @@ slot_is : (c : tie.After-slot_of-slot) → c.slot_of-slot.result ≡ slot c
 slot_is c = c.slot_of-slot.ensures.0
 
 -- its row is there
-row-there : (c : tie.After-slot_of-slot) → HasRow (slot c) (made c).calculate.new.0
+row-there : (c : tie.After-slot_of-slot) → HasRow (slot c) (made c).calculate.new.rows
 unfolding memory
 row-there c =
     let l = (made c).calculate.ensures.0.0 in
@@ -91,15 +91,15 @@ cell-of c f = cell (at-made (made c)).rows (slot c) f
 
 spent-is : (c : tie.After-spent_of) → c.spent_of.result ≡ cell-of c.before spent_at
 unfolding memory
-spent-is c = c.spent_of.ensures ∙ ap (λ i. cell (made c.before).calculate.new.0 i spent_at) (slot_is c.before)
+spent-is c = c.spent_of.ensures ∙ ap (λ i. cell (made c.before).calculate.new.rows i spent_at) (slot_is c.before)
 
 cost-is : (c : tie.After-cost_of) → c.cost_of.result ≡ cell-of c.before.before cost_at
 unfolding memory
-cost-is c = c.cost_of.ensures ∙ ap (λ i. cell (made c.before.before).calculate.new.0 i cost_at) (slot_is c.before.before)
+cost-is c = c.cost_of.ensures ∙ ap (λ i. cell (made c.before.before).calculate.new.rows i cost_at) (slot_is c.before.before)
 
 parities-is : (c : tie.After-parities_of-parities) → c.parities_of-parities.result ≡ cell-of c.before.before.before parities_at
 unfolding memory
-parities-is c = c.parities_of-parities.ensures ∙ ap (λ i. cell (made c.before.before.before).calculate.new.0 i parities_at) (slot_is c.before.before.before)
+parities-is c = c.parities_of-parities.ensures ∙ ap (λ i. cell (made c.before.before.before).calculate.new.rows i parities_at) (slot_is c.before.before.before)
 
 add-spent : tie.Need-overflow_add-spent
 unfolding memory
@@ -125,7 +125,7 @@ abbrev cells : tie.After-nearest_words-found → tie.After-parities_of-parities
 cells c = c.before.before.before
 
 abbrev slotted : tie.After-nearest_words-found → tie.After-slot_of-slot
-slotted c = (cells c).before.before.before.before.before.before
+slotted c = (cells c).before.before.before
 
 two-found : (c : tie.After-nearest_words-found) (vs : List ℕ) (o : Third (start (made (slotted c))) vs) →
     let y = at-made (made (slotted c)) in
@@ -182,7 +182,7 @@ score-requires c κs =
     let u = searched c.before.before.before in
     let t = slotted u in
     let o = own (start (made t)) in
-    (omega (arith, spent-is (cells u).before.before.before.before, cost-is (cells u).before.before, third-total o (values-there (made t) _ o) (found-is u _ o)), rw (bias-back (made t)) (third-bias o))
+    (omega (arith, spent-is (cells u).before.before, cost-is (cells u).before, third-total o (values-there (made t) _ o) (found-is u _ o)), rw (bias-back (made t)) (third-bias o))
 
 blocks-of-requires : tie.Need-blocks_of-requires
 blocks-of-requires c κs = search rules
@@ -227,7 +227,7 @@ score-is : (c : tie.After-score) → back c.score.result ≡ neg_ℤ (pos (total
 score-is c =
     let u = searched (written c) in
     let t = slotted u in
-    let sum = ap₂ (λ (a b : ℕ). a + b + u.nearest_words-found.result.first.cost) (spent-is (cells u).before.before.before.before) (cost-is (cells u).before.before) in
+    let sum = ap₂ (λ (a b : ℕ). a + b + u.nearest_words-found.result.first.cost) (spent-is (cells u).before.before) (cost-is (cells u).before) in
     score-back c ∙ c.score.ensures.0 ∙ ap₂ (λ (n : ℕ) (z : ℤ). neg_ℤ (pos n) -ℤ z) sum (bias-back (made t))
 
 packed : (c : tie.After-entry-d) → let t = slotted (searched (written c.before.before.before)) in
@@ -245,15 +245,15 @@ packed c =
 put_is : (c : tie.After-put) → let u = searched c in
     let t = slotted u in
     let w = u.nearest_words-found.result.first in
-    PutRow (slot t) (at-made (made t)).rows c.put.new.0 (cell-of t spent_at + cell-of t cost_at) w.cost w.number (cell-of t parities_at) w.parities
+    PutRow (slot t) (at-made (made t)).rows c.put.new.rows (cell-of t spent_at + cell-of t cost_at) w.cost w.number (cell-of t parities_at) w.parities
 unfolding memory
 put_is c =
     let u = searched c in
     let t = slotted u in
     let w = u.nearest_words-found.result.first in
-    let rows = (made t).calculate.last.0 in
+    let rows = (made t).calculate.new.rows in
     let v = cells u in
-    let Put : ℕ → ℕ → ℕ → Type 0 = λ s a b. PutRow s rows c.put.new.0 a w.cost w.number b w.parities in
+    let Put : ℕ → ℕ → ℕ → Type 0 = λ s a b. PutRow s rows c.put.new.rows a w.cost w.number b w.parities in
     let sum = ap₂ (λ (a b : ℕ). a + b) (spent-is v.before.before) (cost-is v.before) in
     subst₂ (Put (slot t)) sum (parities-is v) (subst (λ (s : ℕ). Put s (v.before.before.spent_of.result + v.before.cost_of.result) v.parities_of-parities.result) (slot_is t) c.put.ensures)
 
@@ -277,16 +277,16 @@ entry-is c vs o =
 same_length : tie.Need-shape_of-rows
 same_length c =
     let p = ended c.before.before.before.before.before in
-    omega (arith, p.put.kept.0, (made (slotted (searched p))).calculate.auto.0)
+    omega (arith, p.put.auto.rows, (made (slotted (searched p))).calculate.auto.rows)
 
 same-length-2 : tie.Need-shape_of-numbers
-same-length-2 c = (made (slotted (searched (ended c.before.before.before.before.before)))).calculate.auto.1.1.0
+same-length-2 c = (made (slotted (searched (ended c.before.before.before.before.before)))).calculate.auto.numbers
 
 same-length-3 : tie.Need-shape_of-bytes
-same-length-3 c = (made (slotted (searched (ended c.before.before.before.before.before)))).calculate.auto.1.1.1.0
+same-length-3 c = (made (slotted (searched (ended c.before.before.before.before.before)))).calculate.auto.bytes
 
 same-length-4 : tie.Need-shape_of-kept
-same-length-4 c = c.before.before.keep.auto.0
+same-length-4 c = c.before.before.keep.auto.kept
 
 returns : tie.Need-returns
 unfolding memory

@@ -18,8 +18,11 @@ overflow_sub-h c = omega arith
 
 pub lower-requires : goal.lower-requires
 lower-requires c = let i = c.loop-h.invariant in
-    let e : suc (c.loop-h.h - 1) ≡ c.loop-h.h = omega arith in record { has_arrays = (i.3, (omega arith, omega (arith, i.4.size)), omega arith); viewed = subst (λ (n : ℕ). Viewed c.args.m c.args.arrays c.args.slot (memory c.loop-h.rows c.loop-h.holders c.loop-h.numbers c.args.bytes.now) (Upper n)) (sym e)
-          (viewed-on _ _ _ _ (down c.args.top c.loop-h.h) c.requires.viewed i.5 (λ others v u. down-upper i.1 others v u)) }
+    let e : suc (c.loop-h.h - 1) ≡ c.loop-h.h = omega arith in record {
+      has_arrays = (i.3, (omega arith, omega (arith, i.4.size)), omega arith);
+      viewed = subst (λ (n : ℕ). Viewed c.args.m c.args.arrays c.args.slot (memory c.loop-h.rows c.loop-h.holders c.loop-h.numbers c.args.bytes.now) (Upper n)) (sym e)
+          (viewed-on _ _ _ _ (down c.args.top c.loop-h.h) c.requires.viewed i.5 (λ others v u. down-upper i.1 others v u));
+    }
 
 pub loop-h-smaller : goal.loop-h-smaller
 loop-h-smaller c = omega arith
