@@ -10,7 +10,7 @@ use crate::Two;
 use crate::least_two::{among, none, sift, sift_both};
 use outer::{Candidate, Pair};
 use tables::costs::{cost_of, prepare};
-use tables::settings::{double_all, spread_at};
+use tables::messages::{double_all, spread_at};
 
 // The word of n ones.
 fn ones(n: usize) -> u32

@@ -16,7 +16,7 @@ use passes::least_two::key;
 use passes::pass::find_two;
 use short::bytes::search_bytes;
 use short::flips::{pair_checked, pair_free};
-use tables::settings::walk;
+use tables::messages::walk;
 
 // The least bound above the key of a cost and a number.
 fn after(cost: u32, number: u32) -> u64

@@ -8,7 +8,7 @@ ghost use Rattle.short.specs.Short.{kept, least_key, byte_key, Halves, back_rows
 
 use outer::Candidate;
 use tables::costs::{pairs, value};
-use tables::settings::spread_at;
+use tables::messages::spread_at;
 
 // The keys of all half bytes at four values, from `to` on; a half byte counts `step` in the number.
 fn half_keys(halves: &mut [u32; 256], to: usize, step: u32, s0: i32, s1: i32, s2: i32, s3: i32)

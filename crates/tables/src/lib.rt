@@ -3,4 +3,4 @@
 #![tactic(auto)]
 
 pub mod costs;
-pub mod settings;
+pub mod messages;

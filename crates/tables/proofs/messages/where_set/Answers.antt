@@ -1,9 +1,9 @@
--- `tables::settings::where_set` meets its contract: a number times 0 or 1. Assumes nothing.
+-- `tables::messages::where_set` meets its contract: a number times 0 or 1. Assumes nothing.
 use mathlib.Core.Path.{◌≡◌, sym, ap, ◌∙◌}
 use Prim.Native.Nat.{◌*◌}
 use native.Mathlib.Nat.{mul-zero, mul-one}
 use native.Mathlib.Omega.{arith}
-use Rattle.tables.proofs.settings.where_set.Goals as goal
+use Rattle.tables.proofs.messages.where_set.Goals as goal
 
 pub returns-then-bit-eq0 : goal.returns-then-bit-eq0
 returns-then-bit-eq0 c =

@@ -3,7 +3,7 @@ use Prim.Native.Nat.{◌-◌, ◌*◌, ◌/◌, ◌%◌, ◌^◌, ◌≤◌}
 use lib.ListN.{get_or}
 use lib.Bits.{bit_xor}
 use Rattle.laws.proofs.Stores.{Stored}
-use Rattle.tables.proofs.settings.follow.Given as goal
+use Rattle.tables.proofs.messages.follow.Given as goal
 
 abbrev pub invariant-loop-k : goal.invariant-loop-k
 invariant-loop-k l = (l.k ≤ l.count) × Stored l.initial.words l.words 0 (λ i. bit_xor (get_or l.initial.words i 0) (l.row * (get_or l.initial.sets i 0 / 2 ^ l.t % 2))) l.k × Stored l.initial.sets l.sets 0 (λ i. bit_xor (get_or l.initial.sets i 0) (l.ties * (get_or l.initial.sets i 0 / 2 ^ l.t % 2))) l.k

@@ -1,4 +1,4 @@
--- `tables::settings::advance` meets its contract, by what `follow` ensures. Assumes nothing.
+-- `tables::messages::advance` meets its contract, by what `follow` ensures. Assumes nothing.
 use mathlib.Core.Path.{◌≡◌, sym, ap, ◌∙◌}
 use Prim.Native.Nat.{suc, ◌+◌, ◌^◌}
 use native.Mathlib.Nat.{two-pow-succ}
@@ -6,7 +6,7 @@ use native.Mathlib.Numerals.{add-one}
 use native.Mathlib.Omega.{arith}
 use lib.ListN.{length-set}
 use Rattle.tables.proofs.Advance.{grown-free, grown-other, free-room, other-room, zero-spans, free-spans, tie-spans}
-use Rattle.tables.proofs.settings.advance.Goals as goal
+use Rattle.tables.proofs.messages.advance.Goals as goal
 
 pub overflow_add-words : goal.overflow_add-words
 overflow_add-words c = omega (arith, free-room _ _ c.if-code-eq0.true c.requires.2)

@@ -1,4 +1,4 @@
--- `tables::settings::rows` meets its contract: the table has the rows, by a test that is computed at each entry. Assumes nothing.
+-- `tables::messages::rows` meets its contract: the table has the rows, by a test that is computed at each entry. Assumes nothing.
 use mathlib.Core.Bool.{Bool}
 use mathlib.Core.List.{List, [], ◌∷◌, zip_with}
 use Prim.Native.Nat.{ℕ}
@@ -8,7 +8,7 @@ use Rattle.polar.specs.Bits.{add_bits, number}
 use Rattle.polar.specs.Transform.{transform}
 use Rattle.outer.specs.Search.{unit, row_of}
 use Rattle.outer.proofs.Rows.{every-at}
-use Rattle.tables.proofs.settings.rows.Goals as goal
+use Rattle.tables.proofs.messages.rows.Goals as goal
 
 rows : List ℕ
 rows =

@@ -3,7 +3,7 @@ use Prim.Native.Nat.{◌-◌, ◌≤◌}
 use lib.ListN.{get_or}
 use lib.Bits.{bit_xor}
 use Rattle.laws.proofs.Stores.{Stored}
-use Rattle.tables.proofs.settings.double.Given as goal
+use Rattle.tables.proofs.messages.double.Given as goal
 
 abbrev pub invariant-loop-k : goal.invariant-loop-k
 invariant-loop-k l = (l.k ≤ l.count) × Stored l.initial.table l.table l.count (λ i. bit_xor (get_or l.initial.table i 0) l.mask) l.k

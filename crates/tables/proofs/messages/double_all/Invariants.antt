@@ -3,7 +3,7 @@ use mathlib.Core.Path.{◌≡◌}
 use Prim.Native.Nat.{◌-◌, ◌^◌, ◌≤◌}
 use lib.ListN.{length}
 use Rattle.tables.proofs.Spread.{SettingsFilled}
-use Rattle.tables.proofs.settings.double_all.Given as goal
+use Rattle.tables.proofs.messages.double_all.Given as goal
 
 abbrev pub invariant-loop-left : goal.invariant-loop-left
 invariant-loop-left l = (l.left ≤ l.free) × (length l.table ≡ 256) × (l.count ≡ 2 ^ (l.free - l.left)) × SettingsFilled l.table l.steps l.left (l.free - l.left)

@@ -1,11 +1,11 @@
--- `tables::settings::spread_at` meets its contract. The loop's invariant: what is left to spread, added to the sum so far. Assumes nothing.
+-- `tables::messages::spread_at` meets its contract. The loop's invariant: what is left to spread, added to the sum so far. Assumes nothing.
 use mathlib.Core.Path.{◌≡◌, ap, ◌∙◌}
 use Prim.Native.Nat.{◌-◌, ◌/◌}
 use native.Mathlib.Omega.{arith}
 use lib.Bits.{bit_xor, xor_zero_l}
 use Rattle.outer.specs.Search.{spread}
 use Rattle.tables.proofs.Spread.{spread-last}
-use Rattle.tables.proofs.settings.spread_at.Goals as goal
+use Rattle.tables.proofs.messages.spread_at.Goals as goal
 
 pub loop-left-init : goal.loop-left-init
 loop-left-init c = (omega arith, xor_zero_l _)

@@ -1,11 +1,11 @@
--- `tables::settings::double_all` meets its contract. The loop's invariant: the directions after `left` are spread. Assumes nothing.
+-- `tables::messages::double_all` meets its contract. The loop's invariant: the directions after `left` are spread. Assumes nothing.
 use mathlib.Core.Path.{◌≡◌, sym, ap, ◌∙◌, subst}
 use Prim.Native.Nat.{ℕ, ◌-◌, ◌^◌, ◌≤◌, ◌<◌}
 use native.Mathlib.Omega.{arith}
 use lib.ListN.{get_or, length-set}
 use lib.Pow.{pow_mono}
 use Rattle.tables.proofs.Spread.{SettingsFilled, filled_none, filled_more}
-use Rattle.tables.proofs.settings.double_all.Goals as goal
+use Rattle.tables.proofs.messages.double_all.Goals as goal
 
 pub bounds-steps-0 : goal.bounds-steps-0
 bounds-steps-0 c = omega arith

@@ -1,9 +1,9 @@
--- `tables::settings::double` meets its contract. The loop's invariant: the first k entries after the table are stored. Assumes nothing.
+-- `tables::messages::double` meets its contract. The loop's invariant: the first k entries after the table are stored. Assumes nothing.
 use mathlib.Core.Path.{ap, ◌∙◌}
 use native.Mathlib.Omega.{arith}
 use lib.Bits.{bit_xor}
 use Rattle.laws.proofs.Stores.{stored-none, stored_more}
-use Rattle.tables.proofs.settings.double.Goals as goal
+use Rattle.tables.proofs.messages.double.Goals as goal
 
 pub loop-k-init : goal.loop-k-init
 loop-k-init c = (omega arith, stored-none _ _ _)

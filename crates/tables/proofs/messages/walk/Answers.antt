@@ -1,4 +1,4 @@
--- `tables::settings::walk` meets its contract. The loop's invariant: the short tables span the entries of the first i indices. Assumes nothing.
+-- `tables::messages::walk` meets its contract. The loop's invariant: the short tables span the entries of the first i indices. Assumes nothing.
 use mathlib.Core.Path.{◌≡◌, refl, sym, ap, ◌∙◌}
 use Prim.Native.Nat.{suc, ◌+◌, ◌^◌}
 use native.Mathlib.Numerals.{add-one}
@@ -6,7 +6,7 @@ use native.Mathlib.Omega.{arith}
 use lib.ListN.{get_or, length-set}
 use Rattle.outer.specs.Search.{grown, settings, entry}
 use Rattle.tables.proofs.Advance.{settings-le, spans-first, entry_more}
-use Rattle.tables.proofs.settings.walk.Goals as goal
+use Rattle.tables.proofs.messages.walk.Goals as goal
 
 pub rows-matrix-requires : goal.rows-matrix-requires
 rows-matrix-requires c = tt

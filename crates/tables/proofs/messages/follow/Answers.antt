@@ -1,4 +1,4 @@
--- `tables::settings::follow` meets its contract. The loop's invariant: the first k entries of both tables are done. Assumes nothing.
+-- `tables::messages::follow` meets its contract. The loop's invariant: the first k entries of both tables are done. Assumes nothing.
 use native.Mathlib.Nat.{zero-add}
 use mathlib.Core.Path.{◌≡◌, sym, ap, ap₂, ◌∙◌}
 use mathlib.Core.List.{List}
@@ -7,7 +7,7 @@ use native.Mathlib.Omega.{arith}
 use lib.ListN.{get_or}
 use lib.Bits.{bit_xor}
 use Rattle.laws.proofs.Stores.{Stored, stored-none, stored_more}
-use Rattle.tables.proofs.settings.follow.Goals as goal
+use Rattle.tables.proofs.messages.follow.Goals as goal
 
 pub loop-k-init : goal.loop-k-init
 loop-k-init c = (omega arith, stored-none _ _ _, stored-none _ _ _)
