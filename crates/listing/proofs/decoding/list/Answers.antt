@@ -3,4 +3,4 @@ use borrow.Author.Rules.{rules}
 use Rattle.listing.proofs.decoding.list.Goals as goal
 
 pub list_whole-requires : goal.list_whole-requires
-list_whole-requires c = (c.book_length.ensures.by_index _ c.size-1.given.1).1
+list_whole-requires c = (c.book_length.ensures.by_index _ c.in-Whole.is).1
