@@ -8,7 +8,7 @@ use Rattle.laws.specs.Pairs.{Paired}
 use Rattle.polar.specs.Layers.{part}
 use Rattle.outer.proofs.Blocks.{Placed, placed}
 use Rattle.reader.specs.Arrays.{sums_of}
-use Rattle.reader.specs.Paths.{place, ids_of, view_of}
+use Rattle.reader.specs.Paths.{ids_of, view_of}
 use Rattle.reader.proofs.Descent.{place-last}
 use Rattle.reader.proofs.Rooted.{commit-has}
 use Rattle.order.specs.Entries.{slot_at}

@@ -2,7 +2,6 @@
 use mathlib.Core.Path.{◌∙◌}
 use native.Mathlib.Omega.{arith}
 use lib.ListN.{length}
-use borrow.Author.Rules.{rules}
 use Rattle.polar.specs.Layers.{part}
 use Rattle.attempts.proofs.Judged.{done, given-done, given-not}
 use Rattle.attempts.proofs.verdict.give.Goals as goal

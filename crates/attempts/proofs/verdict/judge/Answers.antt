@@ -1,6 +1,5 @@
 -- `attempts::verdict::judge` meets its contract: by the limit, then by what is read. Assumes nothing.
 use mathlib.Core.Path.{sym, ap, ◌∙◌, subst}
-use borrow.Author.Rules.{rules}
 use Rattle.machine.specs.declared.Reads.{Reads}
 use Rattle.attempts.proofs.Judged.{judged-above, judged-data, judged-record}
 use Rattle.attempts.specs.Attempt.{judged_final, judged_as, RecordIn}

@@ -1,7 +1,6 @@
 -- `reading::run::run` meets its contract: the run's own, with tables that are large enough for its paths and hold zeros. Assumes nothing.
 use Prim.Native.Nat.{ℕ}
 use native.Mathlib.Omega.{arith}
-use borrow.Author.Rules.{rules}
 use lib.ListN.{length-replicate}
 use Rattle.laws.proofs.Lists.{get_d-zeros}
 use Rattle.reading.proofs.run.run.Goals as goal
