@@ -34,10 +34,10 @@ loop-i-preserved c =
     let after = values_ok (drop (i + 1) ys) in (
       omega arith,
       elim c.if-not-value_ok.branch [
-        then-not-value_ok w ↦
-          ap (λ n. eqb n 0 && after) w.faults-is ∙ both_false (eqb f 0) ∙ ap (λ x. eqb f 0 && x) (value-bad ys i (omega arith) (u ∙ w.if-not-value_ok.true)) ∙ c.loop-i.invariant.1
-      | else-not-value_ok w ↦
-          ap (λ n. eqb n 0 && after) w.faults-is ∙ ap (λ x. eqb f 0 && x) (value-good ys i (omega arith) (u ∙ w.if-not-value_ok.false)) ∙ c.loop-i.invariant.1
+        | then-not-value_ok w ↦
+            ap (λ n. eqb n 0 && after) w.faults-is ∙ both_false (eqb f 0) ∙ ap (λ x. eqb f 0 && x) (value-bad ys i (omega arith) (u ∙ w.if-not-value_ok.true)) ∙ c.loop-i.invariant.1
+        | else-not-value_ok w ↦
+            ap (λ n. eqb n 0 && after) w.faults-is ∙ ap (λ x. eqb f 0 && x) (value-good ys i (omega arith) (u ∙ w.if-not-value_ok.false)) ∙ c.loop-i.invariant.1
       ],
     )
 
