@@ -40,7 +40,7 @@ returns-in-Refused c =
     let a = c.args in
     let o = c.in-Refused in
     let t = told _ a.word.now (encode-number a.book.now a.bits.now a.word.now)
-        (encode-refused a.book.now a.bits.now a.word.now o.r (shape-refused a.book.now c.load_kinds-x.result o.r c.load_kinds-x.ensures.value o.is)) in
+    (encode-refused a.book.now a.bits.now a.word.now o.r (shape-refused a.book.now c.load_kinds-x.result o.r c.load_kinds-x.ensures.value o.is)) in
     record { fact = t.0; number = t.1 }
 
 pub returns-then-not-both_fit : goal.returns-then-not-both_fit
@@ -49,7 +49,7 @@ returns-then-not-both_fit c =
     let x = goal.at.returns-then-not-both_fit c in
     let K = known x.In_default in
     let t = told _ a.word.now (encode-number a.book.now a.bits.now a.word.now)
-        (encode-mismatch a.book.now a.bits.now a.word.now K.is K.loads (fits x.After-both_fit K) c.if-not-both_fit.true) in
+    (encode-mismatch a.book.now a.bits.now a.word.now K.is K.loads (fits x.After-both_fit K) c.if-not-both_fit.true) in
     record { fact = t.0; number = t.1 }
 
 pub returns-then-not-are_bits : goal.returns-then-not-are_bits
@@ -58,7 +58,7 @@ returns-then-not-are_bits c =
     let x = goal.at.returns-then-not-are_bits c in
     let K = known x.In_default in
     let t = told _ a.word.now (encode-number a.book.now a.bits.now a.word.now)
-        (encode-bad a.book.now a.bits.now a.word.now K.is K.loads (fits x.After-both_fit K) c.if-not-both_fit.false (sym c.are_bits.ensures ∙ c.if-not-are_bits.true)) in
+    (encode-bad a.book.now a.bits.now a.word.now K.is K.loads (fits x.After-both_fit K) c.if-not-both_fit.false (sym c.are_bits.ensures ∙ c.if-not-are_bits.true)) in
     record { fact = t.0; number = t.1 }
 
 pub fill-requires : goal.fill-requires
@@ -93,6 +93,6 @@ returns c =
     let z = passed x.Else-not-are_bits K q in
     let e = c.transform.ensures ∙ ap₂ transform K.height (filled x.After-fill K z) in
     let t = told Done c.transform.new.c (encode-number a.book.now a.bits.now a.word.now)
-        (encode-good a.book.now a.bits.now a.word.now K.is K.loads q c.if-not-both_fit.false (sym c.are_bits.ensures ∙ c.if-not-are_bits.false)
-        ∙ ap (λ v. record { outcome = Done; buffer = v }) (sym e)) in
+    (encode-good a.book.now a.bits.now a.word.now K.is K.loads q c.if-not-both_fit.false (sym c.are_bits.ensures ∙ c.if-not-are_bits.false)
+    ∙ ap (λ v. record { outcome = Done; buffer = v }) (sym e)) in
     record { fact = t.0; number = t.1 }

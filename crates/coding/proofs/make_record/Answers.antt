@@ -31,7 +31,7 @@ returns-in-Refused c =
     let a = c.args in
     let o = c.in-Refused in
     let t = told _ a.bits.now (make-record-number a.book.now a.h a.bits.now)
-        (make-refused a.book.now a.bits.now a.h o.r (shape-refused a.book.now c.load-x.result o.r c.load-x.ensures.value o.is)) in
+    (make-refused a.book.now a.bits.now a.h o.r (shape-refused a.book.now c.load-x.result o.r c.load-x.ensures.value o.is)) in
     record { fact = t.0; number = t.1 }
 
 pub returns-then-not-both_fit : goal.returns-then-not-both_fit
@@ -40,7 +40,7 @@ returns-then-not-both_fit c =
     let x = goal.at.returns-then-not-both_fit c in
     let K = known x.In_default in
     let t = told _ a.bits.now (make-record-number a.book.now a.h a.bits.now)
-        (make-mismatch a.book.now a.bits.now K.is K.loads (fits x.After-both_fit K) a.h c.if-not-both_fit.true) in
+    (make-mismatch a.book.now a.bits.now K.is K.loads (fits x.After-both_fit K) a.h c.if-not-both_fit.true) in
     record { fact = t.0; number = t.1 }
 
 pub returns-then-not-record_fits : goal.returns-then-not-record_fits
@@ -49,7 +49,7 @@ returns-then-not-record_fits c =
     let x = goal.at.returns-then-not-record_fits c in
     let K = known x.In_default in
     let t = told _ a.bits.now (make-record-number a.book.now a.h a.bits.now)
-        (make-bad a.book.now a.bits.now K.is K.loads (fits x.After-both_fit K) a.h c.if-not-both_fit.false (sym c.record_fits.ensures ∙ c.if-not-record_fits.true)) in
+    (make-bad a.book.now a.bits.now K.is K.loads (fits x.After-both_fit K) a.h c.if-not-both_fit.false (sym c.record_fits.ensures ∙ c.if-not-record_fits.true)) in
     record { fact = t.0; number = t.1 }
 
 pub put_record-requires : goal.put_record-requires
@@ -64,6 +64,6 @@ returns c =
     let x = goal.at.returns c in
     let K = known x.In_default in
     let t = told Done c.put_record.new.bits (make-record-number a.book.now a.h a.bits.now)
-        (make-good a.book.now a.bits.now K.is K.loads (fits x.After-both_fit K) a.h c.if-not-both_fit.false (sym c.record_fits.ensures ∙ c.if-not-record_fits.false)
-        ∙ ap (λ v. record { outcome = Done; buffer = v }) (sym c.put_record.ensures)) in
+    (make-good a.book.now a.bits.now K.is K.loads (fits x.After-both_fit K) a.h c.if-not-both_fit.false (sym c.record_fits.ensures ∙ c.if-not-record_fits.false)
+    ∙ ap (λ v. record { outcome = Done; buffer = v }) (sym c.put_record.ensures)) in
     record { fact = t.0; number = t.1 }

@@ -42,7 +42,7 @@ returns-in-Refused c =
     let a = c.args in
     let o = c.in-Refused in
     let t = told _ a.bits.now (read-data-number a.book.now a.word.now a.bits.now)
-        (read-refused a.book.now a.bits.now a.word.now o.r (shape-refused a.book.now c.load_kinds-x.result o.r c.load_kinds-x.ensures.value o.is)) in
+    (read-refused a.book.now a.bits.now a.word.now o.r (shape-refused a.book.now c.load_kinds-x.result o.r c.load_kinds-x.ensures.value o.is)) in
     record { fact = t.0; number = t.1 }
 
 pub returns-then-not-both_fit : goal.returns-then-not-both_fit
@@ -51,7 +51,7 @@ returns-then-not-both_fit c =
     let x = goal.at.returns-then-not-both_fit c in
     let K = known x.In_default in
     let t = told _ a.bits.now (read-data-number a.book.now a.word.now a.bits.now)
-        (read-mismatch a.book.now a.bits.now a.word.now K.is K.loads (fits x.After-both_fit K) c.if-not-both_fit.true) in
+    (read-mismatch a.book.now a.bits.now a.word.now K.is K.loads (fits x.After-both_fit K) c.if-not-both_fit.true) in
     record { fact = t.0; number = t.1 }
 
 pub returns-then-not-are_bits : goal.returns-then-not-are_bits
@@ -60,7 +60,7 @@ returns-then-not-are_bits c =
     let x = goal.at.returns-then-not-are_bits c in
     let K = known x.In_default in
     let t = told _ a.bits.now (read-data-number a.book.now a.word.now a.bits.now)
-        (read-bad a.book.now a.bits.now a.word.now K.is K.loads (fits x.After-both_fit K) c.if-not-both_fit.false (sym c.are_bits.ensures ∙ c.if-not-are_bits.true)) in
+    (read-bad a.book.now a.bits.now a.word.now K.is K.loads (fits x.After-both_fit K) c.if-not-both_fit.false (sym c.are_bits.ensures ∙ c.if-not-are_bits.true)) in
     record { fact = t.0; number = t.1 }
 
 pub slice_bounds-u-end : goal.slice_bounds-u-end
@@ -95,6 +95,6 @@ returns c =
     let z = passed x.Else-not-are_bits K q in
     let e = c.data_of.ensures.bits_after _ z.0.coded z.1 z.2 ∙ ap (λ m. free_bits K.is.kinds (transform m a.word.now)) K.height in
     let t = told Done c.data_of.new.bits (read-data-number a.book.now a.word.now a.bits.now)
-        (read-good a.book.now a.bits.now a.word.now K.is K.loads q c.if-not-both_fit.false (sym c.are_bits.ensures ∙ c.if-not-are_bits.false)
-        ∙ ap (λ v. record { outcome = Done; buffer = v }) (sym e)) in
+    (read-good a.book.now a.bits.now a.word.now K.is K.loads q c.if-not-both_fit.false (sym c.are_bits.ensures ∙ c.if-not-are_bits.false)
+    ∙ ap (λ v. record { outcome = Done; buffer = v }) (sym e)) in
     record { fact = t.0; number = t.1 }

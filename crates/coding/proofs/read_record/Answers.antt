@@ -29,7 +29,7 @@ returns-in-Refused c =
     let a = c.args in
     let o = c.in-Refused in
     let t = record-told a.book.now a.bits.now
-        (c.not_read.ensures ∙ record-refused a.book.now a.bits.now o.r (shape-refused a.book.now c.load-x.result o.r c.load-x.ensures.value o.is)) in
+    (c.not_read.ensures ∙ record-refused a.book.now a.bits.now o.r (shape-refused a.book.now c.load-x.result o.r c.load-x.ensures.value o.is)) in
     record { value = t.0; number = t.1 }
 
 pub returns-then-not-both_fit : goal.returns-then-not-both_fit
@@ -38,7 +38,7 @@ returns-then-not-both_fit c =
     let x = goal.at.returns-then-not-both_fit c in
     let K = known x.In_default in
     let t = record-told a.book.now a.bits.now
-        (c.not_read-then-not-both_fit.ensures ∙ record-mismatch a.book.now a.bits.now K.is K.loads (fits x.After-both_fit K) c.if-not-both_fit.true) in
+    (c.not_read-then-not-both_fit.ensures ∙ record-mismatch a.book.now a.bits.now K.is K.loads (fits x.After-both_fit K) c.if-not-both_fit.true) in
     record { value = t.0; number = t.1 }
 
 pub returns-then-not-are_bits : goal.returns-then-not-are_bits
@@ -47,8 +47,8 @@ returns-then-not-are_bits c =
     let x = goal.at.returns-then-not-are_bits c in
     let K = known x.In_default in
     let t = record-told a.book.now a.bits.now
-        (c.not_read-then-not-are_bits.ensures
-        ∙ record-bad a.book.now a.bits.now K.is K.loads (fits x.After-both_fit K) c.if-not-both_fit.false (sym c.are_bits.ensures ∙ c.if-not-are_bits.true)) in
+    (c.not_read-then-not-are_bits.ensures
+    ∙ record-bad a.book.now a.bits.now K.is K.loads (fits x.After-both_fit K) c.if-not-both_fit.false (sym c.are_bits.ensures ∙ c.if-not-are_bits.true)) in
     record { value = t.0; number = t.1 }
 
 pub record_of-requires : goal.record_of-requires
@@ -63,6 +63,6 @@ returns c =
     let x = goal.at.returns c in
     let K = known x.In_default in
     let t = record-told a.book.now a.bits.now
-        (c.record_of.ensures
-        ∙ record-good a.book.now a.bits.now K.is K.loads (fits x.After-both_fit K) c.if-not-both_fit.false (sym c.are_bits.ensures ∙ c.if-not-are_bits.false)) in
+    (c.record_of.ensures
+    ∙ record-good a.book.now a.bits.now K.is K.loads (fits x.After-both_fit K) c.if-not-both_fit.false (sym c.are_bits.ensures ∙ c.if-not-are_bits.false)) in
     record { value = t.0; number = t.1 }

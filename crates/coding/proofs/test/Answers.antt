@@ -41,7 +41,7 @@ returns-in-Refused c =
     let a = c.args in
     let o = c.in-Refused in
     let t = test-told a.book.now a.word.now
-        (test-refused a.book.now a.word.now o.r (shape-refused a.book.now c.load_kinds-x.result o.r c.load_kinds-x.ensures.value o.is)) in
+    (test-refused a.book.now a.word.now o.r (shape-refused a.book.now c.load_kinds-x.result o.r c.load_kinds-x.ensures.value o.is)) in
     record { value = t.0; number = t.1.0; exactly = t.1.1 }
 
 pub returns-then-word-n : goal.returns-then-word-n
@@ -56,7 +56,7 @@ returns-then-not-are_bits c =
     let a = c.args in
     let K = known (goal.at.returns-then-not-are_bits c).In_default in
     let t = test-told a.book.now a.word.now
-        (test-bad a.book.now a.word.now K.is K.loads (c.if-word-n.false ∙ K.size) (sym c.are_bits.ensures ∙ c.if-not-are_bits.true)) in
+    (test-bad a.book.now a.word.now K.is K.loads (c.if-word-n.false ∙ K.size) (sym c.are_bits.ensures ∙ c.if-not-are_bits.true)) in
     record { value = t.0; number = t.1.0; exactly = t.1.1 }
 
 pub slice_bounds-u-end : goal.slice_bounds-u-end

@@ -78,10 +78,10 @@ loop-again c =
           let s = c.before.before.before.before.before.before.before.before.before.before in
           let j = c.before.before.before.if-code-eq0 in
           let filled : PartFilled ks s.args.bits.now (take x.i x.word ++ j.b ∷ []) (x.i + 1) j.next (absorbed x.parities j.b (get_or s.args.terms.now x.i 0)) =
-              elim j.branch [
-                then-code-eq0 v ↦ rw (v.next-is, v.b-is) (fill-free T F h v.if-code-eq0.true s.requires.1)
-              | else-code-eq0 v ↦ rw (v.next-is, v.b-is, v.forced-b.ensures) (fill-forced T F h v.if-code-eq0.false)
-              ] in
+          elim j.branch [
+            | then-code-eq0 v ↦ rw (v.next-is, v.b-is) (fill-free T F h v.if-code-eq0.true s.requires.1)
+            | else-code-eq0 v ↦ rw (v.next-is, v.b-is, v.forced-b.ensures) (fill-forced T F h v.if-code-eq0.false)
+          ] in
           rw (add-one x.i, take-suc-set x.word x.i j.b (omega arith), c.absorbed-parities.ensures) (rw (add-one x.i) at filled),
     )
 

@@ -56,15 +56,15 @@ loop-again c =
     let x = c.before.before.before.before.loop-i in (
       omega arith,
       elim c.if-kinds-i-eq0.branch [
-        then-kinds-i-eq0 v ↦ ap length v.bits-is ∙ length-set x.bits x.next _ ∙ x.invariant.1
-      | else-kinds-i-eq0 v ↦ ap length v.bits-is ∙ x.invariant.1
+        | then-kinds-i-eq0 v ↦ ap length v.bits-is ∙ length-set x.bits x.next _ ∙ x.invariant.1
+        | else-kinds-i-eq0 v ↦ ap length v.bits-is ∙ x.invariant.1
       ],
       λ ks C w f.
           let R = x.invariant.2 ks C w f in
           let h : x.i < length ks = omega arith in
           elim c.if-kinds-i-eq0.branch [
-            then-kinds-i-eq0 v ↦ rw (v.bits-is, v.next-is) (read-free C R h w v.if-kinds-i-eq0.true)
-          | else-kinds-i-eq0 v ↦ rw (v.bits-is, v.next-is) (read-other C R h w v.if-kinds-i-eq0.false)
+            | then-kinds-i-eq0 v ↦ rw (v.bits-is, v.next-is) (read-free C R h w v.if-kinds-i-eq0.true)
+            | else-kinds-i-eq0 v ↦ rw (v.bits-is, v.next-is) (read-other C R h w v.if-kinds-i-eq0.false)
           ],
     )
 

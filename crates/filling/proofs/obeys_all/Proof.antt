@@ -67,8 +67,8 @@ loop-again c =
           let bits = c.before.before.before.before.before.before.before.before.before.before.requires.1 in
           rw c.absorbed-parities.ensures
           (elim c.if-code-ne0.branch [
-            then-code-ne0+else-bit-forced v ↦ obey-right T O h w v.if-code-ne0.true (v.if-bit-forced.false ∙ v.forced.ensures) bits
-          | else-code-ne0 v ↦ obey-free T O h w v.if-code-ne0.false bits
+            | then-code-ne0+else-bit-forced v ↦ obey-right T O h w v.if-code-ne0.true (v.if-bit-forced.false ∙ v.forced.ensures) bits
+            | else-code-ne0 v ↦ obey-free T O h w v.if-code-ne0.false bits
           ]),
     )
 

@@ -1,9 +1,9 @@
 -- `checks::tests::lengths_ok` meets its contract: each refusal by the length that is wrong, the last answer by the lengths that were right
 -- before it. The products stay small by the bounds on their factors. Assumes nothing.
-use mathlib.Core.Path.{◌≡◌, sym, ◌∙◌}
+use mathlib.Core.Path.{◌≡◌}
 use mathlib.Core.Logic.{inl, inr}
 use mathlib.Core.Bool.{false}
-use Prim.Native.Nat.{◌+◌, ◌*◌, ◌≤◌}
+use Prim.Native.Nat.{◌≤◌}
 use native.Mathlib.Nat.{not-le_of_lt}
 use native.Mathlib.Omega.{arith}
 use Rattle.laws.proofs.Tells.{tells-le, alike, fails}
@@ -17,9 +17,9 @@ pub returns-then-l-n : goal.returns-then-l-n
 returns-then-l-n c =
     fails (lengths-tell c.args.x c.args.s c.args.l)
     (λ s. elim c.then-l-n.branch [
-      then-l-n-via-then-l-n w ↦ w.if-l-n.true s.values
-    | then-l-n-via-else-l-n+then-l-n-2 w ↦ w.if-l-n-2.true s.word
-    | then-l-n-via-else-l-n+else-l-n-2+then-l-k w ↦ w.if-l-k.true s.bits
+      | then-l-n-via-then-l-n w ↦ w.if-l-n.true s.values
+      | then-l-n-via-else-l-n+then-l-n-2 w ↦ w.if-l-n-2.true s.word
+      | then-l-n-via-else-l-n+else-l-n-2+then-l-k w ↦ w.if-l-k.true s.bits
     ])
 
 -- a workspace that is short
@@ -28,8 +28,8 @@ unfolding numbers_needed bytes_needed
 returns-then-l-paths c =
     fails (lengths-tell c.args.x c.args.s c.args.l)
     (λ s. elim c.then-l-paths.branch [
-      then-l-paths-via-then-l-paths w ↦ not-le_of_lt w.if-l-paths.true s.numbers
-    | then-l-paths-via-else-l-paths+then-l-paths-2 w ↦ not-le_of_lt w.if-l-paths-2.true s.bytes
+      | then-l-paths-via-then-l-paths w ↦ not-le_of_lt w.if-l-paths.true s.numbers
+      | then-l-paths-via-else-l-paths+then-l-paths-2 w ↦ not-le_of_lt w.if-l-paths-2.true s.bytes
     ])
 
 -- all but the scores are right: the answer is theirs
@@ -60,9 +60,9 @@ returns-else-walk-l-2 c =
     let w = c.walk_needed-walk.result in
     let e : w ≡ walk_needed c.args.x c.args.s = c.walk_needed-walk.ensures in
     let short : false ≡ lengths_ok c.args.x c.args.s c.args.l =
-        fails (lengths-tell c.args.x c.args.s c.args.l)
-        (λ s. elim c.if-walk-l-2.either [
-          inl v ↦ not-le_of_lt v.1 (omega (arith, e, s.blocks))
-        | inr v ↦ not-le_of_lt v (omega (arith, e, s.paths))
-        ]) in
+    fails (lengths-tell c.args.x c.args.s c.args.l)
+    (λ s. elim c.if-walk-l-2.either [
+      | inl v ↦ not-le_of_lt v.1 (omega (arith, e, s.blocks))
+      | inr v ↦ not-le_of_lt v (omega (arith, e, s.paths))
+    ]) in
     elim c.if-walk-l.branch [ then-walk-l v ↦ grind arith | else-walk-l v ↦ grind arith ]

@@ -2,13 +2,12 @@
 -- are good. Assumes nothing.
 use mathlib.Core.Path.{◌≡◌, refl, sym, ap, ◌∙◌}
 use mathlib.Core.Bool.{Bool, true, false, ◌&&◌}
-use Prim.Native.Nat.{◌+◌, ◌-◌, ◌≤◌}
+use Prim.Native.Nat.{◌+◌}
 use native.Mathlib.Omega.{arith}
-use lib.IntN.{ℤ, pos, nat_abs}
-use lib.ListN.{length, get_or, drop}
+use lib.IntN.{pos, nat_abs}
+use lib.ListN.{get_or, drop}
 use lib.Dec.{leb, eqb}
 use mir.Syntax.{w16}
-use mir.Val.{to_z, of_z}
 use mir.Facts.{to_z-of_z}
 use borrow.Author.Rules.{rules}
 use Rattle.machine.specs.Calls.{values_ok}
@@ -34,10 +33,10 @@ loop-i-preserved c =
     let after = values_ok (drop (i + 1) ys) in (
       omega arith,
       elim c.if-not-value_ok.branch [
-        then-not-value_ok w ↦
-          ap (λ n. eqb n 0 && after) w.faults-is ∙ both_false (eqb f 0) ∙ ap (λ x. eqb f 0 && x) (value-bad ys i (omega arith) (u ∙ w.if-not-value_ok.true)) ∙ c.loop-i.invariant.1
-      | else-not-value_ok w ↦
-          ap (λ n. eqb n 0 && after) w.faults-is ∙ ap (λ x. eqb f 0 && x) (value-good ys i (omega arith) (u ∙ w.if-not-value_ok.false)) ∙ c.loop-i.invariant.1
+        | then-not-value_ok w ↦
+            ap (λ n. eqb n 0 && after) w.faults-is ∙ both_false (eqb f 0) ∙ ap (λ x. eqb f 0 && x) (value-bad ys i (omega arith) (u ∙ w.if-not-value_ok.true)) ∙ c.loop-i.invariant.1
+        | else-not-value_ok w ↦
+            ap (λ n. eqb n 0 && after) w.faults-is ∙ ap (λ x. eqb f 0 && x) (value-good ys i (omega arith) (u ∙ w.if-not-value_ok.false)) ∙ c.loop-i.invariant.1
       ],
     )
 
