@@ -1,11 +1,7 @@
 -- The loop invariants of copy, and what falls at each turn.
-use mathlib.Core.Path.{◌≡◌, refl, sym, ap, ◌∙◌}
-use mathlib.Core.List.{[], ◌∷◌, ◌++◌}
+use mathlib.Core.Path.{◌≡◌}
 use Prim.Native.Nat.{◌-◌, ◌≤◌}
-use native.Mathlib.Numerals.{add-one}
-use native.Mathlib.Omega.{arith}
-use lib.ListN.{length, get_or, take, length-set}
-use lib.Seq.{take_all, take-suc, take-suc-set}
+use lib.ListN.{length, take}
 use Rattle.coding.proofs.copy.Given as goal
 
 abbrev pub invariant-loop-i : goal.invariant-loop-i

@@ -1,6 +1,5 @@
 -- `answers::numbers::tested_number` meets its contract: each case has its number. Assumes nothing.
 use mathlib.Core.Path.{sym, ap}
-use borrow.Author.Rules.{rules}
 use Rattle.codec.specs.Numbers.{tested_number}
 use Rattle.answers.proofs.numbers.tested_number.Goals as goal
 

@@ -1,7 +1,6 @@
 -- `answers::put::put_counts` meets its contract: four writes where the slice has four entries, none where it has not. Assumes nothing.
 use mathlib.Core.Path.{sym, ◌∙◌}
 use lib.ListN.{length}
-use borrow.Author.Rules.{rules}
 use Rattle.answers.specs.Slices.{counts_slice, filled}
 use Rattle.answers.proofs.Slices.{four, fourth, at_length, at_other}
 use Rattle.answers.proofs.put.put_counts.Goals as goal

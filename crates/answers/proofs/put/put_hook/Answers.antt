@@ -2,7 +2,6 @@
 use mathlib.Core.Path.{sym, ◌∙◌, ap}
 use mathlib.Core.List.{[], ◌∷◌}
 use lib.ListN.{length}
-use borrow.Author.Rules.{rules}
 use Rattle.answers.specs.Slices.{record_slice, filled}
 use Rattle.answers.proofs.Slices.{four, fourth, at_length, at_other}
 use Rattle.answers.proofs.put.put_hook.Goals as goal

@@ -1,6 +1,5 @@
 -- `checks::admission::all_fit` meets its contract: by the test that fails, or the last one. Assumes nothing.
 use mathlib.Core.Path.{sym, ◌∙◌}
-use borrow.Author.Rules.{rules}
 use Rattle.checks.specs.Checks.{fitting}
 use Rattle.checks.proofs.Chains.{first-fails, second-fails, third-decides}
 use Rattle.checks.proofs.admission.all_fit.Goals as goal

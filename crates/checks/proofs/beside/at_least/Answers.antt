@@ -1,6 +1,5 @@
 -- `checks::beside::at_least` meets its contract: by what is lent. Assumes nothing.
 use mathlib.Core.Path.{refl}
-use borrow.Author.Rules.{rules}
 use Rattle.machine.specs.Calls.{at_least}
 use Rattle.checks.proofs.beside.at_least.Goals as goal
 

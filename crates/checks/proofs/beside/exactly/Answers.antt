@@ -1,6 +1,5 @@
 -- `checks::beside::exactly` meets its contract: by what is lent. Assumes nothing.
 use mathlib.Core.Path.{refl}
-use borrow.Author.Rules.{rules}
 use Rattle.machine.specs.Calls.{exactly}
 use Rattle.checks.proofs.beside.exactly.Goals as goal
 

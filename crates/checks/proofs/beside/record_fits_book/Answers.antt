@@ -1,6 +1,5 @@
 -- `checks::beside::record_fits_book` meets its contract: by what is read. Assumes nothing.
 use mathlib.Core.Path.{refl}
-use borrow.Author.Rules.{rules}
 use Rattle.machine.specs.Calls.{holds}
 use Rattle.checks.proofs.beside.record_fits_book.Goals as goal
 

@@ -1,10 +1,8 @@
 -- `checks::buffers::clear_bytes` meets its contract. The loop's invariant: i zeros are written over the start, and the rest is as it was. Assumes
 -- nothing.
-use mathlib.Core.Path.{◌≡◌, refl}
-use Prim.Native.Nat.{◌-◌, ◌≤◌}
+use mathlib.Core.Path.{refl}
 use native.Mathlib.Omega.{arith}
-use lib.ListN.{length, length-set, replicate}
-use Rattle.laws.specs.Lists.{over}
+use lib.ListN.{length-set}
 use Rattle.checks.proofs.Cleared.{none_written, clear-more, cleared}
 use Rattle.checks.proofs.buffers.clear_bytes.Goals as goal
 

@@ -1,10 +1,8 @@
 -- The loop invariants of buffers.clear_bytes, and what falls at each turn.
-use mathlib.Core.Path.{◌≡◌, refl}
+use mathlib.Core.Path.{◌≡◌}
 use Prim.Native.Nat.{◌-◌, ◌≤◌}
-use native.Mathlib.Omega.{arith}
-use lib.ListN.{length, length-set, replicate}
+use lib.ListN.{length, replicate}
 use Rattle.laws.specs.Lists.{over}
-use Rattle.checks.proofs.Cleared.{none_written, clear-more, cleared}
 use Rattle.checks.proofs.buffers.clear_bytes.Given as goal
 
 abbrev pub invariant-loop-i : goal.invariant-loop-i

@@ -1,11 +1,9 @@
 -- `checks::buffers::clear_numbers` meets its contract. The loop's invariant: i zeros are written over the start, and the rest is as it was.
 -- Assumes nothing.
-use mathlib.Core.Path.{◌≡◌, refl}
-use Prim.Native.Nat.{◌-◌, ◌≤◌}
+use mathlib.Core.Path.{refl}
 use native.Mathlib.Omega.{arith}
-use lib.ListN.{length, length-set, replicate}
+use lib.ListN.{length-set}
 use lib.IntN.{pos}
-use Rattle.laws.specs.Lists.{over}
 use Rattle.checks.proofs.Cleared.{none_written, clear-more, cleared}
 use Rattle.checks.proofs.buffers.clear_numbers.Goals as goal
 

@@ -1,11 +1,9 @@
 -- The loop invariants of buffers.clear_numbers, and what falls at each turn.
-use mathlib.Core.Path.{◌≡◌, refl}
+use mathlib.Core.Path.{◌≡◌}
 use Prim.Native.Nat.{◌-◌, ◌≤◌}
-use native.Mathlib.Omega.{arith}
-use lib.ListN.{length, length-set, replicate}
+use lib.ListN.{length, replicate}
 use lib.IntN.{pos}
 use Rattle.laws.specs.Lists.{over}
-use Rattle.checks.proofs.Cleared.{none_written, clear-more, cleared}
 use Rattle.checks.proofs.buffers.clear_numbers.Given as goal
 
 abbrev pub invariant-loop-i : goal.invariant-loop-i

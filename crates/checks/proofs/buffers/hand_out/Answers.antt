@@ -1,11 +1,8 @@
 -- `checks::buffers::hand_out` meets its contract. The loop's invariant: the first i bytes from `at` on are written over the start of the word.
 -- Assumes nothing.
-use mathlib.Core.Path.{◌≡◌, refl}
-use Prim.Native.Nat.{◌-◌, ◌≤◌}
+use mathlib.Core.Path.{refl}
 use native.Mathlib.Omega.{arith}
-use lib.ListN.{length, length-set}
-use Rattle.laws.specs.Lists.{over}
-use Rattle.polar.specs.Layers.{part}
+use lib.ListN.{length-set}
 use Rattle.checks.proofs.Cleared.{none-handed, hand-more, handed}
 use Rattle.checks.proofs.buffers.hand_out.Goals as goal
 

@@ -1,11 +1,9 @@
 -- The loop invariants of buffers.hand_out, and what falls at each turn.
-use mathlib.Core.Path.{◌≡◌, refl}
+use mathlib.Core.Path.{◌≡◌}
 use Prim.Native.Nat.{◌-◌, ◌≤◌}
-use native.Mathlib.Omega.{arith}
-use lib.ListN.{length, length-set}
+use lib.ListN.{length}
 use Rattle.laws.specs.Lists.{over}
 use Rattle.polar.specs.Layers.{part}
-use Rattle.checks.proofs.Cleared.{none-handed, hand-more, handed}
 use Rattle.checks.proofs.buffers.hand_out.Given as goal
 
 abbrev pub invariant-loop-i : goal.invariant-loop-i

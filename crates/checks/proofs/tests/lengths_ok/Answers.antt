@@ -1,9 +1,9 @@
 -- `checks::tests::lengths_ok` meets its contract: each refusal by the length that is wrong, the last answer by the lengths that were right
 -- before it. The products stay small by the bounds on their factors. Assumes nothing.
-use mathlib.Core.Path.{◌≡◌, sym, ◌∙◌}
+use mathlib.Core.Path.{◌≡◌}
 use mathlib.Core.Logic.{inl, inr}
 use mathlib.Core.Bool.{false}
-use Prim.Native.Nat.{◌+◌, ◌*◌, ◌≤◌}
+use Prim.Native.Nat.{◌≤◌}
 use native.Mathlib.Nat.{not-le_of_lt}
 use native.Mathlib.Omega.{arith}
 use Rattle.laws.proofs.Tells.{tells-le, alike, fails}

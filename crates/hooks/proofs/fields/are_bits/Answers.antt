@@ -1,9 +1,6 @@
 -- `hooks::fields::are_bits` meets its contract. The loop's invariant: whether all are bits goes by those from i on. Assumes nothing.
-use mathlib.Core.Path.{◌≡◌, refl, ◌∙◌}
-use Prim.Native.Nat.{◌-◌, ◌≤◌}
+use mathlib.Core.Path.{refl, ◌∙◌}
 use native.Mathlib.Omega.{arith}
-use lib.ListN.{length, drop}
-use Rattle.codec.specs.Calls.{are_bits}
 use Rattle.hooks.proofs.Parts.{bits-next, bits-not, bits-end}
 use Rattle.hooks.proofs.fields.are_bits.Goals as goal
 

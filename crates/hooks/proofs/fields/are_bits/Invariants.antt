@@ -1,10 +1,8 @@
 -- The loop invariants of fields.are_bits, and what falls at each turn.
-use mathlib.Core.Path.{◌≡◌, refl, ◌∙◌}
+use mathlib.Core.Path.{◌≡◌}
 use Prim.Native.Nat.{◌-◌, ◌≤◌}
-use native.Mathlib.Omega.{arith}
 use lib.ListN.{length, drop}
 use Rattle.codec.specs.Calls.{are_bits}
-use Rattle.hooks.proofs.Parts.{bits-next, bits-not, bits-end}
 use Rattle.hooks.proofs.fields.are_bits.Given as goal
 
 abbrev pub invariant-loop-i : goal.invariant-loop-i

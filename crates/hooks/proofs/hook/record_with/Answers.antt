@@ -1,6 +1,5 @@
 -- `hooks::hook::record_with` meets its contract: by the spare bits, and field by field. Assumes nothing.
 use mathlib.Core.Path.{refl, sym, ◌∙◌}
-use borrow.Author.Rules.{rules}
 use borrow.Author.Tests.{eq-eqb, ne_eqb}
 use Rattle.codec.specs.Record.{field_at, record_with}
 use Rattle.codec.specs.Calls.{record_read}

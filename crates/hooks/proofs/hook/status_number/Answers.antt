@@ -1,6 +1,5 @@
 -- `hooks::hook::status_number` meets its contract: each case has its number. Assumes nothing.
 use mathlib.Core.Path.{sym, ap}
-use borrow.Author.Rules.{rules}
 use Rattle.codec.specs.Record.{status_number}
 use Rattle.hooks.proofs.hook.status_number.Goals as goal
 
