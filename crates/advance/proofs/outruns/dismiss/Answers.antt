@@ -1,18 +1,15 @@
 -- `advance::outruns::dismiss` meets its contract. The loop's invariant: the paths of the first i entries are passed, and those of them with b
 -- blocks or fewer are gone. Assumes nothing.
 use mathlib.Core.Path.{◌≡◌, sym, ap, ◌∙◌}
-use mathlib.Core.List.{List, ◌∷◌}
-use Prim.Native.Nat.{ℕ, suc, ◌+◌, ◌-◌, ◌≤◌}
+use mathlib.Core.List.{◌∷◌}
+use Prim.Native.Nat.{suc, ◌+◌, ◌-◌}
 use native.Mathlib.Nat.{sub-zero}
 use native.Mathlib.Omega.{arith}
-use lib.IntN.{ℤ}
-use lib.ListN.{length, set, length-set}
+use lib.ListN.{set, length-set}
 use Rattle.order.specs.Entries.{queue_of}
 use Rattle.order.proofs.Queues.{queue-put}
-use Rattle.sharing.specs.Sharing.{Held}
 use Rattle.standing.specs.Seen.{memory}
-use Rattle.steps.specs.Steps.{Queued}
-use Rattle.advance.proofs.Dismissals.{Passed, passed_none, passed-all, next-slot, next-held, passed-out, passed-in}
+use Rattle.advance.proofs.Dismissals.{passed_none, passed-all, next-slot, next-held, passed-out, passed-in}
 use Rattle.advance.proofs.outruns.dismiss.Goals as goal
 use Rattle.advance.proofs.outruns.dismiss.Goals.{then-blocks_of-b, else-blocks_of-b}
 

@@ -1,18 +1,14 @@
 -- The loop invariants of outruns.dismiss, and what falls at each turn.
-use mathlib.Core.Path.{◌≡◌, sym, ap, ◌∙◌}
-use mathlib.Core.List.{List, ◌∷◌}
-use mathlib.Core.Logic.{⊎_elim}
-use Prim.Native.Nat.{ℕ, suc, ◌+◌, ◌-◌, ◌≤◌}
-use native.Mathlib.Nat.{sub-zero}
-use native.Mathlib.Omega.{arith}
+use mathlib.Core.Path.{◌≡◌}
+use mathlib.Core.List.{List}
+use Prim.Native.Nat.{ℕ, ◌+◌, ◌-◌, ◌≤◌}
 use lib.IntN.{ℤ}
-use lib.ListN.{length, set, length-set}
+use lib.ListN.{length}
 use Rattle.order.specs.Entries.{queue_of}
-use Rattle.order.proofs.Queues.{queue-put}
 use Rattle.sharing.specs.Sharing.{Held}
 use Rattle.standing.specs.Seen.{memory}
 use Rattle.steps.specs.Steps.{Queued}
-use Rattle.advance.proofs.Dismissals.{Passed, passed_none, passed-all, next-slot, next-held, passed-out, passed-in}
+use Rattle.advance.proofs.Dismissals.{Passed}
 use Rattle.advance.proofs.outruns.dismiss.Given as goal
 
 abbrev pub invariant-loop-i : goal.invariant-loop-i

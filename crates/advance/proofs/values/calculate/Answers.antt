@@ -1,6 +1,6 @@
 -- `advance::values::calculate` meets its contract: call by call, the path in hand sees what the way to its next block makes of what it saw, and no
 -- more than its ids and the arrays changed. Assumes nothing.
-use mathlib.Core.Path.{◌≡◌, refl, ap, ◌∙◌, subst}
+use mathlib.Core.Path.{◌≡◌, refl, ◌∙◌, subst}
 use mathlib.Core.List.{List}
 use Prim.Native.Nat.{ℕ, ◌+◌, ◌-◌, ◌*◌, ◌≤◌, ◌<◌}
 use native.Mathlib.Omega.{arith}

@@ -1,10 +1,9 @@
 -- `views::view::go_down` meets its contract. The loop's invariant: the path sees what the way down to height h makes of what it saw, and the rest
 -- of the rows is as it was. Assumes nothing.
 use mathlib.Core.Path.{◌≡◌, refl, sym, subst}
-use Prim.Native.Nat.{ℕ, suc, ◌-◌, ◌≤◌}
+use Prim.Native.Nat.{ℕ, suc, ◌-◌}
 use native.Mathlib.Omega.{arith}
-use lib.ListN.{length}
-use Rattle.standing.specs.Seen.{memory, HasArrays, Viewed, StepSeen, IdsOnly}
+use Rattle.standing.specs.Seen.{memory, Viewed, StepSeen}
 use Rattle.views.specs.Steps.{Upper}
 use Rattle.views.proofs.Seeing.{ids-on}
 use Rattle.views.proofs.Down.{down, down-upper, viewed-on, turned_none, turned_more}

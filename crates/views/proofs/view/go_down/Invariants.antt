@@ -1,12 +1,10 @@
 -- The loop invariants of view.go_down, and what falls at each turn.
-use mathlib.Core.Path.{◌≡◌, refl, sym, subst}
-use Prim.Native.Nat.{ℕ, suc, ◌-◌, ◌≤◌}
-use native.Mathlib.Omega.{arith}
+use mathlib.Core.Path.{◌≡◌}
+use Prim.Native.Nat.{◌≤◌}
 use lib.ListN.{length}
-use Rattle.standing.specs.Seen.{memory, HasArrays, Viewed, StepSeen, IdsOnly}
+use Rattle.standing.specs.Seen.{memory, HasArrays, StepSeen, IdsOnly}
 use Rattle.views.specs.Steps.{Upper}
-use Rattle.views.proofs.Seeing.{ids-on}
-use Rattle.views.proofs.Down.{down, down-upper, viewed-on, turned_none, turned_more}
+use Rattle.views.proofs.Down.{down}
 use Rattle.views.proofs.view.go_down.Given as goal
 
 abbrev pub invariant-loop-h : goal.invariant-loop-h
