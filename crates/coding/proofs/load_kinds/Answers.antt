@@ -1,5 +1,4 @@
 -- `coding::load_kinds` meets its contract: the loader's tables hold a loaded book's kinds. Assumes nothing.
-use borrow.Author.Rules.{rules}
 use Rattle.coding.proofs.Told.{load-tabled}
 use Rattle.coding.proofs.load_kinds.Goals as goal
 

@@ -1,7 +1,7 @@
 -- `checks::beside::beside_ok` meets its contract: by the test that fails, or the last one. Assumes nothing.
 use mathlib.Core.Path.{◌≡◌, sym, ap, ◌∙◌}
 use borrow.Author.Rules.{rules}
-use Rattle.machine.specs.Calls.{walk_needed, at_least, exactly, beside_ok}
+use Rattle.machine.specs.Calls.{walk_needed, at_least, beside_ok}
 use Rattle.checks.proofs.Chains.{first-fails, second-fails, third-decides}
 use Rattle.checks.proofs.beside.beside_ok.Statement.{statement}
 use Rattle.checks.proofs.beside.beside_ok.Tie as tie

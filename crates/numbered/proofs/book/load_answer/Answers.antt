@@ -5,7 +5,6 @@ use Rattle.codebook.specs.Refusals.{outcome_number}
 use Rattle.answers.specs.Numbers.{length_mismatch}
 use Rattle.answers.proofs.Slices.{three}
 use Rattle.numbered.proofs.Answered.{load-written, load-left}
-use borrow.Author.Rules.{rules}
 use Rattle.numbered.proofs.book.load_answer.Goals as goal
 
 pub returns-then-shape-ne3 : goal.returns-then-shape-ne3

@@ -4,7 +4,6 @@ use Rattle.codebook.specs.Refusals.{outcome_number}
 use Rattle.codec.specs.Record.{status_of}
 use Rattle.codec.specs.Calls.{make_record_call}
 use Rattle.numbered.proofs.Fields.{from_fields}
-use borrow.Author.Rules.{rules}
 use Rattle.numbered.proofs.records.make_record_number.Goals as goal
 
 pub returns : goal.returns

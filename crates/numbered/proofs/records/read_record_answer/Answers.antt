@@ -6,7 +6,6 @@ use Rattle.answers.specs.Slices.{record_slice, filled}
 use Rattle.answers.proofs.Slices.{at_length}
 use Rattle.answers.specs.Numbers.{length_mismatch}
 use Rattle.numbered.proofs.Answered.{record-written, record-left}
-use borrow.Author.Rules.{rules}
 use Rattle.numbered.proofs.records.read_record_answer.Goals as goal
 
 pub returns-then-hook-ne4 : goal.returns-then-hook-ne4

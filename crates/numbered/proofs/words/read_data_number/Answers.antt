@@ -1,7 +1,6 @@
 -- `numbered::words::read_data_number` meets its contract: it is the codec's call, and its outcome's number. Assumes nothing.
 use mathlib.Core.Path.{◌∙◌, ap}
 use Rattle.codebook.specs.Refusals.{outcome_number}
-use borrow.Author.Rules.{rules}
 use Rattle.numbered.proofs.words.read_data_number.Goals as goal
 
 pub returns : goal.returns
