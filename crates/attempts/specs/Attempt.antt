@@ -1,4 +1,4 @@
--- What the parts of a decoding call need and answer: the run, the verdict on what it found, and what is handed out. The call itself is machine/specs/Calls' (callBy, with the
+-- What the parts of a decoding call need and answer: the run, the verdict on what it found, and what is handed out. The call itself is machine/specs/Calls' (call_by, with the
 -- reader's run). Assumes nothing.
 use Rattle.std.specs.Prelude.{◌≡◌, List, [], ℕ, length, ℤ}
 use Rattle.laws.specs.Lists.{All}
