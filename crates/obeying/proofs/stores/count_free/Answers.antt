@@ -1,9 +1,9 @@
 -- `obeying::stores::count_free` meets its contract. The loop's invariant: `free` counts the free codes of the first i indices of the part.
 -- Assumes nothing.
 use mathlib.Core.Path.{◌≡◌, refl, subst}
-use Prim.Native.Nat.{ℕ, ◌+◌, ◌-◌, ◌≤◌}
+use Prim.Native.Nat.{ℕ, ◌+◌}
 use native.Mathlib.Omega.{arith}
-use lib.ListN.{length, get_or, take, drop}
+use lib.ListN.{get_or, take, drop}
 use Rattle.codebook.specs.Progress.{free_codes}
 use Rattle.obeying.proofs.Over.{free_more, free-zero, free_other}
 use Rattle.obeying.proofs.stores.count_free.Goals as goal
@@ -34,8 +34,8 @@ loop-i-preserved c =
     let l = c.loop-i in
     let v = get_or a.kinds.now (a.from + l.i) 0 in
     elim c.if-kinds-from-eq0.branch [
-      then-kinds-from-eq0 w ↦ (omega arith, omega arith, λ e. omega (arith, l.invariant.2 e, free_more a.kinds.now a.from l.i (omega arith), free-zero v w.if-kinds-from-eq0.true))
-    | else-kinds-from-eq0 w ↦ (omega arith, omega arith, λ e. omega (arith, l.invariant.2 e, free_more a.kinds.now a.from l.i (omega arith), free_other v w.if-kinds-from-eq0.false))
+      | then-kinds-from-eq0 w ↦ (omega arith, omega arith, λ e. omega (arith, l.invariant.2 e, free_more a.kinds.now a.from l.i (omega arith), free-zero v w.if-kinds-from-eq0.true))
+      | else-kinds-from-eq0 w ↦ (omega arith, omega arith, λ e. omega (arith, l.invariant.2 e, free_more a.kinds.now a.from l.i (omega arith), free_other v w.if-kinds-from-eq0.false))
     ]
 
 pub returns : goal.returns

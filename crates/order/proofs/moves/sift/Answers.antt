@@ -1,11 +1,10 @@
 -- `order::moves::sift` meets its contract. The loop's invariant: of the first i entries those with more than b blocks stand first, and the
 -- entries from i on are as they were. Assumes nothing.
 use mathlib.Core.Path.{◌≡◌, ap, ◌∙◌}
-use Prim.Native.Nat.{◌-◌, ◌≤◌}
 use native.Mathlib.Omega.{arith}
 use Rattle.queue.specs.Queue.{ahead}
 use Rattle.order.specs.Entries.{key_at, queue_of}
-use Rattle.order.proofs.Queues.{Sifted, sifted-none, sifted-in, sifted-out, sifted-rising}
+use Rattle.order.proofs.Queues.{sifted-none, sifted-in, sifted-out, sifted-rising}
 use Rattle.order.proofs.moves.sift.Goals as goal
 use Rattle.order.proofs.moves.sift.Goals.{then-blocks_of-b, else-blocks_of-b}
 
@@ -42,8 +41,8 @@ loop-i-preserved c =
     let e = c.blocks_of.ensures in (
       omega arith,
       elim c.if-blocks_of-b.branch [
-        then-blocks_of-b w ↦ rw (w.order-is, w.kept-is) (sifted-in x.invariant.1 (omega arith) (omega arith))
-      | else-blocks_of-b w ↦ rw (w.order-is, w.kept-is) (sifted-out x.invariant.1 (omega arith))
+        | then-blocks_of-b w ↦ rw (w.order-is, w.kept-is) (sifted-in x.invariant.1 (omega arith) (omega arith))
+        | else-blocks_of-b w ↦ rw (w.order-is, w.kept-is) (sifted-out x.invariant.1 (omega arith))
       ],
     )
 
