@@ -8,7 +8,6 @@ use lib.Seq.{drop-drop, take-take}
 use mir.Syntax.{w32}
 use mir.ValLaws.{to_z-of_z}
 use Rattle.std.proofs.lemmas.Bool.Decides.{nat_tests}
-use borrow.Author.Rules.{rules}
 use Rattle.laws.proofs.Lists.{drop-take}
 use Rattle.codebook.specs.Loading.{width, command}
 use Rattle.commands.proofs.command_at.Goals as goal

@@ -3,7 +3,6 @@ use Prim.Native.Nat.{◌+◌}
 use native.Mathlib.Omega.{arith}
 use lib.ListN.{length, get_or, drop, length-drop}
 use borrow.Author.Tests.{le-leb, lt-leb}
-use borrow.Author.Rules.{rules}
 use Rattle.codebook.specs.Loading.{width}
 use Rattle.codebook.specs.Progress.{read_at}
 use Rattle.commands.proofs.read_command.Goals as goal

@@ -1,5 +1,4 @@
 -- `commands::signed_of` meets its contract, by the laws of Signed.antt. Assumes nothing.
-use borrow.Author.Rules.{rules}
 use Rattle.commands.proofs.Signed.{signed_low, neg-ok, less-ok, signed_high}
 use Rattle.commands.proofs.signed_of.Goals as goal
 

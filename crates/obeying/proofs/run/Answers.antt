@@ -1,7 +1,6 @@
 -- `obeying::run` meets its contract: each return is the refusal of the test that led there, or the run that fits. Assumes nothing.
 use mathlib.Core.Path.{◌∙◌}
 use native.Mathlib.Omega.{arith}
-use borrow.Author.Rules.{rules}
 use Rattle.codebook.specs.declared.Refusal.TheVariants.{Truncated, OutOfRange}
 use Rattle.codebook.specs.declared.Command.TheVariants.{Free}
 use Rattle.codebook.specs.Loading.{fault}

@@ -3,7 +3,6 @@ use mathlib.Core.Path.{sym, ◌∙◌, subst}
 use Prim.Native.Nat.{◌<◌}
 use native.Mathlib.Omega.{arith}
 use lib.Dec.{T}
-use borrow.Author.Rules.{rules}
 use borrow.Author.Tests.{not-true, not-false}
 use Rattle.codebook.specs.declared.Refusal.TheVariants.{Truncated, Misplaced, OutOfRange}
 use Rattle.codebook.specs.declared.Command.TheVariants.{Term}

@@ -1,6 +1,5 @@
 -- `obeying::tie` meets its contract: each return is the refusal of the test that led there, or the tie that fits. Assumes nothing.
 use mathlib.Core.Path.{◌∙◌}
-use borrow.Author.Rules.{rules}
 use Rattle.codebook.specs.declared.Refusal.TheVariants.{Truncated, OutOfRange, TooManyTied}
 use Rattle.codebook.specs.declared.Command.TheVariants.{Tie}
 use Rattle.codebook.specs.Loading.{fault}

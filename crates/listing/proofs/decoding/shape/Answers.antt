@@ -1,5 +1,4 @@
 -- `listing::decoding::shape` has no more data than a word is long, by the limits of a loaded book. Assumes nothing.
-use borrow.Author.Rules.{rules}
 use Rattle.listing.proofs.Printed.{free-within}
 use Rattle.listing.proofs.decoding.shape.Goals as goal
 

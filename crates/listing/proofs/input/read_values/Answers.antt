@@ -1,9 +1,6 @@
 -- `listing::input::read_values` reads within the input and writes within the values, which keep their length. Assumes nothing.
-use lib.ListN.{length, length-set}
-use mathlib.Core.Path.{◌≡◌}
-use Prim.Native.Nat.{◌≤◌, ◌-◌}
+use lib.ListN.{length-set}
 use native.Mathlib.Omega.{arith}
-use borrow.Author.Rules.{rules}
 use Rattle.listing.proofs.input.read_values.Goals as goal
 
 pub overflow_sub-rest : goal.overflow_sub-rest

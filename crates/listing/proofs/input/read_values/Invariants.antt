@@ -1,9 +1,7 @@
 -- The loop invariants of input.read_values, and what falls at each turn.
-use lib.ListN.{length, length-set}
+use lib.ListN.{length}
 use mathlib.Core.Path.{◌≡◌}
 use Prim.Native.Nat.{◌≤◌, ◌-◌}
-use native.Mathlib.Omega.{arith}
-use borrow.Author.Rules.{rules}
 use Rattle.listing.proofs.input.read_values.Given as goal
 
 abbrev pub invariant-loop-i : goal.invariant-loop-i

@@ -1,7 +1,5 @@
 -- `listing::lines::print_walk` reads within each buffer. Assumes nothing.
-use Prim.Native.Nat.{◌≤◌, ◌-◌}
 use native.Mathlib.Omega.{arith}
-use borrow.Author.Rules.{rules}
 use Rattle.listing.proofs.lines.print_walk.Goals as goal
 
 pub loop-i-init : goal.loop-i-init

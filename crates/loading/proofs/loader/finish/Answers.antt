@@ -1,5 +1,4 @@
 -- `loading::loader::finish` meets its contract: each return is that of the test that led there. Assumes nothing.
-use borrow.Author.Rules.{rules}
 use Rattle.codebook.specs.Progress.{shape_at}
 use Rattle.loading.proofs.loader.finish.Goals as goal
 

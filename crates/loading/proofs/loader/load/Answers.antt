@@ -1,6 +1,5 @@
 -- `loading::loader::load` meets its contract: its number is that of loading. Assumes nothing.
 use mathlib.Core.Path.{◌≡◌, ap}
-use borrow.Author.Rules.{rules}
 use Rattle.codebook.specs.declared.Shape.{Shape}
 use Rattle.codebook.specs.Refusals.{outcome_number}
 use Rattle.codebook.specs.Loading.{Load, refused, loaded, load, shape_of, number_by}

@@ -1,13 +1,9 @@
 -- `loading::loader::load_tables` meets its contract. The loop's invariant: the numbers and tables stand for what is loaded before the place,
 -- and loading goes on from there (Running.antt). The measure is what is left of the book. Assumes nothing.
 use mathlib.Core.Path.{sym, ◌∙◌}
-use Prim.Native.Nat.{◌-◌}
 use native.Mathlib.Omega.{arith}
-use lib.ListN.{length}
-use borrow.Author.Rules.{rules}
 use Rattle.codebook.specs.declared.Refusal.TheVariants.{Truncated, Unknown}
-use Rattle.codebook.specs.Progress.{tables}
-use Rattle.loading.proofs.Running.{Reached, reached-none, reached-end, reached-unlisted, reached-refused, reached-next, reached-last, refused-answer}
+use Rattle.loading.proofs.Running.{reached-none, reached-end, reached-unlisted, reached-refused, reached-next, reached-last, refused-answer}
 use Rattle.loading.proofs.loader.load_tables.Goals as goal
 
 pub loop-at-init : goal.loop-at-init

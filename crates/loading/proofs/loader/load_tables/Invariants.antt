@@ -1,12 +1,8 @@
 -- The loop invariants of loader.load_tables, and what falls at each turn.
-use mathlib.Core.Path.{sym, ◌∙◌}
 use Prim.Native.Nat.{◌-◌}
-use native.Mathlib.Omega.{arith}
 use lib.ListN.{length}
-use borrow.Author.Rules.{rules}
-use Rattle.codebook.specs.declared.Refusal.TheVariants.{Truncated, Unknown}
 use Rattle.codebook.specs.Progress.{tables}
-use Rattle.loading.proofs.Running.{Reached, reached-none, reached-end, reached-unlisted, reached-refused, reached-next, reached-last, refused-answer}
+use Rattle.loading.proofs.Running.{Reached}
 use Rattle.loading.proofs.loader.load_tables.Given as goal
 
 abbrev pub invariant-loop-at : goal.invariant-loop-at

@@ -1,11 +1,7 @@
 -- The loop invariants of stores.clear, and what falls at each turn.
-use mathlib.Core.Path.{◌≡◌, subst}
-use Prim.Native.Nat.{ℕ, ◌-◌, ◌≤◌}
-use native.Mathlib.Nat.{zero-add}
-use native.Mathlib.Omega.{arith}
+use Prim.Native.Nat.{◌-◌, ◌≤◌}
 use lib.ListN.{replicate}
 use Rattle.codebook.specs.Progress.{Extends}
-use Rattle.obeying.proofs.Over.{extends-none, extends-more}
 use Rattle.obeying.proofs.stores.clear.Given as goal
 
 abbrev pub invariant-loop-i : goal.invariant-loop-i

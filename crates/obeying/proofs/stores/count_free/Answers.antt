@@ -1,9 +1,9 @@
 -- `obeying::stores::count_free` meets its contract. The loop's invariant: `free` counts the free codes of the first i indices of the part.
 -- Assumes nothing.
 use mathlib.Core.Path.{◌≡◌, refl, subst}
-use Prim.Native.Nat.{ℕ, ◌+◌, ◌-◌, ◌≤◌}
+use Prim.Native.Nat.{ℕ, ◌+◌}
 use native.Mathlib.Omega.{arith}
-use lib.ListN.{length, get_or, take, drop}
+use lib.ListN.{get_or, take, drop}
 use Rattle.codebook.specs.Progress.{free_codes}
 use Rattle.obeying.proofs.Over.{free_more, free-zero, free_other}
 use Rattle.obeying.proofs.stores.count_free.Goals as goal

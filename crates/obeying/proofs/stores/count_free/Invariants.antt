@@ -1,11 +1,8 @@
 -- The loop invariants of stores.count_free, and what falls at each turn.
-use mathlib.Core.Path.{◌≡◌, refl, subst}
-use mathlib.Core.Logic.{⊎_elim}
-use Prim.Native.Nat.{ℕ, ◌+◌, ◌-◌, ◌≤◌}
-use native.Mathlib.Omega.{arith}
-use lib.ListN.{length, get_or, take, drop}
+use mathlib.Core.Path.{◌≡◌}
+use Prim.Native.Nat.{◌-◌, ◌≤◌}
+use lib.ListN.{length, take, drop}
 use Rattle.codebook.specs.Progress.{free_codes}
-use Rattle.obeying.proofs.Over.{free_more, free-zero, free_other}
 use Rattle.obeying.proofs.stores.count_free.Given as goal
 
 abbrev pub invariant-loop-i : goal.invariant-loop-i

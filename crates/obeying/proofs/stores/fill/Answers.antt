@@ -1,6 +1,6 @@
 -- `obeying::stores::fill` meets its contract. The loop's invariant: the table is extended by i codes. Assumes nothing.
 use mathlib.Core.Path.{◌≡◌, subst}
-use Prim.Native.Nat.{◌-◌, ◌≤◌, ℕ}
+use Prim.Native.Nat.{ℕ}
 use native.Mathlib.Omega.{arith}
 use lib.ListN.{replicate}
 use Rattle.codebook.specs.Progress.{Extends}

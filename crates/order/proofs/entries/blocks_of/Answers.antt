@@ -1,6 +1,5 @@
 -- `order::entries::blocks_of` meets its contract, by the definition. Assumes nothing.
 use mathlib.Core.Path.{refl}
-use borrow.Author.Rules.{rules}
 use Rattle.order.specs.Entries.{key_at}
 use Rattle.order.proofs.entries.blocks_of.Goals as goal
 

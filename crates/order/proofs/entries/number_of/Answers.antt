@@ -1,6 +1,5 @@
 -- `order::entries::number_of` meets its contract, by the definition. Assumes nothing.
 use mathlib.Core.Path.{refl}
-use borrow.Author.Rules.{rules}
 use Rattle.order.specs.Entries.{key_at}
 use Rattle.order.proofs.entries.number_of.Goals as goal
 

@@ -1,11 +1,11 @@
 -- `order::moves::cut` meets its contract. The loop's invariant: the first i entries are those from `by` on, and the others are as they were.
 -- Assumes nothing.
 use mathlib.Core.Path.{◌≡◌, ap, ◌∙◌}
-use Prim.Native.Nat.{ℕ, ◌+◌, ◌-◌, ◌≤◌, ◌<◌}
+use Prim.Native.Nat.{ℕ, ◌+◌, ◌-◌, ◌<◌}
 use native.Mathlib.Nat.{zero-add}
 use native.Mathlib.Omega.{arith}
 use lib.ListN.{get_or, take}
-use Rattle.laws.proofs.Stores.{Stored, stored-none}
+use Rattle.laws.proofs.Stores.{stored-none}
 use Rattle.order.specs.Entries.{queue_of}
 use Rattle.order.proofs.Queues.{cut-more, cut-first, cut-rising}
 use Rattle.order.proofs.moves.cut.Goals as goal

@@ -1,12 +1,7 @@
 -- The loop invariants of moves.cut, and what falls at each turn.
-use mathlib.Core.Path.{◌≡◌, ap, ◌∙◌}
-use Prim.Native.Nat.{ℕ, ◌+◌, ◌-◌, ◌≤◌, ◌<◌}
-use native.Mathlib.Nat.{zero-add}
-use native.Mathlib.Omega.{arith}
-use lib.ListN.{get_or, take}
-use Rattle.laws.proofs.Stores.{Stored, stored-none}
-use Rattle.order.specs.Entries.{queue_of}
-use Rattle.order.proofs.Queues.{cut-more, cut-first, cut-rising}
+use Prim.Native.Nat.{◌+◌, ◌-◌, ◌≤◌}
+use lib.ListN.{get_or}
+use Rattle.laws.proofs.Stores.{Stored}
 use Rattle.order.proofs.moves.cut.Given as goal
 
 abbrev pub invariant-loop-i : goal.invariant-loop-i

@@ -4,7 +4,6 @@ use mathlib.Core.Bool.{false≢true}
 use Prim.Native.Nat.{ℕ, ◌-◌, ◌/◌}
 use native.Mathlib.Omega.{arith}
 use lib.ListN.{get_or}
-use borrow.Author.Rules.{rules}
 use Rattle.order.proofs.Queues.{test-passed}
 use Rattle.order.proofs.moves.four_above.Goals as goal
 

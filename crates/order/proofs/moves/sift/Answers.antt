@@ -1,11 +1,10 @@
 -- `order::moves::sift` meets its contract. The loop's invariant: of the first i entries those with more than b blocks stand first, and the
 -- entries from i on are as they were. Assumes nothing.
 use mathlib.Core.Path.{◌≡◌, ap, ◌∙◌}
-use Prim.Native.Nat.{◌-◌, ◌≤◌}
 use native.Mathlib.Omega.{arith}
 use Rattle.queue.specs.Queue.{ahead}
 use Rattle.order.specs.Entries.{key_at, queue_of}
-use Rattle.order.proofs.Queues.{Sifted, sifted-none, sifted-in, sifted-out, sifted-rising}
+use Rattle.order.proofs.Queues.{sifted-none, sifted-in, sifted-out, sifted-rising}
 use Rattle.order.proofs.moves.sift.Goals as goal
 use Rattle.order.proofs.moves.sift.Goals.{then-blocks_of-b, else-blocks_of-b}
 

@@ -1,7 +1,5 @@
 -- `vectors::answers::print_walk` ends: each turn prints one extraction. Assumes nothing.
-use Prim.Native.Nat.{◌-◌, ◌≤◌}
 use native.Mathlib.Omega.{arith}
-use borrow.Author.Rules.{rules}
 use Rattle.vectors.proofs.answers.print_walk.Goals as goal
 
 pub loop-i-init : goal.loop-i-init

@@ -1,7 +1,5 @@
 -- The loop invariants of answers.print_walk, and what falls at each turn.
 use Prim.Native.Nat.{◌-◌, ◌≤◌}
-use native.Mathlib.Omega.{arith}
-use borrow.Author.Rules.{rules}
 use Rattle.vectors.proofs.answers.print_walk.Given as goal
 
 abbrev pub invariant-loop-i : goal.invariant-loop-i

@@ -1,9 +1,6 @@
 -- `vectors::buffers::fill_numbers` stays within the buffer, whose length is kept. Assumes nothing.
-use mathlib.Core.Path.{◌≡◌}
-use Prim.Native.Nat.{◌-◌, ◌≤◌}
 use native.Mathlib.Omega.{arith}
-use lib.ListN.{length, length-set}
-use borrow.Author.Rules.{rules}
+use lib.ListN.{length-set}
 use Rattle.vectors.proofs.buffers.fill_numbers.Goals as goal
 
 pub loop-i-init : goal.loop-i-init

@@ -1,9 +1,7 @@
 -- The loop invariants of buffers.fill_numbers, and what falls at each turn.
 use mathlib.Core.Path.{◌≡◌}
 use Prim.Native.Nat.{◌-◌, ◌≤◌}
-use native.Mathlib.Omega.{arith}
-use lib.ListN.{length, length-set}
-use borrow.Author.Rules.{rules}
+use lib.ListN.{length}
 use Rattle.vectors.proofs.buffers.fill_numbers.Given as goal
 
 abbrev pub invariant-loop-i : goal.invariant-loop-i

@@ -3,7 +3,6 @@ use native.Mathlib.Omega.{arith}
 use Rattle.laws.proofs.Signed.{abs-fits, sub-fits}
 use lib.IntN.{pos}
 use Prim.Native.Nat.{◌+◌, ◌*◌, ◌%◌}
-use borrow.Author.Rules.{rules}
 use Rattle.vectors.proofs.buffers.garbage_number.Goals as goal
 
 pub overflow_cast-result : goal.overflow_cast-result

@@ -1,8 +1,5 @@
 -- `vectors::buffers::sum_numbers` stays within the slice, and the sum stays below 65521. Assumes nothing.
-use Prim.Native.Nat.{◌-◌, ◌≤◌, ◌<◌}
 use native.Mathlib.Omega.{arith}
-use lib.ListN.{length}
-use borrow.Author.Rules.{rules}
 use Rattle.vectors.proofs.buffers.sum_numbers.Goals as goal
 
 pub loop-i-init : goal.loop-i-init

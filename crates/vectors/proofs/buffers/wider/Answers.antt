@@ -1,6 +1,5 @@
 -- `vectors::buffers::wider`: what fits 16 bits fits 32. Assumes nothing.
 use mir.Facts.{to_z-of_z, sfits_widen}
-use borrow.Author.Rules.{rules}
 use Rattle.vectors.proofs.buffers.wider.Goals as goal
 
 pub overflow_cast-result : goal.overflow_cast-result

@@ -1,9 +1,6 @@
 -- `vectors::stream::next_values` stays within the values, whose number is kept. Assumes nothing.
-use mathlib.Core.Path.{◌≡◌}
-use Prim.Native.Nat.{◌-◌, ◌≤◌}
 use native.Mathlib.Omega.{arith}
-use lib.ListN.{length, length-set}
-use borrow.Author.Rules.{rules}
+use lib.ListN.{length-set}
 use Rattle.vectors.proofs.stream.next_values.Goals as goal
 
 pub loop-i-init : goal.loop-i-init

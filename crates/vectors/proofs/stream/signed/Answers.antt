@@ -1,7 +1,6 @@
 -- `vectors::stream::signed` computes within 32 bits, and what it answers fits 16. Assumes nothing.
 use native.Mathlib.Omega.{arith}
 use lib.IntN.{pos}
-use borrow.Author.Rules.{rules}
 use Rattle.laws.proofs.Signed.{abs-fits, sub-fits, sub_is}
 use Rattle.vectors.proofs.Numbers.{lowered}
 use Rattle.vectors.proofs.stream.signed.Goals as goal
