@@ -1,7 +1,6 @@
 -- `books::good` judges the book up to the end of the command. Assumes nothing.
 use lib.ListN.{length-take}
 use native.Mathlib.Omega.{arith}
-use borrow.Author.Rules.{rules}
 use Rattle.books.proofs.good.Goals as goal
 
 pub slice_bounds-judged-end : goal.slice_bounds-judged-end

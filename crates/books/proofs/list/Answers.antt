@@ -1,8 +1,5 @@
 -- `books::list` ends: each command takes a byte or more of the book. Assumes nothing.
-use Prim.Native.Nat.{◌≤◌, ◌-◌}
 use native.Mathlib.Omega.{arith}
-use lib.ListN.{length}
-use borrow.Author.Rules.{rules}
 use Rattle.books.proofs.list.Goals as goal
 
 pub loop-at-init : goal.loop-at-init

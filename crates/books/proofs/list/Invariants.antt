@@ -1,8 +1,6 @@
 -- The loop invariants of list, and what falls at each turn.
 use Prim.Native.Nat.{◌≤◌, ◌-◌}
-use native.Mathlib.Omega.{arith}
 use lib.ListN.{length}
-use borrow.Author.Rules.{rules}
 use Rattle.books.proofs.list.Given as goal
 
 abbrev pub invariant-loop-at : goal.invariant-loop-at

@@ -1,8 +1,6 @@
 -- `loads::copy_book` stays within both slices: what is copied so far is within the stream, and the book keeps its length. Assumes nothing.
-use mathlib.Core.Path.{◌≡◌}
-use Prim.Native.Nat.{◌≤◌, ◌+◌, ◌-◌}
 use native.Mathlib.Omega.{arith}
-use lib.ListN.{length, length-set}
+use lib.ListN.{length-set}
 use Rattle.loads.proofs.copy_book.Goals as goal
 
 pub loop-i-init : goal.loop-i-init

@@ -1,8 +1,7 @@
 -- The loop invariants of copy_book, and what falls at each turn.
 use mathlib.Core.Path.{◌≡◌}
 use Prim.Native.Nat.{◌≤◌, ◌+◌, ◌-◌}
-use native.Mathlib.Omega.{arith}
-use lib.ListN.{length, length-set}
+use lib.ListN.{length}
 use Rattle.loads.proofs.copy_book.Given as goal
 
 abbrev pub invariant-loop-i : goal.invariant-loop-i

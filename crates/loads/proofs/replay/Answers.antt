@@ -1,9 +1,5 @@
 -- `loads::replay` ends: each operation takes a byte or more of the stream. Assumes nothing.
-use mathlib.Core.Path.{◌≡◌}
-use Prim.Native.Nat.{◌≤◌, ◌-◌}
 use native.Mathlib.Omega.{arith}
-use lib.ListN.{length}
-use borrow.Author.Rules.{rules}
 use Rattle.loads.proofs.replay.Goals as goal
 
 pub loop-at-init : goal.loop-at-init

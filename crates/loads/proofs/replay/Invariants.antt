@@ -1,9 +1,7 @@
 -- The loop invariants of replay, and what falls at each turn.
 use mathlib.Core.Path.{◌≡◌}
 use Prim.Native.Nat.{◌≤◌, ◌-◌}
-use native.Mathlib.Omega.{arith}
 use lib.ListN.{length}
-use borrow.Author.Rules.{rules}
 use Rattle.loads.proofs.replay.Given as goal
 
 abbrev pub invariant-loop-at : goal.invariant-loop-at

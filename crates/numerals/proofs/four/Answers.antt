@@ -1,6 +1,5 @@
 -- `numerals::four` meets its contract: two bytes and two. Assumes nothing.
 use native.Mathlib.Omega.{arith}
-use borrow.Author.Rules.{rules}
 use Rattle.numerals.proofs.Bytes.{four_bytes}
 use Rattle.numerals.proofs.four.Goals as goal
 

@@ -1,6 +1,5 @@
 -- `numerals::one` meets its contract: the first byte from a place on. Assumes nothing.
 use native.Mathlib.Omega.{arith}
-use borrow.Author.Rules.{rules}
 use Rattle.codebook.specs.Loading.{big_endian}
 use Rattle.numerals.proofs.Bytes.{one_byte}
 use Rattle.numerals.proofs.one.Goals as goal

@@ -1,6 +1,5 @@
 -- `numerals::two` meets its contract: the first two bytes from a place on. Assumes nothing.
 use native.Mathlib.Omega.{arith}
-use borrow.Author.Rules.{rules}
 use Rattle.codebook.specs.Loading.{big_endian}
 use Rattle.numerals.proofs.Bytes.{two_bytes}
 use Rattle.numerals.proofs.two.Goals as goal

@@ -1,8 +1,5 @@
 -- `text::print_bits` stays within the bits. Assumes nothing.
-use Prim.Native.Nat.{◌≤◌, ◌-◌}
 use native.Mathlib.Omega.{arith}
-use lib.ListN.{length}
-use borrow.Author.Rules.{rules}
 use Rattle.text.proofs.print_bits.Goals as goal
 
 pub loop-at-init : goal.loop-at-init

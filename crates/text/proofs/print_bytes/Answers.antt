@@ -1,8 +1,5 @@
 -- `text::print_bytes` reads within the bytes. Assumes nothing.
-use Prim.Native.Nat.{◌≤◌, ◌-◌}
 use native.Mathlib.Omega.{arith}
-use lib.ListN.{length}
-use borrow.Author.Rules.{rules}
 use Rattle.text.proofs.print_bytes.Goals as goal
 
 pub loop-i-init : goal.loop-i-init

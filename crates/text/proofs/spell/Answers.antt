@@ -1,9 +1,6 @@
 -- `text::spell` stays within the bits and the text, which keeps its length. Assumes nothing.
-use lib.ListN.{length, length-set}
-use mathlib.Core.Path.{◌≡◌}
-use Prim.Native.Nat.{◌≤◌, ◌-◌}
+use lib.ListN.{length-set}
 use native.Mathlib.Omega.{arith}
-use borrow.Author.Rules.{rules}
 use Rattle.text.proofs.spell.Goals as goal
 
 pub loop-i-init : goal.loop-i-init

@@ -1,7 +1,5 @@
 -- `books::command::copy` stays within both slices. Assumes nothing.
-use lib.ListN.{length, length-set}
-use mathlib.Core.Path.{◌≡◌}
-use Prim.Native.Nat.{◌≤◌, ◌-◌}
+use lib.ListN.{length-set}
 use native.Mathlib.Omega.{arith}
 use Rattle.books.proofs.command.copy.Goals as goal
 

@@ -1,8 +1,7 @@
 -- The loop invariants of command.copy, and what falls at each turn.
-use lib.ListN.{length, length-set}
+use lib.ListN.{length}
 use mathlib.Core.Path.{◌≡◌}
 use Prim.Native.Nat.{◌≤◌, ◌-◌}
-use native.Mathlib.Omega.{arith}
 use Rattle.books.proofs.command.copy.Given as goal
 
 abbrev pub invariant-loop-i : goal.invariant-loop-i
