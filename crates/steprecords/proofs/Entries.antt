@@ -1,4 +1,4 @@
--- What record_at makes of the walk's buffers: the first entry of their parts from i on is entry i, and where there is none it is zeros. Assumes nothing.
+-- What record_at makes of the walk's buffers: the first entry of their parts from i on is entry i, and where there is none it is zeros. The check proves record_at by these. Assumes nothing.
 use mathlib.Core.Path.{◌≡◌, refl, ap, ◌∙◌}
 use mathlib.Core.Bool.{cond}
 use mathlib.Core.List.{List}
@@ -25,3 +25,6 @@ module _ (paths blocks scores : List ℤ) (n i : ℕ) where
   pub none_made : n ≤ i → record { path = pos 0; blocks = pos 0; score = pos 0 } ≡ cond (ltb i n) (record_at paths blocks scores i) blank
   unfolding blank
   none_made h = rw (le-ltb i n h) refl
+
+-- both, for the check to find
+pub ruleset entry_laws = (entry-made, none_made)

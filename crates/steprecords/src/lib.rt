@@ -45,6 +45,7 @@ pub fn first_record(paths: &[i32], blocks: &[i32], scores: &[i32]) -> StepRecord
 }
 
 // Entry i of the first n of the walk's buffers as a record, zeros where i is n or more.
+#[tactic(auto, using(crate::proofs::Entries::entry_laws))]
 pub fn record_at(paths: &[i32], blocks: &[i32], scores: &[i32], n: usize, i: usize) -> StepRecord
     requires { (n ≤ length paths.now) × (n ≤ length blocks.now) × (n ≤ length scores.now) }
     ensures { result ≡ cond (ltb i n) (record_at paths.now blocks.now scores.now i) blank }
