@@ -21,6 +21,7 @@ fn signed_of(x: u32) -> i32
 }
 
 // Whether a byte is a listed command byte.
+#[tactic(auto, using(std::proofs::lemmas::Bool::Decides::nat_tests), unfolding(codebook::specs::Loading::listed))]
 fn is_listed(byte: u8) -> bool
     ensures { result ≡ listed byte }
 {

@@ -12,6 +12,7 @@ ghost use Rattle.codec.specs.Code.{fill, free_bits, obeys_all};
 ghost use Rattle.codec.specs.Tabled.{Coded, Tabled, Some, forced, absorbed};
 
 // The bit that an index with this code, zero or tied, must have.
+#[tactic(auto, using(std::proofs::lemmas::Bool::Decides::nat_tests), unfolding(codec::specs::Tabled::forced))]
 fn forced(code: u8, parities: u32) -> u8
     requires { code < 34 }
     ensures { result ≡ forced code parities }

@@ -24,6 +24,7 @@ pub fn status_number(s: Status) -> u32
 }
 
 // Whether each field fits its bits.
+#[tactic(auto, using(std::proofs::lemmas::Bool::Decides::nat_tests), unfolding(codec::specs::Record::record_fits))]
 pub fn record_fits(h: HookRecord) -> bool
     ensures { result ≡ record_fits h }
 {
