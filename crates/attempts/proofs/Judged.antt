@@ -227,3 +227,7 @@ module _ (reads : Reads) (x : Shape) (s : Settings) (l : Lent) (run : Run Final)
       let w' = given_out l.word after.word word (final_in run.end).word w fw in
       let b' = given_out l.bits after.bits info (final_in run.end).bits b fb in
       λ i. record { word = w' i; bits = b' i; numbers = n i; bytes = y i; walk_path = p i; walk_blocks = q i; walk_score = t i }
+
+-- what is refused above the limit, whatever the test is called in the code
+pub judged_over : (r : Reads) (s : Settings) (d : ℕ) (ds : List ℕ) (x : RecordRead) → s.limit < d → x ≡ not_read AboveLimit → x ≡ judged_as r s (judged_final d ds)
+judged_over r s d ds x h e = e ∙ judged-above s (judged_final d ds) r h

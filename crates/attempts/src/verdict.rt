@@ -12,6 +12,7 @@ use machine::Reads;
 use settings::Settings;
 
 // The outcome for a word with this discrepancy and these data: 10 above the limit; then, where a record is read, the record or 11.
+#[tactic(auto, using(crate::proofs::Judged::judged_over))]
 pub fn judge(r: Reads, s: Settings, discrepancy: u32, info: &[u8]) -> RecordRead
     requires { RecordIn r info.now }
     ensures { result ≡ judged_as r s (judged_final discrepancy info.now) }

@@ -31,6 +31,10 @@ module _ (bs : List ℕ) (i : ℕ) (h : i < length bs) where
   pub bits-not : 1 < get_or bs i 0 → false ≡ are_bits (drop i bs)
   bits-not k = sym (bits-here ∙ ap (λ b. b && are_bits (drop (i + 1) bs)) (lt-leb _ 1 k))
 
+-- a number above 1 ends it, where all before it are bits
+pub not_bits : (bs : List ℕ) (i : ℕ) → are_bits (drop i bs) ≡ are_bits bs → i < length bs → 1 < get_or bs i 0 → false ≡ are_bits bs
+not_bits bs i e h k = bits-not bs i h k ∙ e
+
 pub bits-end : (bs : List ℕ) (i : ℕ) → length bs ≤ i → true ≡ are_bits (drop i bs)
 unfolding are_bits
 bits-end bs i h = rw (drop_of_length-le bs {i = i} h) refl

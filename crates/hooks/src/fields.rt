@@ -9,6 +9,7 @@ ghost use Rattle.codec.specs.Calls.{are_bits};
 ghost use Rattle.codec.specs.Record.{field_at};
 
 // Whether every entry is 0 or 1.
+#[tactic(auto, using(crate::proofs::Parts::not_bits))]
 pub fn are_bits(bits: &[u8]) -> bool
     ensures { result ≡ are_bits bits.now }
 {
