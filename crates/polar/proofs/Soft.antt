@@ -9,11 +9,14 @@ use lib.ListN.{length, get_or, drop, drop_of_length-le}
 use lib.IntN.{ℤ, pos, negsuc, neg_ℤ, nat_abs, sub_ℕ, ◌+ℤ◌, ◌-ℤ◌, neg_ℤ-+ℤ}
 use native.Mathlib.Numerals.{add-one}
 use lib.Seq.{drop-cons}
-use lib.Signed.{non_neg}
+use lib.Signed.{non_neg, lt_z}
 use lib.Dec.{T, ltb, eqb, ltb→lt, nltb→le, eqb→eq}
 use borrow.Author.Tests.{eq-eqb, ne_eqb}
+use mir.Syntax.{w32}
+use mir.Val.{SFits}
 use Rattle.laws.specs.Lists.{All}
 use Rattle.laws.proofs.Tests.{cond-case}
+use Rattle.laws.proofs.Signed.{back, is_below, not-below, add_is, sub_is}
 use Rattle.laws.proofs.Integers.{neg-abs, add-abs}
 use Rattle.laws.proofs.Lists.{length-zip}
 use Rattle.polar.specs.Bits.{Bit, ◌⊕◌, add_bits}
@@ -198,6 +201,13 @@ unfolding hard
 hard-above (pos n) t = refl
 hard-above (negsuc n) t = absurd t
 
+-- the same by the code's test of a local
+pub hard_one : (s : ℤ) → SFits w32 s → lt_z (back s) (pos 0) ≡ true → 1 ≡ hard s
+hard_one s f e = hard-below s (is_below f e)
+
+pub hard_zero : (s : ℤ) → SFits w32 s → lt_z (back s) (pos 0) ≡ false → 0 ≡ hard s
+hard_zero s f e = hard-above s (not-below f e)
+
 pub abs-below : (s : ℤ) → T (not (non_neg s)) → neg_ℤ s ≡ pos (nat_abs s)
 abs-below (pos n) t = absurd t
 abs-below (negsuc n) t = refl
@@ -224,6 +234,13 @@ pub P-one : (v : ℕ) (a b : ℤ) → (v ≡ 0 → ⊥) → b -ℤ a ≡ P v a b
 unfolding P
 P-one zero a b e = absurd (e refl)
 P-one (suc v) a b e = refl
+
+-- the same by the code's sum and difference of locals
+pub p_sum : (v : ℕ) (a b : ℤ) → SFits w32 a → SFits w32 b → nat_abs a + nat_abs b < 2147483648 → v ≡ 0 → back (back b +ℤ back a) ≡ P v a b
+p_sum v a b f g h e = add_is g f (omega arith) ∙ P-zero v a b e
+
+pub p_difference : (v : ℕ) (a b : ℤ) → SFits w32 a → SFits w32 b → nat_abs a + nat_abs b < 2147483648 → (v ≡ 0 → ⊥) → back (back b -ℤ back a) ≡ P v a b
+p_difference v a b f g h e = sub_is g f (omega arith) ∙ P-one v a b e
 
 pub cost-same : (v : ℕ) (s : ℤ) → v ≡ hard s → 0 ≡ cost v s
 unfolding cost

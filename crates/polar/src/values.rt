@@ -4,6 +4,7 @@ ghost use Rattle.std.specs.Prelude.{◌≡◌, ◌<◌, ◌+◌, min, nat_abs};
 ghost use Rattle.polar.specs.Soft.{Q, P, hard, penalty, cost};
 
 // The hard decision: 1 where s is below 0, else 0.
+#[tactic(auto, using(crate::proofs::Soft::hard_one, crate::proofs::Soft::hard_zero))]
 pub fn hard(s: i32) -> u8
     ensures { result ≡ hard s }
 {
@@ -35,6 +36,7 @@ pub fn q(a: i32, b: i32) -> i32
 }
 
 // b + a for the bit 0, b - a for 1.
+#[tactic(auto, using(crate::proofs::Soft::p_sum, crate::proofs::Soft::p_difference))]
 pub fn p(v: u8, a: i32, b: i32) -> i32
     requires { nat_abs a + nat_abs b < 2147483648 }
     ensures { result ≡ P v a b }
