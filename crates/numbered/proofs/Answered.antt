@@ -1,10 +1,11 @@
 -- A shape or a record is written where it is lent at its length, and kept where it is not: by the test of the length. Assumes nothing.
-use mathlib.Core.Path.{◌≡◌}
+use mathlib.Core.Path.{◌≡◌, ◌∙◌, sym, ap}
 use mathlib.Core.List.{List, [], ◌∷◌}
 use Prim.Native.Nat.{ℕ}
 use lib.ListN.{length}
 use Rattle.codebook.specs.Refusals.{outcome_number}
 use Rattle.codebook.specs.Loading.{load, shape_of}
+use Rattle.codebook.specs.declared.Shape.{Shape}
 use Rattle.codec.specs.Calls.{read_record_call}
 use Rattle.answers.specs.Slices.{record_slice}
 use Rattle.answers.specs.Numbers.{length_mismatch}
@@ -21,6 +22,13 @@ pub load-left : (book shape : List ℕ) → (length shape ≡ 3 → ⊥) →
     load_answer book shape ≡ (record { number = length_mismatch (shape_of (load book)).outcome; slice = shape })
 unfolding load_answer
 load-left book shape f = at_other _ _ (length shape) 3 f
+
+-- the early return, for the check to find
+pub load_early : (book shape : List ℕ) (s : Shape) (n : ℕ) → (length shape ≡ 3 → ⊥) → s ≡ shape_of (load book) → n ≡ length_mismatch s.outcome →
+    n ≡ (load_answer book shape).number × shape ≡ (load_answer book shape).slice
+load_early book shape s n f e g =
+    let w = sym (load-left book shape f) in
+    (g ∙ ap (λ s. length_mismatch s.outcome) e ∙ ap (λ x. x.number) w, ap (λ x. x.slice) w)
 
 -- read record's two answers
 pub record-written : (book ds hook : List ℕ) → length hook ≡ 4 →
