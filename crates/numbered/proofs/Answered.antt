@@ -40,3 +40,10 @@ pub record-left : (book ds hook : List ℕ) → (length hook ≡ 4 → ⊥) →
     read_record_answer book ds hook ≡ (record { number = length_mismatch (shape_of (load book)).outcome; slice = hook })
 unfolding read_record_answer
 record-left book ds hook f = at_other _ _ (length hook) 4 f
+
+-- the early return, for the check to find
+pub record_early : (book ds hook : List ℕ) (s : Shape) (n : ℕ) → (length hook ≡ 4 → ⊥) → s ≡ shape_of (load book) → n ≡ length_mismatch s.outcome →
+    n ≡ (read_record_answer book ds hook).number × hook ≡ (read_record_answer book ds hook).slice
+record_early book ds hook s n f e g =
+    let w = sym (record-left book ds hook f) in
+    (g ∙ ap (λ s. length_mismatch s.outcome) e ∙ ap (λ x. x.number) w, ap (λ x. x.slice) w)
