@@ -7,6 +7,7 @@ use codebook::outcome_number;
 use loading::load;
 
 // Loads a book: its n, k and V.
+#[tactic(auto, using(crate::proofs::Answered::load_early))]
 pub fn load_answer(book: &[u8], shape: &mut [u32]) -> u32
     ensures { let a = load_answer book.now shape.old in (result ≡ a.number) × (shape.new ≡ a.slice) }
 {

@@ -54,6 +54,7 @@ pub fn make_record_number(
 }
 
 // Reads the record of data bits.
+#[tactic(auto, using(crate::proofs::Answered::record_early))]
 pub fn read_record_answer(book: &[u8], bits: &[u8], hook: &mut [u32]) -> u32
     ensures { let a = read_record_answer book.now bits.now hook.old in
         (result ≡ a.number) × (hook.new ≡ a.slice) }
