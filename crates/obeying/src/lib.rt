@@ -14,6 +14,7 @@ use codebook::{Command, Progress, Refusal, Step};
 use numerals::word_power;
 
 // The first command: the length.
+#[tactic(auto, unfolding(codebook::specs::Progress::Judged, codebook::specs::Progress::verdict, codebook::specs::Refusals::unless, codebook::specs::Loading::placed, codebook::specs::Progress::byte_of, codebook::specs::Loading::total, codebook::specs::Progress::is_end, codebook::specs::Loading::fault))]
 fn begin(c: Command, whole: bool, p: Progress, terms: &mut [u32; 512]) -> Step
     requires { p.m ≡ 0 }
     ensures { (t : Tables) → (byte_of c ≡ 4 → ⊥) → Obeys p c whole (with_indices t t.kinds terms.old) (with_indices t t.kinds terms.new) result }
@@ -67,6 +68,7 @@ fn run(p: Progress, whole: bool, count: u32, code: u8, kinds: &mut [u8; 512]) ->
 }
 
 // The next index is tied to index i.
+#[tactic(auto, unfolding(codebook::specs::Progress::Judged, codebook::specs::Progress::verdict, codebook::specs::Refusals::unless, codebook::specs::Loading::placed, codebook::specs::Progress::byte_of, codebook::specs::Loading::total, codebook::specs::Progress::is_end, codebook::specs::Loading::fault))]
 fn tie(p: Progress, whole: bool, i: u32, kinds: &mut [u8; 512], terms: &mut [u32; 512]) -> Step
     requires safe { Safe p }
     requires filled_lt_n { p.filled < p.n }

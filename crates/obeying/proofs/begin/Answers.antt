@@ -8,7 +8,7 @@ use Rattle.codebook.specs.declared.Refusal.TheVariants.{Truncated, Misplaced, Ou
 use Rattle.codebook.specs.declared.Command.TheVariants.{Length}
 use Rattle.codebook.specs.Loading.{fault}
 use Rattle.codebook.specs.Progress.{byte_of, is_end, with_indices}
-use Rattle.obeying.proofs.Verdicts.{refuse, proceed, operands-cut, operands-whole, verdict-misplaced, begin-misplaced, length-stands, length-low, length_high, length-fits}
+use Rattle.obeying.proofs.Verdicts.{refuse, proceed, operands-cut, operands-whole, verdict-misplaced, begin-misplaced, length-stands, length-low, length-fits}
 use Rattle.obeying.proofs.Growing.{begin-holds}
 use Rattle.obeying.proofs.begin.Goals as goal
 
@@ -30,17 +30,10 @@ returns-then-m-lt2 c t n old s h =
     let whole = operands-whole a.whole (fault s (Length m)) c.if-not-whole.false in
     rw c.in-Length.is (refuse _ _ _ _ OutOfRange (length-stands a.p s h.counts a.whole c.requires m ∙ whole ∙ length-low a.p s h.counts m c.if-m-lt2.true))
 
-pub returns-then-m-gt9 : goal.returns-then-m-gt9
-returns-then-m-gt9 c t n old s h =
-    let m = c.in-Length.m in
-    let a = c.args in
-    let whole = operands-whole a.whole (fault s (Length m)) c.if-not-whole.false in
-    rw c.in-Length.is (refuse _ _ _ _ OutOfRange (length-stands a.p s h.counts a.whole c.requires m ∙ whole ∙ length_high a.p s h.counts m c.if-m-lt2.false c.if-m-gt9.true))
-
 pub clear-requires : goal.clear-requires
 clear-requires c =
     let m = c.in-Length.m in
-    omega (arith, c.word_power-n.ensures, pow_mono {i = m} {j = 9} c.if-m-gt9.false)
+    omega (arith, c.word_power-n.ensures, pow_mono {i = m} {j = 9} (omega arith))
 
 pub returns : goal.returns
 unfolding is_end byte_of
@@ -48,8 +41,7 @@ returns c t n old s h =
     let m = c.in-Length.m in
     let a = c.args in
     let low = c.if-m-lt2.false in
-    let high = c.if-m-gt9.false in
     let power = c.word_power-n.ensures in
     let whole = operands-whole a.whole (fault s (Length m)) c.if-not-whole.false in
-    rw c.in-Length.is (proceed _ _ _ _ (length-stands a.p s h.counts a.whole c.requires m ∙ whole ∙ length-fits a.p s h.counts m low high)
-    (rw power (begin-holds a.p (with_indices t t.kinds a.terms.now) old s h m _ c.requires low high (rw power at c.clear.ensures))))
+    rw c.in-Length.is (proceed _ _ _ _ (length-stands a.p s h.counts a.whole c.requires m ∙ whole ∙ length-fits a.p s h.counts m low (omega arith))
+    (rw power (begin-holds a.p (with_indices t t.kinds a.terms.now) old s h m _ c.requires low (omega arith) (rw power at c.clear.ensures))))

@@ -1,10 +1,11 @@
 -- `obeying::tie` meets its contract: each return is the refusal of the test that led there, or the tie that fits. Assumes nothing.
 use mathlib.Core.Path.{◌∙◌}
-use Rattle.codebook.specs.declared.Refusal.TheVariants.{Truncated, OutOfRange, TooManyTied}
+use native.Mathlib.Omega.{arith}
+use Rattle.codebook.specs.declared.Refusal.TheVariants.{Truncated, OutOfRange}
 use Rattle.codebook.specs.declared.Command.TheVariants.{Tie}
 use Rattle.codebook.specs.Loading.{fault}
 use Rattle.codebook.specs.Progress.{byte_of, is_end, with_indices}
-use Rattle.obeying.proofs.Verdicts.{refuse, proceed, operands-cut, operands-whole, tie-stands, tie-later, tie-many, tie-fits}
+use Rattle.obeying.proofs.Verdicts.{refuse, proceed, operands-cut, operands-whole, tie-stands, tie-later, tie-fits}
 use Rattle.obeying.proofs.Growing.{tie-holds}
 use Rattle.obeying.proofs.tie.Goals as goal
 
@@ -21,18 +22,11 @@ returns-then-p-i c t old s h =
     let whole = operands-whole a.whole (fault s (Tie a.i)) c.if-not-whole.false in
     refuse _ _ _ _ OutOfRange (stands ∙ whole ∙ tie-later a.p s h.counts a.i c.if-p-i.true)
 
-pub returns-then-p-ge32 : goal.returns-then-p-ge32
-returns-then-p-ge32 c t old s h =
-    let a = c.args in
-    let stands = tie-stands a.p s h.counts a.whole c.requires.filled_lt_n a.i in
-    let whole = operands-whole a.whole (fault s (Tie a.i)) c.if-not-whole.false in
-    refuse _ _ _ _ TooManyTied (stands ∙ whole ∙ tie-many a.p s h.counts a.i c.if-p-i.false c.if-p-ge32.true)
-
 pub returns : goal.returns
 unfolding is_end byte_of
 returns c t old s h =
     let a = c.args in
     let stands = tie-stands a.p s h.counts a.whole c.requires.filled_lt_n a.i in
     let whole = operands-whole a.whole (fault s (Tie a.i)) c.if-not-whole.false in
-    proceed _ _ _ _ (stands ∙ whole ∙ tie-fits a.p s h.counts a.i c.if-p-i.false c.if-p-ge32.false)
-    (rw c.word_power.ensures (tie-holds a.p (with_indices t a.kinds.now a.terms.now) old s h a.i c.requires.filled_lt_n c.if-p-i.false c.if-p-ge32.false))
+    proceed _ _ _ _ (stands ∙ whole ∙ tie-fits a.p s h.counts a.i c.if-p-i.false (omega arith))
+    (rw c.word_power.ensures (tie-holds a.p (with_indices t a.kinds.now a.terms.now) old s h a.i c.requires.filled_lt_n c.if-p-i.false (omega arith)))
