@@ -64,6 +64,17 @@ pub struct Shape {
     pub blocks: u32,
 }
 
+// What the loader fills: of each index the code of its kind and the set of the ties that it is a term of; of each block its j, its first index and its
+// bias. specs/Tables.antt says what they are for a book.
+#[derive(Drop)]
+pub struct Tables {
+    pub kinds: [u8; 512],
+    pub terms: [u32; 512],
+    pub heights: [u8; 512],
+    pub starts: [u16; 512],
+    pub biases: [i32; 512],
+}
+
 // What stands at a place of a code book.
 #[derive(Clone, Copy)]
 pub enum Read {

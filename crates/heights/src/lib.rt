@@ -3,3 +3,10 @@
 #![tactic(auto)]
 
 pub mod arrays;
+
+// Where arrays stand: the workspace has so many of each height up to m.
+#[derive(Clone, Copy)]
+pub struct Layout {
+    pub m: usize,
+    pub arrays: usize,
+}

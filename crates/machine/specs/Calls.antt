@@ -1,6 +1,6 @@
 -- What a decoding call answers, and what it leaves in every lent buffer: document 01, "Refusal table" and "The marker's plain machine". One definition serves every call: a
 -- manner says how one differs from another, and the run is an argument, so that the plain machine's and the reader's go into the same definition. Assumes nothing.
-use Rattle.std.specs.Prelude.{Bool, true, false, cond, ◌&&◌, List, [], ◌∷◌, ◌++◌, map, ℕ, ◌+◌, ◌*◌, length, drop, replicate, ℤ, pos, nat_abs, leb, eqb}
+use Rattle.std.specs.Prelude.{◌≡◌, Bool, true, false, cond, ◌&&◌, List, [], ◌∷◌, ◌++◌, map, ℕ, ◌+◌, ◌*◌, length, drop, replicate, ℤ, pos, nat_abs, leb, eqb}
 use Rattle.std.proofs.Math.Option.{Option, none, some}
 use Rattle.std.specs.Borrow.{MutBor}
 use denote.Triple.Both.{Both}
@@ -26,6 +26,9 @@ use Rattle.machine.specs.declared.Beside.{Beside}
 use Rattle.machine.specs.declared.Beside.TheVariants.{Absent, Entries}
 use Rattle.machine.specs.declared.Manner.{Manner}
 use Rattle.machine.specs.declared.Lengths.{Lengths}
+use Rattle.machine.specs.declared.Output.{Output}
+use Rattle.machine.specs.declared.Workspace.{Workspace}
+use Rattle.machine.specs.declared.Walk.{Walk}
 use Rattle.machine.specs.declared.Counts.{Counts}
 use Rattle.machine.specs.declared.Decoded.{Decoded}
 use Rattle.machine.specs.declared.HookDecoded.{HookDecoded}
@@ -80,6 +83,22 @@ lent_before word bits numbers bytes path blocks score =
 abbrev pub lent_after : Slice ℕ → Slice ℕ → Slice ℤ → Slice ℕ → Slice ℤ → Slice ℤ → Slice ℤ → Lent
 lent_after word bits numbers bytes path blocks score =
     lent word.exit.now bits.exit.now numbers.exit.now bytes.exit.now path.exit.now blocks.exit.now score.exit.now
+
+-- what a call is lent, as it stands
+abbrev pub lent_in : Output → Workspace → Walk → Lent
+lent_in out workspace walk =
+    lent out.word.now out.bits.now workspace.numbers.now workspace.bytes.now walk.path.now walk.blocks.now walk.score.now
+
+-- the same buffers, whatever they hold
+abbrev pub SameWalk : Walk → Walk → Type 0
+SameWalk new old =
+    (new.path.ghost_name ≡ old.path.ghost_name) × (new.blocks.ghost_name ≡ old.blocks.ghost_name) × (new.score.ghost_name ≡ old.score.ghost_name)
+
+abbrev pub SameOutput : Output → Output → Type 0
+SameOutput new old = (new.word.ghost_name ≡ old.word.ghost_name) × (new.bits.ghost_name ≡ old.bits.ghost_name)
+
+abbrev pub SameWorkspace : Workspace → Workspace → Type 0
+SameWorkspace new old = (new.numbers.ghost_name ≡ old.numbers.ghost_name) × (new.bytes.ghost_name ≡ old.bytes.ghost_name)
 
 -- the lengths of both
 abbrev pub lengths_of : Input → Lent → Lengths

@@ -41,6 +41,28 @@ pub struct Lengths {
     pub scores: usize,
 }
 
+// Where word and data are handed out.
+#[derive(Drop)]
+pub struct Output<'a> {
+    pub word: &'a mut [u8],
+    pub bits: &'a mut [u8],
+}
+
+// The lent workspace.
+#[derive(Drop)]
+pub struct Workspace<'a> {
+    pub numbers: &'a mut [i32],
+    pub bytes: &'a mut [u8],
+}
+
+// The walk: path number, blocks and score of each extraction.
+#[derive(Drop)]
+pub struct Walk<'a> {
+    pub path: &'a mut [i32],
+    pub blocks: &'a mut [i32],
+    pub score: &'a mut [i32],
+}
+
 // The counts of a run: extractions, paths crowded out, paths outrun, and the discrepancy of the final word. Zeros where no run was made.
 #[derive(Clone, Copy)]
 pub struct Counts {

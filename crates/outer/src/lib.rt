@@ -27,3 +27,11 @@ pub struct Next {
     pub second: Candidate,
     pub known: bool,
 }
+
+// Room for a search: a block's words, its sets or the keys of its half bytes, and the costs of half bytes. It may hold anything.
+#[derive(Drop)]
+pub struct Scratch {
+    pub words: [u32; 256],
+    pub sets: [u32; 256],
+    pub sums: [u32; 128],
+}

@@ -2,6 +2,7 @@
 -- does to it. Assumes nothing.
 use Rattle.std.specs.Prelude.{◌≡◌, List, ◌∷◌, ℕ, ◌+◌, ◌*◌, ◌≤◌, ◌<◌, ℤ, length, get_or}
 use Rattle.reader.specs.Arrays.{View}
+use Rattle.standing.specs.declared.Memory.{Memory as Lending}
 use Rattle.sharing.specs.Sharing.{Held, Rows, HasIds, Counted}
 use Rattle.heights.specs.Workspace.{Room, Parts}
 
@@ -15,6 +16,15 @@ pub record Memory : Type 0 where
 -- memory with these four
 unfoldable pub memory : List ℕ → List ℕ → List ℤ → List ℕ → Memory
 memory rows holders numbers bytes = record { rows = rows; holders = holders; numbers = numbers; bytes = bytes }
+
+-- what the memory of a run holds
+abbrev pub contents : Lending → Memory
+contents x = memory x.rows.now x.holders x.numbers.now x.bytes.now
+
+-- it is the same memory, whatever it holds
+abbrev pub SameMemory : Lending → Lending → Type 0
+SameMemory new old =
+    (new.rows.ghost_name ≡ old.rows.ghost_name) × (new.numbers.ghost_name ≡ old.numbers.ghost_name) × (new.bytes.ghost_name ≡ old.bytes.ghost_name)
 
 -- the table of holders and the workspace have N arrays of each height up to m
 pub record HasArrays (m N : ℕ) (x : Memory) : Type 0 where

@@ -4,3 +4,12 @@
 #![tactic(auto)]
 
 pub mod row;
+
+// What a run works on: the rows of the paths' slots, the number of paths that hold each array, and the lent workspace.
+#[derive(Drop)]
+pub struct Memory<'a> {
+    pub rows: &'a mut [u32],
+    pub holders: [u16; 2580],
+    pub numbers: &'a mut [i32],
+    pub bytes: &'a mut [u8],
+}

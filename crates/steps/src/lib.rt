@@ -6,6 +6,13 @@
 pub mod copies;
 pub mod crowding;
 
+// The queue: the order of its entries, the last of which is the first path's, and the slots that no path is in.
+#[derive(Drop)]
+pub struct Queue {
+    pub order: [u64; 256],
+    pub vacant: [u8; 256],
+}
+
 // The number of queued paths, the next path's number, and the counts so far.
 #[derive(Clone, Copy)]
 pub struct Tally {
