@@ -1,6 +1,6 @@
 -- What a decoding call answers, and what it leaves in every lent buffer: document 01, "Refusal table" and "The marker's plain machine". One definition serves every call: a
 -- manner says how one differs from another, and the run is an argument, so that the plain machine's and the reader's go into the same definition. Assumes nothing.
-use Rattle.std.specs.Prelude.{◌≡◌, Bool, true, false, cond, ◌&&◌, List, [], ◌∷◌, ◌++◌, map, ℕ, ◌+◌, ◌*◌, length, drop, replicate, ℤ, pos, nat_abs, leb, eqb}
+use Rattle.std.specs.Prelude.{◌≡◌, Bool, true, false, cond, ◌&&◌, List, [], ◌∷◌, ◌++◌, map, ℕ, ◌+◌, ◌*◌, length, drop, replicate, ℤ, pos, nat_abs, leb, eqb, Option as Beside, Some, None}
 use Rattle.std.proofs.Math.Option.{Option, none, some}
 use Rattle.std.specs.Borrow.{MutBor}
 use denote.Triple.Both.{Both}
@@ -22,8 +22,6 @@ use Rattle.codec.specs.Code.{free_bits}
 use Rattle.codec.specs.Record.{no_record, read_record}
 use Rattle.machine.specs.declared.Reads.{Reads}
 use Rattle.machine.specs.declared.Reads.TheVariants.{Data, Record}
-use Rattle.machine.specs.declared.Beside.{Beside}
-use Rattle.machine.specs.declared.Beside.TheVariants.{Absent, Entries}
 use Rattle.machine.specs.declared.Manner.{Manner}
 use Rattle.machine.specs.declared.Lengths.{Lengths}
 use Rattle.machine.specs.declared.Output.{Output}
@@ -150,13 +148,13 @@ lengths_ok x s l =
     && leb (walk_needed x s) l.scores
 
 -- a slice beside, if there is one, has at least, or exactly, so many entries
-unfoldable pub at_least : ℕ → Beside → Bool
-at_least n Absent = true
-at_least n (Entries size) = leb n size
+unfoldable pub at_least : ℕ → Beside ℕ → Bool
+at_least n None = true
+at_least n (Some size) = leb n size
 
-unfoldable pub exactly : ℕ → Beside → Bool
-exactly n Absent = true
-exactly n (Entries size) = eqb size n
+unfoldable pub exactly : ℕ → Beside ℕ → Bool
+exactly n None = true
+exactly n (Some size) = eqb size n
 
 -- how many entries counts and record have as slices
 abbrev pub counts_size : ℕ
@@ -350,10 +348,10 @@ call_of k c l = call_by machine_run k c l
 
 -- the plain call and the hook call, with nothing lent beside
 abbrev pub plain : Manner
-plain = record { reads = Data; steps = Absent; counts = Absent; hook = Absent }
+plain = record { reads = Data; steps = None; counts = None; hook = None }
 
 abbrev pub hooked : Manner
-hooked = record { reads = Record; steps = Absent; counts = Absent; hook = Absent }
+hooked = record { reads = Record; steps = None; counts = None; hook = None }
 
 -- an answer without its record, and with the record of a call that reads none
 abbrev pub bare : HookDecoded → Decoded
