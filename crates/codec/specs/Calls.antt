@@ -10,7 +10,7 @@ use Rattle.codebook.specs.Book.{Book, free_count}
 use Rattle.codebook.specs.Loading.{Load, refused, loaded, load}
 use Rattle.codec.specs.declared.HookRecord.{HookRecord}
 use Rattle.codec.specs.Code.{encode, in_code, read_data}
-use Rattle.codec.specs.Record.{record_fits, record_bits, read_record}
+use Rattle.codec.specs.Record.{no_record, record_fits, record_bits, read_record}
 
 -- every entry is 0 or 1
 unfoldable pub are_bits : List ℕ → Bool
@@ -93,3 +93,8 @@ read_record_with (loaded B) ds =
 
 unfoldable pub read_record_call : List ℕ → List ℕ → Result HookRecord Refusal
 read_record_call book ds = read_record_with (load book) ds
+
+-- the record that goes with a reading's answer: zeros, passed, where it is refused
+unfoldable pub hook_read : Result HookRecord Refusal → HookRecord
+hook_read (Ok h) = h
+hook_read (Err r) = no_record

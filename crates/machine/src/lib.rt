@@ -57,8 +57,8 @@ pub struct Walk<'a> {
     pub score: &'a mut [i32],
 }
 
-// The counts of a run: extractions, paths crowded out, paths outrun, and the discrepancy of the final word. Zeros where no run was made.
-#[derive(Clone, Copy)]
+// The counts of a run: extractions, paths crowded out, paths outrun, and the discrepancy of the final word. Zeros, the default, where no run was made.
+#[derive(Clone, Copy, Default)]
 pub struct Counts {
     pub extractions: u32,
     pub crowded: u32,
