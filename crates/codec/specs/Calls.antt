@@ -1,6 +1,7 @@
 -- What encode, test, read data, make record and read record answer, and the buffer that each is lent: document 01, "Refusal table".
 -- Every call takes the book's bytes; its faults 1 to 6 come first, then 7, 9 and 11. Assumes nothing.
-use Rattle.std.specs.Prelude.{Bool, true, cond, ◌&&◌, List, [], ◌∷◌, ℕ, ◌^◌, length, leb, eqb, Result, Ok, Err}
+use Rattle.std.specs.List.{list_all}
+use Rattle.std.specs.Prelude.{Bool, cond, ◌&&◌, List, [], ◌∷◌, ℕ, ◌^◌, length, leb, eqb, Result, Ok, Err}
 use Rattle.std.proofs.Math.Option.{Option, none, some}
 use Rattle.codebook.specs.declared.Refusal.{Refusal}
 use Rattle.codebook.specs.declared.Refusal.TheVariants.{Mismatch, BadValue, Unreadable}
@@ -14,8 +15,7 @@ use Rattle.codec.specs.Record.{no_record, record_fits, record_bits, read_record}
 
 -- every entry is 0 or 1
 unfoldable pub are_bits : List ℕ → Bool
-are_bits [] = true
-are_bits (b ∷ bs) = leb b 1 && are_bits bs
+are_bits = list_all (λ b. leb b 1)
 
 -- whether a word and data have the book's lengths, and whether a book's data hold a record in a buffer of this length
 unfoldable pub word_fits : Book → List ℕ → Bool
