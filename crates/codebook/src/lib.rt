@@ -3,6 +3,9 @@
 
 #![tactic(auto)]
 
+ghost use Rattle.std.specs.Prelude.{◌≡◌};
+ghost use Rattle.codebook.specs.Tables.{empty};
+
 // Why a call is refused: document 01, "Refusal table".
 #[derive(Clone, Copy, Debug, PartialEq, Eq)]
 pub enum Refusal {
@@ -68,6 +71,21 @@ pub struct Tables {
     pub heights: [u8; 512],
     pub starts: [u16; 512],
     pub biases: [i32; 512],
+}
+
+impl Tables {
+    // Tables that nothing is loaded into yet.
+    pub fn empty() -> Tables
+        ensures { result ≡ empty }
+    {
+        Tables {
+            kinds: [0; 512],
+            terms: [0; 512],
+            heights: [0; 512],
+            starts: [0; 512],
+            biases: [0; 512],
+        }
+    }
 }
 
 // A listed command that is found at a place of a code book, the place after it, and whether its operands are whole: where the book ends in

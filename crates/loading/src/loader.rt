@@ -71,12 +71,6 @@ pub fn load(book: &[u8]) -> Result<Shape, Refusal>
     ensures value { result ≡ shape_of (load book.now) }
     ensures number { outcome_number result ≡ number_by (load book.now) (λ _. 0) }
 {
-    let mut tables = Tables {
-        kinds: [0; 512],
-        terms: [0; 512],
-        heights: [0; 512],
-        starts: [0; 512],
-        biases: [0; 512],
-    };
+    let mut tables = Tables::empty();
     load_tables(book, &mut tables)
 }
