@@ -14,7 +14,6 @@ use Rattle.laws.proofs.Tests.{and_in, and_left, and_right, eq→eqb, both-in, bo
 use Rattle.polar.specs.Bits.{Bit}
 use Rattle.codebook.specs.declared.Refusal.{Refusal}
 use Rattle.codebook.specs.declared.Refusal.TheVariants.{Mismatch, BadValue, Unreadable}
-use Rattle.codebook.specs.declared.Outcome.TheVariants.{Done, Refused}
 use Rattle.codebook.specs.Book.{Book, free_count}
 use Rattle.codebook.specs.Loading.{loaded}
 use Rattle.codec.specs.declared.HookRecord.{HookRecord}
@@ -35,14 +34,11 @@ unfolding are_bits All
 bits_out [] t = tt
 bits_out (b ∷ bs) t = (omega (arith, leb→le b 1 (and_left (leb b 1) (are_bits bs) t)), bits_out bs (and_right (leb b 1) (are_bits bs) t))
 
--- a call that writes is done, and a refusal is not
+-- a call that writes is done
 abbrev pub IsDone : Wrote → Type 0
-IsDone w = w.outcome ≡ Done
+IsDone w = w.outcome ≡ Ok tt
 
-pub not_done : (r : Refusal) → Refused r ≡ Done → ⊥
-not_done r e = let z : ◌≡◌ {A = ℕ} 0 1 = cc in omega arith
-
--- nor does a refused test answer whether the word is in the code, nor a refused reading the record
+-- what is refused answers nothing
 pub not-said : {A : Type 0} {x : A} (r : Refusal) → Err r ≡ Ok x → ⊥
 not-said r e = cc
 
@@ -95,11 +91,11 @@ module _ (B : Book) where
 
   -- ---- encode
 
-  pub encode-done : (ds c : List ℕ) → (encode_with (loaded B) ds c).outcome ≡ Done →
+  pub encode-done : (ds c : List ℕ) → (encode_with (loaded B) ds c).outcome ≡ Ok tt →
       (length ds ≡ free_count B.kinds) × (length c ≡ 2 ^ B.m) × All Bit ds
   unfolding encode_with kept
   encode-done ds c e =
-      let (s, t, _) = both_out IsDone (data_fits B ds && word_fits B c) (are_bits ds) (not_done BadValue) (not_done Mismatch) e in
+      let (s, t, _) = both_out IsDone (data_fits B ds && word_fits B c) (are_bits ds) (not-said BadValue) (not-said Mismatch) e in
       (data-out ds (and_left (data_fits B ds) (word_fits B c) s), word_out c (and_right (data_fits B ds) (word_fits B c) s), bits_out ds t)
 
   pub encode-wrote : (ds c : List ℕ) → length ds ≡ free_count B.kinds → length c ≡ 2 ^ B.m → All Bit ds →
@@ -132,11 +128,11 @@ module _ (B : Book) where
 
   -- ---- read data
 
-  pub read_done : (c ds : List ℕ) → (read_data_with (loaded B) c ds).outcome ≡ Done →
+  pub read_done : (c ds : List ℕ) → (read_data_with (loaded B) c ds).outcome ≡ Ok tt →
       (length c ≡ 2 ^ B.m) × (length ds ≡ free_count B.kinds) × All Bit c
   unfolding read_data_with kept
   read_done c ds e =
-      let (s, t, _) = both_out IsDone (word_fits B c && data_fits B ds) (are_bits c) (not_done BadValue) (not_done Mismatch) e in
+      let (s, t, _) = both_out IsDone (word_fits B c && data_fits B ds) (are_bits c) (not-said BadValue) (not-said Mismatch) e in
       (word_out c (and_left (word_fits B c) (data_fits B ds) s), data-out ds (and_right (word_fits B c) (data_fits B ds) s), bits_out c t)
 
   pub read-wrote : (c ds : List ℕ) → length c ≡ 2 ^ B.m → length ds ≡ free_count B.kinds → All Bit c →
@@ -147,11 +143,11 @@ module _ (B : Book) where
 
   -- ---- make record
 
-  pub make-done : (h : HookRecord) (ds : List ℕ) → (make_record_with (loaded B) h ds).outcome ≡ Done →
+  pub make-done : (h : HookRecord) (ds : List ℕ) → (make_record_with (loaded B) h ds).outcome ≡ Ok tt →
       (free_count B.kinds ≡ 32) × (length ds ≡ 32) × T (record_fits h)
   unfolding make_record_with kept
   make-done h ds e =
-      let (s, t, _) = both_out IsDone (holds_record B ds) (record_fits h) (not_done BadValue) (not_done Mismatch) e in
+      let (s, t, _) = both_out IsDone (holds_record B ds) (record_fits h) (not-said BadValue) (not-said Mismatch) e in
       let (f, d) = holds-out ds s in
       (f, d, t)
 

@@ -19,7 +19,7 @@ use Rattle.codec.specs.Record.{status_of, record_fits, record_bits, field_at, re
 use Rattle.codec.specs.Calls.{are_bits, word_fits, data_fits, holds_record, Wrote, kept, wrote, record_read}
 use Rattle.codec.specs.Calls.{encode_with, test_with, read_data_with, make_record_with, read_record_with}
 use Rattle.codec.specs.Calls.{encode_call, test_call, read_data_call, make_record_call, read_record_call}
-use Rattle.codec.specs.Numbers.{tested_number, encode_number, test_number, read_data_number, make_record_number, read_number, readable, read_record_number}
+use Rattle.codec.specs.Numbers.{tested_number, encode_number, test_number, read_data_number, make_record_number, readable, read_record_number}
 
 -- the book's fault comes first
 pub by-book : (number : Load → ℕ) {own : Book → ℕ} → ((r : Refusal) → number (refused r) ≡ refusal_number r) → ((B : Book) → number (loaded B) ≡ own B)
@@ -77,17 +77,17 @@ make-record-number book h ds =
 -- ---- read record
 
 -- 11 where a spare bit is 1
-spared : (h : HookRecord) (b : Bool) → read_number (record_read (cond b (some h) none)) ≡ unless_number b 11 0
+spared : (h : HookRecord) (b : Bool) → outcome_number (record_read (cond b (some h) none)) ≡ unless_number b 11 0
 unfolding record_read unless_number
 spared h true = refl
 spared h false = refl
 
 -- or where the status is above 4
-pub read_number_lem : (ds : List ℕ) → read_number (record_read (read_record ds)) ≡ unless_number (readable ds) 11 0
+pub read_number_lem : (ds : List ℕ) → outcome_number (record_read (read_record ds)) ≡ unless_number (readable ds) 11 0
 unfolding read_record readable status_of record_with record_read unless_number
 read_number_lem ds = go (field_at ds 27 3)
   where
-    go : (s : ℕ) → read_number (record_read (record_with ds (status_of s))) ≡ unless_number (leb s 4 && eqb (field_at ds 30 2) 0) 11 0
+    go : (s : ℕ) → outcome_number (record_read (record_with ds (status_of s))) ≡ unless_number (leb s 4 && eqb (field_at ds 30 2) 0) 11 0
     go zero = spared _ (eqb (field_at ds 30 2) 0)
     go (suc zero) = spared _ (eqb (field_at ds 30 2) 0)
     go (suc (suc zero)) = spared _ (eqb (field_at ds 30 2) 0)
@@ -95,9 +95,9 @@ read_number_lem ds = go (field_at ds 27 3)
     go (suc (suc (suc (suc zero)))) = spared _ (eqb (field_at ds 30 2) 0)
     go (suc (suc (suc (suc (suc n))))) = rw (lt-leb (suc (suc (suc (suc (suc n))))) 4 (omega arith)) refl
 
-pub read-record-number : (book ds : List ℕ) → read_number (read_record_call book ds) ≡ read_record_number book ds
+pub read-record-number : (book ds : List ℕ) → outcome_number (read_record_call book ds) ≡ read_record_number book ds
 unfolding read_record_call read_record_number read_record_with
 read-record-number book ds =
-    by-book (λ l. read_number (read_record_with l ds)) (λ r. refl)
-    (λ B. by_tests read_number (holds_record B ds) (are_bits ds) (record_read (read_record ds)) (Err BadValue) (Err Mismatch) (read_number_lem ds) refl refl)
+    by-book (λ l. outcome_number (read_record_with l ds)) (λ r. refl)
+    (λ B. by_tests outcome_number (holds_record B ds) (are_bits ds) (record_read (read_record ds)) (Err BadValue) (Err Mismatch) (read_number_lem ds) refl refl)
     (load book)

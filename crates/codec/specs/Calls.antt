@@ -1,12 +1,10 @@
 -- What encode, test, read data, make record and read record answer, and the buffer that each is lent: document 01, "Refusal table".
 -- Every call takes the book's bytes; its faults 1 to 6 come first, then 7, 9 and 11. Assumes nothing.
 use Rattle.std.specs.List.{list_all}
-use Rattle.std.specs.Prelude.{Bool, cond, ◌&&◌, List, [], ◌∷◌, ℕ, ◌^◌, length, leb, eqb, Result, Ok, Err}
+use Rattle.std.specs.Prelude.{Bool, cond, ◌&&◌, List, ℕ, ◌^◌, length, leb, eqb, Result, Ok, Err}
 use Rattle.std.proofs.Math.Option.{Option, none, some}
 use Rattle.codebook.specs.declared.Refusal.{Refusal}
 use Rattle.codebook.specs.declared.Refusal.TheVariants.{Mismatch, BadValue, Unreadable}
-use Rattle.codebook.specs.declared.Outcome.{Outcome}
-use Rattle.codebook.specs.declared.Outcome.TheVariants.{Done, Refused}
 use Rattle.codebook.specs.Book.{Book, free_count}
 use Rattle.codebook.specs.Loading.{Load, refused, loaded, load}
 use Rattle.codec.specs.declared.HookRecord.{HookRecord}
@@ -33,15 +31,15 @@ holds_record B ds = holds32 B && data_fits B ds
 
 -- a call that writes one buffer: its outcome, and what the buffer then holds
 pub record Wrote : Type 0 where
-  pub outcome : Outcome
+  pub outcome : Result (Unit {0}) Refusal
   pub buffer : List ℕ
 
 -- the buffer is written on success alone
 unfoldable pub kept : Refusal → List ℕ → Wrote
-kept r buffer = record { outcome = Refused r; buffer = buffer }
+kept r buffer = record { outcome = Err r; buffer = buffer }
 
 unfoldable pub wrote : List ℕ → Wrote
-wrote bits = record { outcome = Done; buffer = bits }
+wrote bits = record { outcome = Ok tt; buffer = bits }
 
 -- encode: data ds, into the lent word c
 unfoldable pub encode_with : Load → List ℕ → List ℕ → Wrote

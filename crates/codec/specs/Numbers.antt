@@ -16,11 +16,6 @@ tested_number (Ok true) = 0
 tested_number (Ok false) = 255
 tested_number (Err r) = refusal_number r
 
--- the number of a reading's answer: 0 where a record is read; else the refusal's
-abbrev pub read_number : Result HookRecord Refusal → ℕ
-read_number (Ok h) = 0
-read_number (Err r) = refusal_number r
-
 -- encode, data ds into the word c: 7 unless both have the book's lengths, 9 unless the data are bits
 unfoldable pub encode_number : List ℕ → List ℕ → List ℕ → ℕ
 encode_number book ds c = number_by (load book) (λ B. unless_number (data_fits B ds && word_fits B c) 7 (unless_number (are_bits ds) 9 0))

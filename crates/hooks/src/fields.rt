@@ -27,7 +27,8 @@ pub fn put_field(bits: &mut [u8], x: u32)
 
 // The number that bits hold.
 pub fn field(bits: &[u8]) -> u32
-    requires { (length bits.now ≤ 20) × All Bit bits.now }
+    requires short { length bits.now ≤ 20 }
+    requires bits { All Bit bits.now }
     ensures { result ≡ from_bits 0 bits.now }
 {
     let mut x: u32 = 0;

@@ -15,13 +15,13 @@ few i n h k = pow_mono {j = 19} (omega arith)
 
 pub overflow_add-x : goal.overflow_add-x
 overflow_add-x c =
-    let p = few c.loop-bit.bit-index (length c.args.bits.now) c.loop-bit-test.true c.requires.0 in
-    omega (arith, c.loop-bit.invariant.0, all-at Bit c.args.bits.now c.loop-bit.bit-index 0 c.loop-bit-test.true c.requires.1)
+    let p = few c.loop-bit.bit-index (length c.args.bits.now) c.loop-bit-test.true c.requires.short in
+    omega (arith, c.loop-bit.invariant.0, all-at Bit c.args.bits.now c.loop-bit.bit-index 0 c.loop-bit-test.true c.requires.bits)
 
 pub loop-bit-preserved : goal.loop-bit-preserved
 loop-bit-preserved c =
     let l = c.loop-bit in
-    let b = all-at Bit c.args.bits.now l.bit-index 0 c.loop-bit-test.true c.requires.1 in
+    let b = all-at Bit c.args.bits.now l.bit-index 0 c.loop-bit-test.true c.requires.bits in
     (
       digits_lt l.x c.from.result l.bit-index l.invariant.0 (omega arith),
       from_more c.args.bits.now l.x l.bit-index c.from.result c.loop-bit-test.true c.from.ensures ∙ l.invariant.1,

@@ -1,2 +1,20 @@
--- `hooks::hook::record_of` meets its contract. Assumes nothing.
+-- `hooks::hook::record_of` meets its contract: by the status's number and the spare bits. Assumes nothing.
+use mathlib.Core.Path.{sym, ◌∙◌}
+use Rattle.codec.specs.Record.{field_at}
+use Rattle.hooks.proofs.Parts.{no-status, not-spare, read}
 use Rattle.hooks.proofs.hook.record_of.Goals as goal
+
+pub returns-in_default : goal.returns-in_default
+unfolding field_at
+returns-in_default c = no-status c.args.bits.now c.field.result c.field.ensures c.in_default.ensures
+
+pub returns-then-field-ne0 : goal.returns-then-field-ne0
+unfolding field_at
+returns-then-field-ne0 c =
+    not-spare c.args.bits.now c.field.result c.field.ensures c.in-Ok.status c.in-Ok.ensures (λ e. c.if-field-ne0.true (c.field-2.ensures ∙ e))
+
+pub returns : goal.returns
+unfolding field_at
+returns c =
+    rw (c.field-3.ensures, c.field-4.ensures, c.field-5.ensures)
+    (read c.args.bits.now c.field.result c.field.ensures c.in-Ok.status c.in-Ok.ensures (sym c.field-2.ensures ∙ c.if-field-ne0.false))
