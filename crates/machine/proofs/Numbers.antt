@@ -12,7 +12,6 @@ use Rattle.settings.specs.Settings.{settings_ok}
 use Rattle.codec.specs.declared.HookRecord.{HookRecord}
 use Rattle.codec.specs.Record.{read_record}
 use Rattle.codec.specs.Calls.{record_read}
-use Rattle.codec.specs.Numbers.{read_number}
 use Rattle.codec.proofs.Numbers.{by-book, read_number_lem}
 use Rattle.queue.specs.Queue.{Final}
 use Rattle.machine.specs.declared.Reads.{Reads}
@@ -34,7 +33,7 @@ barred-number f e true false l b v g = e Mismatch
 barred-number f e false h l b v g = e BadSetting
 
 -- 11 where there is no record
-read-outcome : (o : Option HookRecord) → outcome_number (outcome_of (unless (is_read o) Unreadable none)) ≡ read_number (record_read o)
+read-outcome : (o : Option HookRecord) → outcome_number (outcome_of (unless (is_read o) Unreadable none)) ≡ outcome_number (record_read o)
 unfolding outcome_of unless is_read record_read
 read-outcome none = refl
 read-outcome (some h) = refl

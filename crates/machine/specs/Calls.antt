@@ -1,6 +1,6 @@
 -- What a decoding call answers, and what it leaves in every lent buffer: document 01, "Refusal table" and "The marker's plain machine". One definition serves every call: a
 -- manner says how one differs from another, and the run is an argument, so that the plain machine's and the reader's go into the same definition. Assumes nothing.
-use Rattle.std.specs.Prelude.{◌≡◌, Bool, true, false, cond, ◌&&◌, List, [], ◌∷◌, ◌++◌, map, ℕ, ◌+◌, ◌*◌, length, drop, replicate, ℤ, pos, nat_abs, leb, eqb, Option as Beside, Some, None}
+use Rattle.std.specs.Prelude.{◌≡◌, Bool, true, false, cond, ◌&&◌, List, [], ◌∷◌, ◌++◌, map, ℕ, ◌+◌, ◌*◌, length, drop, replicate, ℤ, pos, nat_abs, leb, eqb, Option as Beside, Some, None, Result, Ok, Err, is_ok}
 use Rattle.std.proofs.Math.Option.{Option, none, some}
 use Rattle.std.specs.Borrow.{MutBor}
 use denote.Triple.Both.{Both}
@@ -9,8 +9,6 @@ use Rattle.polar.specs.Transform.{transform}
 use Rattle.polar.specs.Value.{R}
 use Rattle.codebook.specs.declared.Refusal.{Refusal}
 use Rattle.codebook.specs.declared.Refusal.TheVariants.{Mismatch, BadSetting, BadValue, AboveLimit, Unreadable}
-use Rattle.codebook.specs.declared.Outcome.{Outcome}
-use Rattle.codebook.specs.declared.Outcome.TheVariants.{Done, Refused}
 use Rattle.codebook.specs.declared.Shape.{Shape}
 use Rattle.codebook.specs.Refusals.{unless}
 use Rattle.codebook.specs.Book.{Book}
@@ -248,14 +246,10 @@ verdict r s end = first_failed (verdicts r s end)
 
 -- ---- what is handed out
 
--- the outcome by what was refused, and whether there is none
-unfoldable pub outcome_of : Option Refusal → Outcome
-outcome_of none = Done
-outcome_of (some r) = Refused r
-
-unfoldable pub is_done : Outcome → Bool
-is_done Done = true
-is_done (Refused r) = false
+-- the outcome by what was refused
+unfoldable pub outcome_of : Option Refusal → Result (Unit {0}) Refusal
+outcome_of none = Ok tt
+outcome_of (some r) = Err r
 
 -- a record, or zeros, passed
 unfoldable pub record_or : Option HookRecord → HookRecord
@@ -309,7 +303,7 @@ pub record Called (A : Type 0) : Type 0 where
 
 -- a refusal with 1 to 9 gives counts of 0, a record of zeros, passed, and leaves every buffer
 unfoldable pub refused_as : Refusal → HookDecoded
-refused_as r = record { outcome = Refused r; counts = no_counts; hook = no_record }
+refused_as r = record { outcome = Err r; counts = no_counts; hook = no_record }
 
 unfoldable pub refused_call : Refusal → Lent → Called HookDecoded
 refused_call r l = record { answer = refused_as r; lent = l; steps = [] }
@@ -321,7 +315,7 @@ ran_call r x s l run =
     let v = verdict r s run.end in
     record {
       answer = record { outcome = outcome_of v; counts = counts_of run.steps f; hook = hook_of r v f };
-      lent = after_run x s l run.steps f (is_done (outcome_of v));
+      lent = after_run x s l run.steps f (is_ok (outcome_of v));
       steps = run.steps;
     }
 
