@@ -11,7 +11,9 @@ use borrow.Rule.Slice.PartMut.{mid_of, put_mid}
 use mathlib.Core.Option.{Option, none, some}
 use borrow.Author.Tests.{eq-eqb, ne_eqb}
 use Rattle.std.specs.Prelude.{Ok, Err}
-use Rattle.polar.specs.Bits.{to_bits, from_bits}
+use Rattle.laws.specs.Lists.{All}
+use Rattle.laws.proofs.Lists.{all_take, all_drop}
+use Rattle.polar.specs.Bits.{Bit, to_bits, from_bits}
 use Rattle.codebook.specs.declared.Refusal.TheVariants.{Unreadable}
 use Rattle.codec.specs.declared.Status.{Status}
 use Rattle.codec.specs.declared.UnknownStatus.{UnknownStatus}
@@ -60,6 +62,10 @@ put_all done [] q h = q ∙ append-nil done
 put_all done (x ∷ rest) q h = absurd (omega arith)
 
 -- ---- the record of 32 bits
+
+-- a part of bits is of bits
+pub part_bits : (ds : List ℕ) (i w : ℕ) → All Bit ds → All Bit (take w (drop i ds))
+part_bits ds i w h = all_take Bit w (drop i ds) (all_drop Bit i ds h)
 
 module _ (ds : List ℕ) (n : ℕ) (e : n ≡ field_at ds 27 3) where
   -- by the status that the number has, or has not

@@ -30,7 +30,6 @@ pub fn put_record(bits: &mut [u8], h: HookRecord)
 }
 
 // The record of 32 bits, unless the status is 5 to 7 or a spare bit is 1.
-#[tactic(auto, using(laws::proofs::Lists::all_take, laws::proofs::Lists::all_drop))]
 pub fn record_of(bits: &[u8]) -> Result<HookRecord, Refusal>
     requires { (length bits.now ≡ 32) × All Bit bits.now }
     ensures { result ≡ record_read (read_record bits.now) }

@@ -21,8 +21,7 @@ overflow_add-x c =
 pub loop-bit-preserved : goal.loop-bit-preserved
 loop-bit-preserved c =
     let l = c.loop-bit in
-    let b = all-at Bit c.args.bits.now l.bit-index 0 c.loop-bit-test.true c.requires.bits in
-    (
+    let b = all-at Bit c.args.bits.now l.bit-index 0 c.loop-bit-test.true c.requires.bits in (
       digits_lt l.x c.from.result l.bit-index l.invariant.0 (omega arith),
       from_more c.args.bits.now l.x l.bit-index c.from.result c.loop-bit-test.true c.from.ensures ∙ l.invariant.1,
     )

@@ -1,8 +1,8 @@
 -- `hooks::hook::put_record` meets its contract: the fields follow each other and fill the 32 bits. Assumes nothing.
-use mathlib.Core.Path.{refl, ap, ◌∙◌}
+use mathlib.Core.Path.{refl, ◌∙◌}
 use mathlib.Core.List.{[], ◌++◌, append_assoc}
 use native.Mathlib.Omega.{arith}
-use lib.ListN.{length, drop, length-append, length-drop}
+use lib.ListN.{drop, length-append, length-drop}
 use Rattle.polar.specs.Bits.{to_bits}
 use Rattle.polar.proofs.Bits.{to_bits-length}
 use Rattle.codec.specs.Record.{status_number, record_bits}
@@ -23,6 +23,6 @@ returns c =
     let q2 = put_next A (drop 6 bits) 6 20 h.carcass (to_bits-length 6 h.plant) (simp length-drop (omega arith)) q1 c.put_field-2.ensures in
     let q3 = put_next (A ++ B) (drop 20 (drop 6 bits)) 26 1 h.side (simp (length-append, to_bits-length)) (simp length-drop (omega arith)) q2 c.put_field-3.ensures in
     let q4 = put_next (A ++ B ++ C) (drop 1 (drop 20 (drop 6 bits))) 27 3 (status_number h.status) (simp (length-append, to_bits-length)) (simp length-drop (omega arith)) q3
-        (rw c.from.ensures at c.put_field-4.ensures) in
+    (rw c.from.ensures at c.put_field-4.ensures) in
     let q5 = put_next (A ++ B ++ C ++ D) (drop 3 (drop 1 (drop 20 (drop 6 bits)))) 30 2 0 (simp (length-append, to_bits-length)) (simp length-drop (omega arith)) q4 c.put_field-5.ensures in
     put_all (A ++ B ++ C ++ D ++ E) (drop 2 (drop 3 (drop 1 (drop 20 (drop 6 bits))))) q5 (simp length-drop (omega arith)) ∙ unfold to_bits in simp append_assoc

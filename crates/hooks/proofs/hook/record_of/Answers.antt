@@ -1,8 +1,23 @@
 -- `hooks::hook::record_of` meets its contract: by the status's number and the spare bits. Assumes nothing.
 use mathlib.Core.Path.{sym, ◌∙◌}
 use Rattle.codec.specs.Record.{field_at}
-use Rattle.hooks.proofs.Parts.{no-status, not-spare, read}
+use Rattle.hooks.proofs.Parts.{part_bits, no-status, not-spare, read}
 use Rattle.hooks.proofs.hook.record_of.Goals as goal
+
+pub field-requires-clause-bits : goal.field-requires-clause-bits
+field-requires-clause-bits c = part_bits c.args.bits.now 27 3 c.requires.1
+
+pub field-requires-2-clause-bits : goal.field-requires-2-clause-bits
+field-requires-2-clause-bits c = part_bits c.args.bits.now 30 2 c.requires.1
+
+pub field-requires-3-clause-bits : goal.field-requires-3-clause-bits
+field-requires-3-clause-bits c = part_bits c.args.bits.now 0 6 c.requires.1
+
+pub field-requires-4-clause-bits : goal.field-requires-4-clause-bits
+field-requires-4-clause-bits c = part_bits c.args.bits.now 6 20 c.requires.1
+
+pub field-requires-5-clause-bits : goal.field-requires-5-clause-bits
+field-requires-5-clause-bits c = part_bits c.args.bits.now 26 1 c.requires.1
 
 pub returns-in_default : goal.returns-in_default
 unfolding field_at
