@@ -1,6 +1,6 @@
 // The words and the parities of all settings of a block's free bits. The entry of setting 0 and one direction for each free index are walked
 // through the indices; they are doubled to a table of all settings at the end. Relies on numerals::wide; outer/specs/Search.antt says what an entry is.
-ghost use Rattle.std.specs.Prelude.{◌≡◌, ℕ, ◌+◌, ◌*◌, ◌/◌, ◌%◌, ◌^◌, ◌≤◌, ◌<◌, get_or};
+ghost use Rattle.std.specs.Prelude.{◌≡◌, ℕ, ◌+◌, ◌*◌, ◌/◌, ◌%◌, ◌^◌, ◌≤◌, ◌<◌, length, get_or};
 ghost use Rattle.std.specs.Int.Bits.{bit_xor};
 ghost use Rattle.outer.specs.Search.{row_of, Entry, later, grown, settings, entry, spread, Spans, Walkable};
 
@@ -96,7 +96,7 @@ fn double(table: &mut [u32; 256], count: usize, mask: u32)
 // The words of all settings of the free bits: the last direction first. Returns their number.
 pub fn double_all(table: &mut [u32; 256], directions: &Directions) -> usize
     requires { directions.now.free ≤ 8 }
-    ensures { (result ≡ 2 ^ directions.now.free)
+    ensures { (length table.new ≡ 256) × (result ≡ 2 ^ directions.now.free)
         × ((k : ℕ) → k < 2 ^ directions.now.free → get_or table.new k 0 ≡ spread directions.now.words 0 directions.now.free k) }
 {
     table[0] = directions.words[0];
