@@ -24,7 +24,13 @@ fn ones(n: usize) -> u32
 }
 
 // The sum of the costs of the first two words, where the last of at least 4 directions is the word of n ones.
-fn turned(words: &[u32], sums: &[u32; 128], runs: usize, directions: &Directions, n: usize) -> Option<u32>
+fn turned(
+    words: &[u32],
+    sums: &[u32; 128],
+    runs: usize,
+    directions: &Directions,
+    n: usize,
+) -> Option<u32>
     requires sums { Runs runs × Small sums.now runs }
     requires sizes { (directions.now.free ≤ 8) × (n ≤ 32) × (length words.now ≡ 2 ^ directions.now.free) }
     ensures { IfSome result (λ total. (0 < directions.now.free) × (get_or directions.now.words directions.now.free 0 ≡ 2 ^ n - 1) × (total < 4294967295)
@@ -43,14 +49,27 @@ fn two_each(words: &[u32], sums: &[u32; 128], runs: usize, bound: u64) -> Two
 {
     let mut two = none();
     for (w, word) in words.iter().enumerate() {
-        two = sift(two, bound, cost_of(sums, runs, *word), *word, w, words.len());
+        two = sift(
+            two,
+            bound,
+            cost_of(sums, runs, *word),
+            *word,
+            w,
+            words.len(),
+        );
     }
     two
 }
 
 // The same, where the costs of each two words from an even setting on have one sum: each second cost is what is left of it. Of many words most are passed
 // over, two at a time; for few there is no branch.
-fn two_turned<const MANY: bool>(words: &[u32], sums: &[u32; 128], runs: usize, total: u32, bound: u64) -> Two
+fn two_turned<const MANY: bool>(
+    words: &[u32],
+    sums: &[u32; 128],
+    runs: usize,
+    total: u32,
+    bound: u64,
+) -> Two
     requires { Runs runs × Small sums.now runs × (total < 4294967295) × Turned sums.now runs words.now (length words.now) total }
     ensures { result ≡ two_least (summed_key sums.now runs words.now) bound (length words.now) }
 {

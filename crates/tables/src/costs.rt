@@ -27,7 +27,12 @@ fn pairs(s0: i32, s1: i32) -> [u32; 4]
 }
 
 // For all half bytes at the four values from `from` on, zeros past the last, SCALE times the cost and STEP times the half byte, from `to` on.
-pub fn half_bytes<const SCALE: u32, const STEP: u32>(values: &[i32], from: usize, table: &mut [u32], to: usize)
+pub fn half_bytes<const SCALE: u32, const STEP: u32>(
+    values: &[i32],
+    from: usize,
+    table: &mut [u32],
+    to: usize,
+)
     requires small { All (Within 1048064) values.now × (from + 4 ≤ 32) }
     requires room { to + 16 ≤ length table.old }
     requires scale { (SCALE ≤ 256) × (STEP ≤ 16) }

@@ -77,7 +77,12 @@ pub fn walk(tables: &Tables, start: usize, n: usize, parities: u32) -> Direction
     };
     directions.sets[0] = parities;
     for i in 0..n {
-        advance(&mut directions, tables.kinds[start + i], matrix[i], tables.terms[start + i]);
+        advance(
+            &mut directions,
+            tables.kinds[start + i],
+            matrix[i],
+            tables.terms[start + i],
+        );
     }
     directions
 }

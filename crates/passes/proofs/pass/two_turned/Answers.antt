@@ -17,6 +17,6 @@ loop-k-preserved g c =
     let p = pair-keys c.requires.3 (omega arith) (omega arith) c.cost_of-cost.ensures.0 in
     let next : 2 * x.k + 2 ≡ 2 * (x.k + 1) = omega arith in
     elim c.if-this-ne0.branch [
-      then-this-ne0 w ↦ w.two-is ∙ w.sift_both-two.ensures _ x.invariant p.1 p.2 ∙ ap (two_least _ _) next
-    | else-this-ne0 w ↦ w.two-is ∙ w.among-two.ensures _ (w.among-one.ensures _ x.invariant p.1) p.2 ∙ ap (two_least _ _) (omega arith)
+      | then-this-ne0 w ↦ w.two-is ∙ w.sift_both-two.ensures _ x.invariant p.1 p.2 ∙ ap (two_least _ _) next
+      | else-this-ne0 w ↦ w.two-is ∙ w.among-two.ensures _ (w.among-one.ensures _ x.invariant p.1) p.2 ∙ ap (two_least _ _) (omega arith)
     ]

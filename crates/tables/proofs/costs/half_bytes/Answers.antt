@@ -33,8 +33,11 @@ pub overflow_add-table-in-loop-v : goal.overflow_add-table-in-loop-v
 overflow_add-table-in-loop-v g c =
     let v = c.loop-v.v in
     let small : get_or c.pairs-low.result (v % 4) 0 + get_or c.pairs-high.result (v / 4) 0 ≤ 4192256 = omega (arith, (c.pairs-low.ensures (v % 4) (omega arith)).1, (c.pairs-high.ensures (v / 4) (omega arith)).1) in
-    omega (arith, mul-le _ _ 4192256 256 small c.requires.scale.0,
-    mul-le v g.row.STEP 16 16 (omega arith) c.requires.scale.1)
+    omega (
+      arith,
+      mul-le _ _ 4192256 256 small c.requires.scale.0,
+      mul-le v g.row.STEP 16 16 (omega arith) c.requires.scale.1,
+    )
 
 pub loop-v-preserved : goal.loop-v-preserved
 loop-v-preserved g c = stored_more _ c.loop-v.invariant (omega arith) refl
