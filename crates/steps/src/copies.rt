@@ -17,7 +17,7 @@ use outer::Next;
 use settings::Settings;
 use sharing::holders::share;
 use standing::row::{earlier_of, put, spent_of};
-use views::view::claim;
+use views::view::claim_of_parts;
 use words::kept::keep_known;
 use words::{Block, other_word, score};
 
@@ -68,7 +68,7 @@ fn fork(
         earlier,
         found.first.parities,
     );
-    claim(
+    claim_of_parts(
         rows,
         holders,
         numbers,
