@@ -44,7 +44,7 @@ pub fn score(spent: u32, cost: u32, bias: i32) -> i32
     requires { (spent + cost ≤ 1048064) × Within 1048576 bias }
     ensures { (result ≡ neg_ℤ (pos (spent + cost)) -ℤ bias) × Within 2096640 result }
 {
-    0 - (spent + cost) as i32 - bias
+    -((spent + cost) as i32) - bias
 }
 
 // The values that the path in a slot sees of height j.
