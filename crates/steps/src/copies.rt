@@ -81,9 +81,8 @@ fn tallied(t: Tally, left: usize) -> Tally
     Tally {
         queued: left + 1,
         next: t.next + 1,
-        extractions: t.extractions,
         crowded: t.crowded + (t.queued - left) as u32,
-        outrun: t.outrun,
+        ..t
     }
 }
 

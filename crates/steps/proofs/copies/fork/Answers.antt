@@ -1,14 +1,14 @@
 -- `steps::copies::fork` meets its contract: the copy's entry and row hold what the copy is, so that memory stands for the copy in front of the path
 -- in hand; the array claimed and the insertion then do what the reader does. Forks.antt has each step, for any state that memory stands for; the
 -- contract's own state shows what the calls need. Assumes nothing.
-use mathlib.Core.Path.{◌≡◌, refl, ap, ◌∙◌}
+use mathlib.Core.Path.{◌≡◌, refl}
 use mathlib.Core.List.{List}
 use Prim.Native.Nat.{ℕ, suc, ◌+◌}
 use native.Mathlib.Omega.{arith}
-use lib.IntN.{ℤ, pos, neg_ℤ, nat_abs, ◌-ℤ◌}
-use mir.Facts.{to_z-of_z}
-use Rattle.laws.proofs.Signed.{back, abs-fits}
-use Rattle.polar.specs.Layers.{Within}
+use lib.IntN.{pos, neg_ℤ, ◌-ℤ◌}
+use mir.Syntax.{w32}
+use mir.Val.{to_z, of_z}
+use Rattle.std.proofs.lemmas.Int.{ints}
 use Rattle.reader.specs.Paths.{key_of}
 use Rattle.order.specs.Entries.{Packed, queue_of}
 use Rattle.standing.specs.Seen.{memory, contents}
@@ -29,21 +29,17 @@ earlier_of-earlier-requires c = let l = c.requires.lent.0 in
     let low = fork-slot c.requires.by_index.3 in
     (omega (arith, low, l.few, c.slot_of-slot.ensures.0), omega (arith, low, l.rows, c.slot_of-slot.ensures.0))
 
--- the bias and the score, as a word of 32 bits has them
-as-word : (z : ℤ) → Within 2096640 z → back z ≡ z
-as-word z h = to_z-of_z (abs-fits z (omega arith))
-
 pub score-requires : goal.score-requires
 unfolding memory
 score-requires c =
     let o = c.requires.by_index.3 in
     let at = c.slot_of-slot.ensures.0 in
-    (omega (arith, rw at at c.spent_of-spent.ensures, fork-total o), rw (as-word c.args.last.bias (omega (arith, fork-bias o))) (fork-bias o))
+    (omega (arith, rw at at c.spent_of-spent.ensures, fork-total o), omega (arith, ints, fork-bias o))
 
 pub entry-d-requires : goal.entry-d-requires
 entry-d-requires c =
     let o = c.requires.by_index.3 in (
-      omega (arith, ap nat_abs (as-word c.score.result c.score.ensures.1), c.score.ensures.1),
+      omega (arith, ints, c.score.ensures.1),
       omega (arith, c.requires.by_index.1, fork-blocks o),
       c.requires.lent.2,
       omega (arith, (fork-apart o).1, c.requires.lent.0.few),
@@ -82,7 +78,7 @@ entry-is : (c : After-put) (b : ℕ) (vs : List ℕ) (o : Fork c b vs) → c.arg
 unfolding memory
 entry-is c b vs o q =
     let a = c.args in
-    let score = as-word c.score.result c.score.ensures.1 ∙ c.score.ensures.0 ∙ ap (λ (z : ℤ). neg_ℤ (pos (c.spent_of-spent.result + a.found.first.cost)) -ℤ z) (as-word a.last.bias (omega (arith, fork-bias o))) in
+    let score : to_z w32 (of_z w32 c.score.result) ≡ neg_ℤ (pos (c.spent_of-spent.result + a.found.first.cost)) -ℤ a.last.bias = omega (arith, ints, c.score.ensures, fork-bias o) in
     fork-entry o c.slot_of-slot.ensures.0 c.spent_of-spent.ensures q score c.entry-d.ensures
 
 written : (c : After-put) (b : ℕ) (vs : List ℕ) (o : Fork c b vs) → c.args.blocks ≡ suc b →
