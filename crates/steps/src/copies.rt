@@ -1,25 +1,28 @@
 // Step 2: if the last block of the path in hand has a next word, the queue is cut to D - 2 paths and a copy with that word is inserted.
 ghost use Rattle.std.specs.Prelude.{◌≡◌, List, ◌∷◌, ℕ, suc, ◌+◌, ◌-◌, ◌≤◌, ◌<◌, length};
 ghost use Rattle.std.proofs.Math.Option.{some};
-ghost use Rattle.outer.specs.Search.{Scratch};
+ghost use Rattle.outer.specs.Search as S;
 ghost use Rattle.reader.specs.Reader as R;
 ghost use Rattle.order.specs.Entries.{queue_of, Rising};
-ghost use Rattle.standing.specs.Seen.{memory, Lent};
+ghost use Rattle.standing.specs.Seen.{memory, contents, SameMemory, Lent};
 ghost use Rattle.standing.specs.Standing.{Stands};
 ghost use Rattle.words.specs.Kept.{Cells, Kepts};
 ghost use Rattle.steps.specs.Steps.{Forking, Copying, CopiedTo};
 
-use crate::Tally;
 use crate::crowding::crowd;
+use crate::{Queue, Tally};
+use codebook::Tables;
+use heights::Layout;
 use order::entries::{entry, slot_of};
 use order::moves::insert;
-use outer::Next;
+use outer::{Next, Scratch};
 use settings::Settings;
 use sharing::holders::share;
+use standing::Memory;
 use standing::row::{earlier_of, put, spent_of};
 use views::view::claim;
 use words::kept::keep_known;
-use words::{Block, other_word, score};
+use words::{Block, other_word_of_parts, score};
 
 // A copy of the path of entry e, with the word found, in the slot `to`; it is inserted. The next word after that one is kept for it, where it is known.
 fn fork(
@@ -100,7 +103,7 @@ fn tallied(t: Tally, left: usize) -> Tally
 }
 
 // The copy, if the last block of the path of entry e has a next word: the number of paths queued then, the next number, and the count.
-pub fn copy(
+pub fn copy_of_parts(
     rows: &mut [u32],
     holders: &mut [u16; 2580],
     order: &mut [u64; 256],
@@ -122,12 +125,12 @@ pub fn copy(
     sums: &mut [u32; 128],
 ) -> Tally
     requires lent { Lent m s.paths arrays (memory rows.old holders.old numbers.old bytes.now) × (length order.old ≡ 256) × (length vacant.old ≡ 256) × Cells s.paths kept.old }
-    requires scratch { Scratch words.old sets.old sums.old × (2 ≤ s.paths) × (t.queued + 1 ≤ s.paths) × (t.next < 32768) × (t.crowded < 65536) }
+    requires scratch { S.Scratch words.old sets.old sums.old × (2 ≤ s.paths) × (t.queued + 1 ≤ s.paths) × (t.next < 32768) × (t.crowded < 65536) }
     requires by_index { (b : ℕ) × (blocks ≡ suc b) × Copying m s.paths arrays (memory rows.old holders.old numbers.old bytes.now) e (queue_of order.old t.queued)
         (queue_of vacant.old (s.paths - (t.queued + 1))) kinds.now terms.now last kept.old b }
     requires rising { Rising order.old t.queued }
     ensures lent_2 { Lent m s.paths arrays (memory rows.new holders.new numbers.new bytes.now)
-        × (length order.new ≡ 256) × (length vacant.new ≡ 256) × Cells s.paths kept.new × Scratch words.new sets.new sums.new }
+        × (length order.new ≡ 256) × (length vacant.new ≡ 256) × Cells s.paths kept.new × S.Scratch words.new sets.new sums.new }
     ensures extractions_value { (result.extractions ≡ t.extractions) × (result.outrun ≡ t.outrun) × (result.queued + 1 ≤ s.paths) }
     ensures by_index_2 { (b : ℕ) (c : Copying m s.paths arrays (memory rows.old holders.old numbers.old bytes.now) e (queue_of order.old t.queued)
         (queue_of vacant.old (s.paths - (t.queued + 1))) kinds.now terms.now last kept.old b)
@@ -138,7 +141,7 @@ pub fn copy(
 {
     let paths = s.paths as usize;
     let queued = t.queued;
-    let found = other_word(
+    let found = other_word_of_parts(
         rows, numbers, kinds, terms, m, e, last, kept, words, sets, sums,
     );
     if !found.first.some {
@@ -151,4 +154,59 @@ pub fn copy(
         blocks, t.next,
     );
     tallied(t, left)
+}
+
+// The copy, if the last block of the path of entry e has a next word: the number of paths queued then, the next number, and the count.
+pub fn copy(
+    memory: &mut Memory,
+    queue: &mut Queue,
+    tables: &Tables,
+    layout: Layout,
+    s: Settings,
+    t: Tally,
+    e: u64,
+    blocks: u32,
+    last: Block,
+    kept: &mut [u32],
+    scratch: &mut Scratch,
+) -> Tally
+    requires lent { Lent layout.m s.paths layout.arrays (contents memory.old) × Cells s.paths kept.old }
+    requires le_paths { (2 ≤ s.paths) × (t.queued + 1 ≤ s.paths) × (t.next < 32768) × (t.crowded < 65536) }
+    requires by_index { (b : ℕ) × (blocks ≡ suc b) × Copying layout.m s.paths layout.arrays (contents memory.old) e (queue_of queue.old.order t.queued)
+        (queue_of queue.old.vacant (s.paths - (t.queued + 1))) tables.now.kinds tables.now.terms last kept.old b }
+    requires rising { Rising queue.old.order t.queued }
+    ensures lent_2 { Lent layout.m s.paths layout.arrays (contents memory.new) × Cells s.paths kept.new }
+    ensures extractions_value { (result.extractions ≡ t.extractions) × (result.outrun ≡ t.outrun) × (result.queued + 1 ≤ s.paths) }
+    ensures by_index_2 { (b : ℕ) (c : Copying layout.m s.paths layout.arrays (contents memory.old) e (queue_of queue.old.order t.queued)
+        (queue_of queue.old.vacant (s.paths - (t.queued + 1))) tables.now.kinds tables.now.terms last kept.old b)
+        → blocks ≡ suc b → (let k = R.copy c.hand.book s.paths c.hand.arrays c.hand.taken c.hand.rest t.next (suc b) in
+        CopiedTo c.hand.book s.paths layout.arrays e c.hand.taken k t.crowded result.queued result.next result.crowded (contents memory.new)
+        (queue_of queue.new.order result.queued) (queue_of queue.new.vacant (s.paths - (result.queued + 1))) kept.new) }
+    ensures rising_2 { Rising queue.new.order result.queued }
+    ensures same_memory { SameMemory memory.new memory.old }
+{
+    let rows = &mut *memory.rows;
+    let numbers = &mut *memory.numbers;
+    let bytes = &mut *memory.bytes;
+    copy_of_parts(
+        rows,
+        &mut memory.holders,
+        &mut queue.order,
+        &mut queue.vacant,
+        numbers,
+        bytes,
+        &tables.kinds,
+        &tables.terms,
+        layout.m,
+        s,
+        layout.arrays,
+        t,
+        e,
+        blocks,
+        last,
+        kept,
+        &mut scratch.words,
+        &mut scratch.sets,
+        &mut scratch.sums,
+    )
 }

@@ -10,8 +10,8 @@ use Rattle.outer.specs.Blocks.{candidate_of}
 use Rattle.outer.specs.Words.{Word, nearest, next_after}
 use Rattle.sharing.specs.Sharing.{id_at}
 use Rattle.heights.specs.Workspace.{spot, Id}
-use Rattle.words.proofs.nearest_words.Statement.{statement}
-use Rattle.words.proofs.nearest_words.Tie as tie
+use Rattle.words.proofs.nearest_words_of_parts.Statement.{statement}
+use Rattle.words.proofs.nearest_words_of_parts.Tie as tie
 
 id-of-requires : tie.Need-id_of-requires
 id-of-requires c κs = let p = c.before.requires.0 in (p.0, omega arith)
@@ -46,8 +46,8 @@ returns c =
           (from_is c.before.before.before.before) (c.nearest_pair.ensures.1 B b x o h (c.before.before.before.parities_of-parities.ensures ∙ e)),
     )
 
-pub nearest_words_spec : {M : Type 1} → statement M
-nearest_words_spec =
+pub nearest_words_of_parts_spec : {M : Type 1} → statement M
+nearest_words_of_parts_spec =
     tie.close
     (tie.spec
     id-of-requires

@@ -21,8 +21,8 @@ use Rattle.words.specs.Kept.{Kepts}
 use Rattle.steps.specs.Steps.{Forking, Copying}
 use Rattle.steps.proofs.Forks.{fork-apart}
 use Rattle.steps.proofs.Nexts.{Answers, seen, copy-tabled, copy-low, copy-id, copy-searchable, copy-cost, copy-found, copy-none, copy-fork, copy_done}
-use Rattle.steps.proofs.copies.copy.Statement.{statement}
-use Rattle.steps.proofs.copies.copy.Tie as tie
+use Rattle.steps.proofs.copies.copy_of_parts.Statement.{statement}
+use Rattle.steps.proofs.copies.copy_of_parts.Tie as tie
 
 -- the memory where the call began, and a state that it stands for
 abbrev at-start : tie.Start → Memory
@@ -40,7 +40,7 @@ own s = s.requires.1.1.0.2
 cast-paths : tie.Need-overflow_cast-paths
 cast-paths c = search rules
 
-other-word-requires : tie.Need-other_word-found-requires
+other-word-requires : tie.Need-other_word_of_parts-found-requires
 unfolding memory
 other-word-requires c κs =
     let l = c.before.before.before.before.before.before.before.requires.0.0 in
@@ -53,24 +53,24 @@ same_length : tie.Need-shape_of-rows-then-not-found
 same_length c = search rules
 
 -- the word found, for any state
-abbrev start : tie.After-other_word-found → tie.Start
+abbrev start : tie.After-other_word_of_parts-found → tie.Start
 start c = c.before.before.before.before.before.before.before.before
 
-found-is : (c : tie.After-other_word-found) (b : ℕ) (o : Copy (start c) b) → Answers o c.other_word-found.result (seen o)
+found-is : (c : tie.After-other_word_of_parts-found) (b : ℕ) (o : Copy (start c) b) → Answers o c.other_word_of_parts-found.result (seen o)
 unfolding memory
 found-is c b o =
     copy-found o
-    (c.other_word-found.ensures.1 o.hand.book b o.hand.taken (copy-tabled o) o.own.fit.earlier (taken-row o.hand.stands) o.own.blocks)
+    (c.other_word_of_parts-found.ensures.1 o.hand.book b o.hand.taken (copy-tabled o) o.own.fit.earlier (taken-row o.hand.stands) o.own.blocks)
 
 -- what the test tells
-none-there : (c : tie.Then-not-found) → c.before.before.other_word-found.result.first.some ≡ false
+none-there : (c : tie.Then-not-found) → c.before.before.other_word_of_parts-found.result.first.some ≡ false
 none-there c = not-true _ c.if-not-found.true
 
 returns : tie.Need-returns-then-not-found
 unfolding memory
 returns c =
     let s = start c.before.before in (
-      (s.requires.0.0, s.requires.0.1, s.requires.0.2, s.requires.0.3, c.before.before.other_word-found.ensures.0),
+      (s.requires.0.0, s.requires.0.1, s.requires.0.2, s.requires.0.3, c.before.before.other_word_of_parts-found.ensures.0),
       (
         (refl, refl, s.requires.1.0.2),
         (
@@ -92,7 +92,7 @@ crowd-requires c κs =
     )
 
 -- the search before the queue was cut
-abbrev searched : tie.After-crowd-left → tie.After-other_word-found
+abbrev searched : tie.After-crowd-left → tie.After-other_word_of_parts-found
 searched c = c.before.before.before.before.before.before
 
 add-to : tie.Need-overflow_add-to
@@ -106,7 +106,7 @@ element-copy-out-to : tie.Need-bounds-vacant-paths
 unfolding memory
 element-copy-out-to c = let s = start (searched c.before) in omega (arith, c.before.crowd-left.ensures.0.4, s.requires.0.0.few)
 
-some-there : (c : tie.After-crowd-left) → (searched c).other_word-found.result.first.some ≡ true
+some-there : (c : tie.After-crowd-left) → (searched c).other_word_of_parts-found.result.first.some ≡ true
 some-there c = not-false _ c.before.before.before.before.if-not-found.false
 
 -- the copy's slot is the top vacant one
@@ -143,7 +143,7 @@ left c b o =
 -- what fork needs
 forking : (c : tie.After-crowd-left) (b : ℕ) (o : Copy (start (searched c)) b) → let a = (start (searched c)).args in
     Forking a.m a.s.paths a.arrays (at-crowd c) a.e (slot c) (queue_of c.crowd-left.new.order c.crowd-left.result) (queue_of c.crowd-left.new.vacant (top c)) a.last
-    (searched c).other_word-found.result b
+    (searched c).other_word_of_parts-found.result b
 forking c b o = copy-fork o (found-is (searched c) b o) (some-there c) (count c b o) c.crowd-left.ensures.0.4 (left c b o)
 
 cast-to : tie.Need-overflow_cast-to
@@ -200,7 +200,7 @@ returns-2 c =
     let f = c.before.before.before.before.before.before.fork.ensures in
     let g = c.before.before.before.before.before.before.before.before.before.before.before.before.before.before.crowd-left.ensures.0 in
     let r = c.tallied.ensures in (
-      (f.0.0, f.0.1, g.2, f.0.2, (searched c.before.before.before.before.before.before.before.before.before.before.before.before.before.before).other_word-found.ensures.0),
+      (f.0.0, f.0.1, g.2, f.0.2, (searched c.before.before.before.before.before.before.before.before.before.before.before.before.before.before).other_word_of_parts-found.ensures.0),
       (
         (r.2, r.4, omega (arith, r.0, g.4)),
         (
@@ -232,8 +232,8 @@ same-length-5 c = search rules
 same-length-6 : tie.Need-shape_of-kept
 same-length-6 c = search rules
 
-pub copy_spec : {M : Type 1} → statement M
-copy_spec =
+pub copy_of_parts_spec : {M : Type 1} → statement M
+copy_of_parts_spec =
     tie.close
     (tie.spec
     cast-paths

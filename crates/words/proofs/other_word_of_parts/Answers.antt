@@ -6,7 +6,7 @@ use Prim.Native.Nat.{ℕ, ◌<◌}
 use native.Mathlib.Omega.{arith}
 use Rattle.words.specs.Kept.{kept_cell, kept_at, Keeps}
 use Rattle.words.proofs.Kepts.{first_cell}
-use Rattle.words.proofs.other_word.Goals as goal
+use Rattle.words.proofs.other_word_of_parts.Goals as goal
 
 pub recall-first-requires : goal.recall-first-requires
 recall-first-requires c =
