@@ -26,10 +26,8 @@ pub fn begin(rows: &mut [u32], holders: &mut [u16; 2580], m: usize)
     ensures { (rows.new ≡ set rows.old m 1) × Held holders.new
         × ((h i : ℕ) → h ≤ 9 → i ≤ 256 → held_at holders.new h i ≡ first_held m h i) }
 {
-    let mut h: usize = 0;
-    while h < m {
+    for h in 0..m {
         holders[h * 257] = 1;
-        h += 1;
     }
     holders[m * 257 + 1] = 1;
     rows[m] = 1;
@@ -40,10 +38,8 @@ pub fn fill_vacant(vacant: &mut [u8; 256], paths: usize)
     requires { (length vacant.old ≡ 256) × (1 ≤ paths) × (paths ≤ 256) }
     ensures { (length vacant.new ≡ 256) × ((k : ℕ) → k + 1 < paths → get_or vacant.new k 0 ≡ k + 1) }
 {
-    let mut i: usize = 0;
-    while i + 1 < paths {
-        vacant[i] = (i + 1) as u8;
-        i += 1;
+    for i in 1..paths {
+        vacant[i - 1] = i as u8;
     }
 }
 
@@ -52,10 +48,8 @@ pub fn receive(numbers: &mut [i32], at: usize, values: &[i16])
     requires { at + length values.now ≤ length numbers.old }
     ensures { numbers.new ≡ over_at at values.now numbers.old }
 {
-    let mut i: usize = 0;
-    while i < values.len() {
-        numbers[at + i] = values[i] as i32;
-        i += 1;
+    for (i, value) in values.iter().enumerate() {
+        numbers[at + i] = i32::from(*value);
     }
 }
 
@@ -64,7 +58,7 @@ fn twos(t: usize) -> usize
     requires { (1 ≤ t) × (t ≤ 512) }
     ensures { (result ≤ 9) × ((m : ℕ) → m ≤ 9 → t ≤ 2 ^ m → result ≡ turn (suc m) t) }
 {
-    u32::trailing_zeros(t as u32) as usize
+    t.trailing_zeros() as usize
 }
 
 // Block b of the book.
@@ -83,7 +77,12 @@ pub fn block_at(tables: &Tables, b: usize) -> Block
 }
 
 // Block b of the book.
-pub fn block_at_of_parts(heights: &[u8; 512], starts: &[u16; 512], biases: &[i32; 512], b: usize) -> Block
+pub fn block_at_of_parts(
+    heights: &[u8; 512],
+    starts: &[u16; 512],
+    biases: &[i32; 512],
+    b: usize,
+) -> Block
     requires heights_len { (length heights.now ≡ 512) × (length starts.now ≡ 512) × (length biases.now ≡ 512) × (b < 512) }
     requires b_bound { (get_or heights.now b 0 ≤ 5) × (get_or starts.now b 0 + 2 ^ get_or heights.now b 0 ≤ 512) }
     ensures { (B : Book) (kinds terms : List ℕ) → Valid B → BlocksIn B (record { kinds = kinds; terms = terms; heights = heights.now; starts = starts.now; biases = biases.now }) → b < length B.blocks → BlockIs B b result }
