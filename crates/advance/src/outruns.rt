@@ -7,7 +7,7 @@ ghost use Rattle.reader.specs.Moments.{step_at};
 ghost use Rattle.reader.specs.Paths.{key_of};
 ghost use Rattle.order.specs.Entries.{key_at, queue_of, Rising};
 ghost use Rattle.sharing.specs.Sharing.{Held, Rows};
-ghost use Rattle.standing.specs.Seen.{memory};
+ghost use Rattle.standing.specs.Seen.{memory, contents, SameMemory};
 ghost use Rattle.standing.specs.Standing.{Stands};
 ghost use Rattle.steps.specs.Steps.{Queued};
 ghost use Rattle.advance.specs.Outruns.{Outrunning};
@@ -16,7 +16,8 @@ use order::entries::{blocks_of, slot_of};
 use order::moves::sift;
 use settings::Settings;
 use sharing::holders::release;
-use steps::Tally;
+use standing::Memory;
+use steps::{Queue, Tally};
 
 // The queued paths with b blocks or fewer let go of their arrays and their slots; returns how many they are. Their entries stay in the order.
 fn dismiss(
@@ -55,7 +56,7 @@ fn dismiss(
 
 // The visit to block b, at a moment of the reader's run: the number of paths queued then, and the count. The numbers that the order's entries hold before it and not
 // after are those that the reader's step at that moment gives as outrun.
-pub fn outrun(
+pub fn outrun_of_parts(
     rows: &[u32],
     holders: &mut [u16; 2580],
     order: &mut [u64; 256],
@@ -103,4 +104,53 @@ pub fn outrun(
         crowded: t.crowded,
         outrun: t.outrun + gone as u32,
     }
+}
+
+// The visit to block b, at a moment of the reader's run: the number of paths queued then, and the count. The numbers that the order's entries hold before it and not
+// after are those that the reader's step at that moment gives as outrun.
+pub fn outrun(
+    memory: &mut Memory,
+    queue: &mut Queue,
+    visits: &mut [u32; 512],
+    m: usize,
+    s: Settings,
+    t: Tally,
+    b: usize,
+) -> Tally
+    requires rows { Rows s.paths memory.old.rows.now × Held memory.old.holders × (m ≤ 9) }
+    requires paths_bound { (s.paths ≤ 256) × (t.queued ≤ s.paths) × (b < 512) × (get_or visits.old b 0 < 65536) × (t.outrun < 16777216) }
+    requires by_index { (arrays : ℕ) × (arrays ≤ 256) × Outrunning m s.visits s.paths arrays t.extractions b (contents memory.old)
+        (queue_of queue.old.order t.queued) (queue_of queue.old.vacant (s.paths - t.queued)) visits.old }
+    requires rising { Rising queue.old.order t.queued }
+    ensures held { Held memory.new.holders
+        × (visits.new ≡ visit visits.old b) × (result.next ≡ t.next) × (result.extractions ≡ t.extractions) × (result.crowded ≡ t.crowded)
+        × (result.queued ≤ s.paths)
+        × (queue_of queue.new.order result.queued ≡ staying key_at s.visits b (visit visits.old b) (queue_of queue.old.order t.queued)) }
+    ensures by_index_2 { (arrays : ℕ)
+        (c : Outrunning m s.visits s.paths arrays t.extractions b (contents memory.old)
+        (queue_of queue.old.order t.queued) (queue_of queue.old.vacant (s.paths - t.queued)) visits.old)
+        → arrays ≤ 256 → (let B = c.queued.book in
+        let left = staying (key_of B) s.visits b (visit visits.old b) c.queued.paths in
+        (result.queued ≡ length left)
+        × (result.outrun ≡ t.outrun + length (outrun_by (key_of B) s.visits b (visit visits.old b) c.queued.paths))
+        × Stands B s.paths arrays (contents memory.new) (queue_of queue.new.order result.queued)
+        (queue_of queue.new.vacant (s.paths - result.queued)) c.queued.arrays left
+        × Removes (step_at B s.visits s.paths c.here).outrun (Q.numbers key_at (queue_of queue.old.order t.queued)) (Q.numbers key_at (queue_of queue.new.order result.queued))) }
+    ensures rising_2 { Rising queue.new.order result.queued }
+    ensures same_memory { SameMemory memory.new memory.old }
+    ensures unchanged { (memory.new.rows.now ≡ memory.old.rows.now) × (memory.new.numbers.now ≡ memory.old.numbers.now) × (memory.new.bytes.now ≡ memory.old.bytes.now) }
+{
+    let rows = &mut *memory.rows;
+    let order = &mut queue.order;
+    outrun_of_parts(
+        rows,
+        &mut memory.holders,
+        order,
+        &mut queue.vacant,
+        visits,
+        m,
+        s,
+        t,
+        b,
+    )
 }

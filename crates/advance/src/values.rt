@@ -4,17 +4,19 @@ ghost use Rattle.std.specs.Prelude.{List, ◌∷◌, ℕ};
 ghost use Rattle.reader.specs.Paths.{ids_of};
 ghost use Rattle.reader.specs.Reader.{next_view};
 ghost use Rattle.order.specs.Entries.{slot_at};
-ghost use Rattle.standing.specs.Seen.{memory, Lent, IdsOnly};
+ghost use Rattle.standing.specs.Seen.{memory, contents, SameMemory, Lent, IdsOnly};
 ghost use Rattle.standing.specs.Standing.{Stands, with_ids};
 ghost use Rattle.steps.specs.Steps.{Moving};
 
+use heights::Layout;
 use order::entries::slot_of;
+use standing::Memory;
 use standing::row::word_of;
-use views::view::{claim, commit, go_down, turn_over};
+use views::view::{claim_of_parts, commit_of_parts, go_down_of_parts, turn_over_of_parts};
 use words::Block;
 
 // What the path of entry e sees of its next block, `at`, after its last one.
-pub fn calculate(
+pub fn calculate_of_parts(
     rows: &mut [u32],
     holders: &mut [u16; 2580],
     numbers: &mut [i32],
@@ -39,13 +41,42 @@ pub fn calculate(
     let j = at.height;
     let h = last.place;
     if at.start == 0 {
-        go_down(rows, holders, numbers, bytes, m, arrays, slot, m, j);
+        go_down_of_parts(rows, holders, numbers, bytes, m, arrays, slot, m, j);
     } else {
         let low = last.height;
         let word = word_of(rows, slot);
-        commit(rows, holders, numbers, bytes, m, arrays, slot, low, h, word);
-        turn_over(rows, holders, numbers, bytes, m, arrays, slot, h);
-        go_down(rows, holders, numbers, bytes, m, arrays, slot, h, j);
+        commit_of_parts(rows, holders, numbers, bytes, m, arrays, slot, low, h, word);
+        turn_over_of_parts(rows, holders, numbers, bytes, m, arrays, slot, h);
+        go_down_of_parts(rows, holders, numbers, bytes, m, arrays, slot, h, j);
     }
-    claim(rows, holders, numbers, bytes, m, arrays, slot, j, at.place);
+    claim_of_parts(rows, holders, numbers, bytes, m, arrays, slot, j, at.place);
+}
+
+// What the path of entry e sees of its next block, `at`, after its last one.
+pub fn calculate(memory: &mut Memory, layout: Layout, paths: usize, e: u64, last: Block, at: Block)
+    requires lent { Lent layout.m paths layout.arrays (contents memory.old) }
+    requires by_index { (es : List ℕ) × (vs : List ℕ) × Moving layout.m paths layout.arrays (contents memory.old) e es vs last at }
+    ensures lent_2 { Lent layout.m paths layout.arrays (contents memory.new)
+        × IdsOnly layout.m (slot_at e) memory.old.rows.now memory.new.rows.now }
+    ensures by_index_2 { (es vs : List ℕ) (c : Moving layout.m paths layout.arrays (contents memory.old) e es vs last at)
+        → (let v = next_view c.hand.book (ids_of c.hand.rest) c.hand.arrays c.hand.taken c.hand.taken.blocks in
+        Stands c.hand.book paths layout.arrays (contents memory.new) (e ∷ es) vs
+        v.arrays (with_ids c.hand.taken v.ids ∷ c.hand.rest)) }
+    ensures same_memory { SameMemory memory.new memory.old }
+{
+    let rows = &mut *memory.rows;
+    let numbers = &mut *memory.numbers;
+    let bytes = &mut *memory.bytes;
+    calculate_of_parts(
+        rows,
+        &mut memory.holders,
+        numbers,
+        bytes,
+        layout.m,
+        paths,
+        layout.arrays,
+        e,
+        last,
+        at,
+    );
 }

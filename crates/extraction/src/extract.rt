@@ -13,8 +13,8 @@ ghost use Rattle.words.specs.Kept.{Cells, Kepts};
 ghost use Rattle.steps.specs.Steps.{CopiedTo};
 ghost use Rattle.extraction.specs.Extraction.{moment_in, Seconding, Thirding, Extracting};
 
-use advance::outruns::outrun;
-use advance::values::calculate;
+use advance::outruns::outrun_of_parts;
+use advance::values::calculate_of_parts;
 use order::entries::{blocks_of, entry, number_of, slot_of};
 use order::moves::insert;
 use settings::Settings;
@@ -105,7 +105,7 @@ fn third(
         × Kepts h.book k.arrays kept.new (queue_of order.new (suc queued)) (Q.insert (key_of h.book) k.path h.rest)) }
     ensures rising_2 { Rising order.new (suc queued) }
 {
-    calculate(rows, holders, numbers, bytes, m, paths, arrays, e, last, at);
+    calculate_of_parts(rows, holders, numbers, bytes, m, paths, arrays, e, last, at);
     let slot = slot_of(e);
     let spent = spent_of(rows, slot) + cost_of(rows, slot);
     let parities = parities_of(rows, slot);
@@ -185,7 +185,7 @@ pub fn extract(
         kept, words, sums,
     );
     x.queued = queued + 1;
-    outrun(
+    outrun_of_parts(
         rows,
         holders,
         order,

@@ -28,7 +28,7 @@ use settings::Settings;
 use standing::row::{cost_of, id_of, spent_of, word_of};
 use start::{begin, block_at_of_parts, fill_vacant, note_of_parts, receive};
 use steps::Tally;
-use views::view::commit;
+use views::view::commit_of_parts;
 use words::Block;
 
 // The block before one; of the first, itself.
@@ -59,7 +59,7 @@ fn finish(
 {
     let slot = slot_of(e);
     let word = word_of(rows, slot);
-    commit(
+    commit_of_parts(
         rows,
         holders,
         numbers,

@@ -20,7 +20,7 @@ use settings::Settings;
 use sharing::holders::share;
 use standing::Memory;
 use standing::row::{earlier_of, put, spent_of};
-use views::view::claim;
+use views::view::claim_of_parts;
 use words::kept::keep_known;
 use words::{Block, other_word_of_parts, score};
 
@@ -71,7 +71,7 @@ fn fork(
         earlier,
         found.first.parities,
     );
-    claim(
+    claim_of_parts(
         rows,
         holders,
         numbers,

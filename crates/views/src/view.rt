@@ -6,13 +6,15 @@ ghost use Rattle.polar.specs.Layers.{part};
 ghost use Rattle.reader.specs.Arrays.{sums_of, put_sums, claim, descend, by_q, by_p, joined};
 ghost use Rattle.sharing.specs.Sharing.{id_at, HasRow};
 ghost use Rattle.heights.specs.Workspace.{spot, Room, Id, bits_of};
-ghost use Rattle.standing.specs.Seen.{memory, HasArrays, Viewed, StepSeen, IdsOnly};
+ghost use Rattle.standing.specs.Seen.{memory, contents, SameMemory, HasArrays, Viewed, StepSeen, IdsOnly};
 ghost use Rattle.views.specs.Steps.{Upper, Turning, Joinable, Claimable, Joined};
 
+use heights::Layout;
 use heights::arrays::{copy_half, first_half, put_word, second_half, spot_of};
 use numerals::power;
 use polar::layers::add_sums;
 use sharing::holders::take;
+use standing::Memory;
 use standing::row::id_of;
 
 // The values of height h, by Q.
@@ -39,7 +41,7 @@ fn lower(
 }
 
 // The values of the heights below `top`, down to `low`, by Q.
-pub fn go_down(
+pub fn go_down_of_parts(
     rows: &mut [u32],
     holders: &mut [u16; 2580],
     numbers: &mut [i32],
@@ -66,7 +68,7 @@ pub fn go_down(
 }
 
 // The values of height h, by P with the word in the path's sums of that height.
-pub fn turn_over(
+pub fn turn_over_of_parts(
     rows: &mut [u32],
     holders: &mut [u16; 2580],
     numbers: &mut [i32],
@@ -118,7 +120,7 @@ fn join(
 }
 
 // A block's word goes into the sums of height h, joined with those of the heights below.
-pub fn commit(
+pub fn commit_of_parts(
     rows: &mut [u32],
     holders: &mut [u16; 2580],
     numbers: &[i32],
@@ -145,7 +147,7 @@ pub fn commit(
 }
 
 // Takes an array of height h for the word of a block of height j; where h is j, the block's own values go along.
-pub fn claim(
+pub fn claim_of_parts(
     rows: &mut [u32],
     holders: &mut [u16; 2580],
     numbers: &mut [i32],
@@ -171,4 +173,108 @@ pub fn claim(
             copy_half(numbers, m, arrays, h, from, to);
         }
     }
+}
+
+// The values of the heights below `top`, down to `low`, by Q.
+pub fn go_down(memory: &mut Memory, layout: Layout, slot: usize, top: usize, low: usize)
+    requires has_arrays { HasArrays layout.m layout.arrays (contents memory.old) × HasRow slot memory.old.rows.now × (low ≤ top) × (top ≤ layout.m) }
+    requires viewed { Viewed layout.m layout.arrays slot (contents memory.old) (Upper top) }
+    ensures has_arrays_2 { HasArrays layout.m layout.arrays (contents memory.new)
+        × IdsOnly layout.m slot memory.old.rows.now memory.new.rows.now }
+    ensures step_seen { StepSeen layout.m layout.arrays slot (contents memory.old) (contents memory.new) (Upper top)
+        (λ others v. descend others (top - low) top 0 v) }
+    ensures same_memory { SameMemory memory.new memory.old }
+{
+    let rows = &mut *memory.rows;
+    let numbers = &mut *memory.numbers;
+    let bytes = &mut *memory.bytes;
+    go_down_of_parts(
+        rows,
+        &mut memory.holders,
+        numbers,
+        bytes,
+        layout.m,
+        layout.arrays,
+        slot,
+        top,
+        low,
+    );
+}
+
+// The values of height h, by P with the word in the path's sums of that height.
+pub fn turn_over(memory: &mut Memory, layout: Layout, slot: usize, h: usize)
+    requires has_arrays { HasArrays layout.m layout.arrays (contents memory.old) × HasRow slot memory.old.rows.now × (h < layout.m) }
+    requires viewed { Viewed layout.m layout.arrays slot (contents memory.old) (Turning h) }
+    ensures has_arrays_2 { HasArrays layout.m layout.arrays (contents memory.new)
+        × IdsOnly layout.m slot memory.old.rows.now memory.new.rows.now }
+    ensures step_seen { StepSeen layout.m layout.arrays slot (contents memory.old) (contents memory.new) (Turning h)
+        (λ others v. by_p others h v) }
+    ensures same_memory { SameMemory memory.new memory.old }
+{
+    let rows = &mut *memory.rows;
+    let numbers = &mut *memory.numbers;
+    let bytes = &mut *memory.bytes;
+    turn_over_of_parts(
+        rows,
+        &mut memory.holders,
+        numbers,
+        bytes,
+        layout.m,
+        layout.arrays,
+        slot,
+        h,
+    );
+}
+
+// A block's word goes into the sums of height h, joined with those of the heights below.
+pub fn commit(memory: &mut Memory, layout: Layout, slot: usize, j: usize, h: usize, word: u32)
+    requires has_arrays { HasArrays layout.m layout.arrays (contents memory.old) × HasRow slot memory.old.rows.now × (j ≤ h) × (h ≤ layout.m) }
+    requires viewed { Viewed layout.m layout.arrays slot (contents memory.old) (Joinable j h) }
+    ensures has_arrays_2 { HasArrays layout.m layout.arrays (contents memory.new)
+        × IdsOnly layout.m slot memory.old.rows.now memory.new.rows.now }
+    ensures step_seen { StepSeen layout.m layout.arrays slot (contents memory.old) (contents memory.new) (Joinable j h)
+        (λ others v. put_sums others h (joined (sums_of v) j (h - j) (bits_of (2 ^ j) word)) v) }
+    ensures same_memory { SameMemory memory.new memory.old }
+{
+    let rows = &mut *memory.rows;
+    let numbers = &mut *memory.numbers;
+    let bytes = &mut *memory.bytes;
+    commit_of_parts(
+        rows,
+        &mut memory.holders,
+        numbers,
+        bytes,
+        layout.m,
+        layout.arrays,
+        slot,
+        j,
+        h,
+        word,
+    );
+}
+
+// Takes an array of height h for the word of a block of height j; where h is j, the block's own values go along.
+pub fn claim(memory: &mut Memory, layout: Layout, slot: usize, j: usize, h: usize)
+    requires has_arrays { HasArrays layout.m layout.arrays (contents memory.old) × HasRow slot memory.old.rows.now × (h ≤ layout.m) }
+    requires viewed { Viewed layout.m layout.arrays slot (contents memory.old) (Claimable j h) }
+    ensures has_arrays_2 { HasArrays layout.m layout.arrays (contents memory.new)
+        × IdsOnly layout.m slot memory.old.rows.now memory.new.rows.now }
+    ensures step_seen { StepSeen layout.m layout.arrays slot (contents memory.old) (contents memory.new) (Claimable j h)
+        (λ others v. claim others j h v) }
+    ensures same_memory { SameMemory memory.new memory.old }
+{
+    let rows = &mut *memory.rows;
+    let numbers = &mut *memory.numbers;
+    let bytes = &mut *memory.bytes;
+    claim_of_parts(
+        rows,
+        &mut memory.holders,
+        numbers,
+        bytes,
+        layout.m,
+        layout.arrays,
+        slot,
+        j,
+        h,
+    );
 }

@@ -125,7 +125,7 @@ returns c =
     let s = start t in
     let a = s.args in
     let l = u.third.ensures.0 in
-    let f = c.outrun.ensures in
+    let f = c.outrun_of_parts.ensures in
     let b = c.before.blocks_of.result in (
       (
         record {
@@ -154,7 +154,7 @@ returns c =
       ),
     )
 
-outrun-requires : tie.Need-outrun-requires
+outrun-requires : tie.Need-outrun_of_parts-requires
 unfolding memory
 outrun-requires c κs =
     let u = thirded c in

@@ -30,14 +30,14 @@ use Rattle.extraction.proofs.Keeping.{third-few, third-kept}
 use Rattle.extraction.proofs.extract.third.Statement.{statement}
 use Rattle.extraction.proofs.extract.third.Tie as tie
 
-calculate-requires : tie.Need-calculate-requires
+calculate-requires : tie.Need-calculate_of_parts-requires
 calculate-requires c κs = search rules
 
 slot-of-requires : tie.Need-slot_of-slot-requires
 slot-of-requires c κs = search rules
 
 -- the memory where the call began, and a state that it stands for
-abbrev start : tie.After-calculate → tie.Start
+abbrev start : tie.After-calculate_of_parts → tie.Start
 start c = c.before.before.before.before.before.before.before.before
 
 abbrev at-start : tie.Start → Memory
@@ -52,15 +52,15 @@ own : (s : tie.Start) → Third s s.requires.1.0.0
 own s = s.requires.1.0.1
 
 -- the memory once the values are there, and the slot
-abbrev made : tie.After-slot_of-slot → tie.After-calculate
+abbrev made : tie.After-slot_of-slot → tie.After-calculate_of_parts
 made c = c.before.before.before.before.before.before
 
-abbrev at-made : tie.After-calculate → Memory
-at-made c = let f = c.calculate.new in memory f.rows f.holders f.numbers f.bytes
+abbrev at-made : tie.After-calculate_of_parts → Memory
+at-made c = let f = c.calculate_of_parts.new in memory f.rows f.holders f.numbers f.bytes
 
-values-there : (c : tie.After-calculate) (vs : List ℕ) (o : Third (start c) vs) → let a = (start c).args in
+values-there : (c : tie.After-calculate_of_parts) (vs : List ℕ) (o : Third (start c) vs) → let a = (start c).args in
     Stands o.moving.hand.book a.paths a.arrays (at-made c) (a.e ∷ queue_of a.order.now a.queued) vs (view o).arrays (with_ids o.moving.hand.taken (view o).ids ∷ o.moving.hand.rest)
-values-there c vs o = c.calculate.ensures.1 (queue_of (start c).args.order.now (start c).args.queued) vs o.moving
+values-there c vs o = c.calculate_of_parts.ensures.1 (queue_of (start c).args.order.now (start c).args.queued) vs o.moving
 
 abbrev slot : tie.After-slot_of-slot → ℕ
 slot c = slot_at (start (made c)).args.e
@@ -69,10 +69,10 @@ slot_is : (c : tie.After-slot_of-slot) → c.slot_of-slot.result ≡ slot c
 slot_is c = c.slot_of-slot.ensures.0
 
 -- its row is there
-row-there : (c : tie.After-slot_of-slot) → HasRow (slot c) (made c).calculate.new.rows
+row-there : (c : tie.After-slot_of-slot) → HasRow (slot c) (made c).calculate_of_parts.new.rows
 unfolding memory
 row-there c =
-    let l = (made c).calculate.ensures.0.0 in
+    let l = (made c).calculate_of_parts.ensures.0.0 in
     let low = slot-low (own (start (made c))).moving.hand.stands in
     (omega (arith, low, l.few), omega (arith, low, l.rows))
 
@@ -91,15 +91,15 @@ cell-of c f = cell (at-made (made c)).rows (slot c) f
 
 spent-is : (c : tie.After-spent_of) → c.spent_of.result ≡ cell-of c.before spent_at
 unfolding memory
-spent-is c = c.spent_of.ensures ∙ ap (λ i. cell (made c.before).calculate.new.rows i spent_at) (slot_is c.before)
+spent-is c = c.spent_of.ensures ∙ ap (λ i. cell (made c.before).calculate_of_parts.new.rows i spent_at) (slot_is c.before)
 
 cost-is : (c : tie.After-cost_of) → c.cost_of.result ≡ cell-of c.before.before cost_at
 unfolding memory
-cost-is c = c.cost_of.ensures ∙ ap (λ i. cell (made c.before.before).calculate.new.rows i cost_at) (slot_is c.before.before)
+cost-is c = c.cost_of.ensures ∙ ap (λ i. cell (made c.before.before).calculate_of_parts.new.rows i cost_at) (slot_is c.before.before)
 
 parities-is : (c : tie.After-parities_of-parities) → c.parities_of-parities.result ≡ cell-of c.before.before.before parities_at
 unfolding memory
-parities-is c = c.parities_of-parities.ensures ∙ ap (λ i. cell (made c.before.before.before).calculate.new.rows i parities_at) (slot_is c.before.before.before)
+parities-is c = c.parities_of-parities.ensures ∙ ap (λ i. cell (made c.before.before.before).calculate_of_parts.new.rows i parities_at) (slot_is c.before.before.before)
 
 add-spent : tie.Need-overflow_add-spent
 unfolding memory
@@ -113,7 +113,7 @@ unfolding memory
 nearest-words-requires c κs =
     let s = start (made c.before.before.before.before.before) in
     let o = own s in
-    let l = (made c.before.before.before.before.before).calculate.ensures.0.0 in
+    let l = (made c.before.before.before.before.before).calculate_of_parts.ensures.0.0 in
     let st = values-there (made c.before.before.before.before.before) _ o in
     rw (slot_is c.before.before.before.before.before) (
       (row-there c.before.before.before.before.before, l.has.deep, third-low o, third-id o st l.has.many),
@@ -168,7 +168,7 @@ put-requires c κs =
     let t = slotted c.before.before in
     rw (slot_is t) (row-there t)
 
-bias-back : (c : tie.After-calculate) → back (start c).args.at.bias ≡ (start c).args.at.bias
+bias-back : (c : tie.After-calculate_of_parts) → back (start c).args.at.bias ≡ (start c).args.at.bias
 unfolding memory
 bias-back c = to_z-of_z (abs-fits _ (omega (arith, third-bias (own (start c)))))
 
@@ -251,7 +251,7 @@ put_is c =
     let u = searched c in
     let t = slotted u in
     let w = u.nearest_words-found.result.first in
-    let rows = (made t).calculate.new.rows in
+    let rows = (made t).calculate_of_parts.new.rows in
     let v = cells u in
     let Put : ℕ → ℕ → ℕ → Type 0 = λ s a b. PutRow s rows c.put.new.rows a w.cost w.number b w.parities in
     let sum = ap₂ (λ (a b : ℕ). a + b) (spent-is v.before.before) (cost-is v.before) in
@@ -277,13 +277,13 @@ entry-is c vs o =
 same_length : tie.Need-shape_of-rows
 same_length c =
     let p = ended c.before.before.before.before.before in
-    omega (arith, p.put.auto.rows, (made (slotted (searched p))).calculate.auto.rows)
+    omega (arith, p.put.auto.rows, (made (slotted (searched p))).calculate_of_parts.auto.rows)
 
 same-length-2 : tie.Need-shape_of-numbers
-same-length-2 c = (made (slotted (searched (ended c.before.before.before.before.before)))).calculate.auto.numbers
+same-length-2 c = (made (slotted (searched (ended c.before.before.before.before.before)))).calculate_of_parts.auto.numbers
 
 same-length-3 : tie.Need-shape_of-bytes
-same-length-3 c = (made (slotted (searched (ended c.before.before.before.before.before)))).calculate.auto.bytes
+same-length-3 c = (made (slotted (searched (ended c.before.before.before.before.before)))).calculate_of_parts.auto.bytes
 
 same-length-4 : tie.Need-shape_of-kept
 same-length-4 c = c.before.before.keep.auto.kept
@@ -295,7 +295,7 @@ returns c =
     let u = searched p in
     let t = slotted u in
     let k = rw (slot_is t) at c.before.before.keep.ensures in
-    let l = (made t).calculate.ensures.0.0 in (
+    let l = (made t).calculate_of_parts.ensures.0.0 in (
       (
         record {
           few = l.few;

@@ -39,7 +39,7 @@ hand-row s q z =
 word-of-requires : tie.Need-word_of-word-requires
 word-of-requires c κs = hand-row c.before.before.before c.slot_of-slot.ensures.0 refl
 
-commit-requires : tie.Need-commit-requires
+commit-requires : tie.Need-commit_of_parts-requires
 commit-requires c κs =
     let r = c.before.before.before.before.slot_of-slot.ensures in
     let h = c.before.before.before.before.before.before.before.requires.1.2 in
@@ -47,30 +47,30 @@ commit-requires c κs =
     ((c.before.before.before.before.before.before.before.requires.0.0.has, hand-row c.before.before.before.before.before.before.before r.0 refl, l.0, l.1), own-viewed h.hand c.before.before.before.before.before.before.before.requires.0.0.enough r.0 h.valid h.own)
 
 -- once the word is in the sums: where it began, the slot, and what the path sees
-abbrev start : tie.After-commit → tie.Start
+abbrev start : tie.After-commit_of_parts → tie.Start
 start u = u.before.before.before.before.before.before.before.before
 
-abbrev slot : tie.After-commit → tie.After-slot_of-slot
+abbrev slot : tie.After-commit_of_parts → tie.After-slot_of-slot
 slot u = u.before.before.before.before.before
 
-abbrev summed : tie.After-commit → Memory
-summed u = memory u.commit.new.rows u.commit.new.holders (start u).args.numbers.now u.commit.new.bytes
+abbrev summed : tie.After-commit_of_parts → Memory
+summed u = memory u.commit_of_parts.new.rows u.commit_of_parts.new.holders (start u).args.numbers.now u.commit_of_parts.new.bytes
 
 -- the slot's row is there
-row-there : (u : tie.After-commit) → HasRow (slot u).slot_of-slot.result u.commit.new.rows
-row-there u = hand-row (start u) (slot u).slot_of-slot.ensures.0 u.commit.ensures.0.1.size
+row-there : (u : tie.After-commit_of_parts) → HasRow (slot u).slot_of-slot.result u.commit_of_parts.new.rows
+row-there u = hand-row (start u) (slot u).slot_of-slot.ensures.0 u.commit_of_parts.ensures.0.1.size
 
-sum-seen : (u : tie.After-commit) {es vs : List ℕ} (c : Hand (start u) es vs) →
+sum-seen : (u : tie.After-commit_of_parts) {es vs : List ℕ} (c : Hand (start u) es vs) →
     Seen (start u).args.m (start u).args.arrays (slot u).slot_of-slot.result (summed u) (ids_of c.hand.rest) (committed c.hand)
 unfolding memory
-sum-seen u c = commit-seen c.hand (start u).requires.0.0.enough (slot u).slot_of-slot.ensures.0 c.valid c.own (summed u) _ u.before.before.before.before.word_of-word.ensures u.commit.ensures.1
+sum-seen u c = commit-seen c.hand (start u).requires.0.0.enough (slot u).slot_of-slot.ensures.0 c.valid c.own (summed u) _ u.before.before.before.before.word_of-word.ensures u.commit_of_parts.ensures.1
 
 -- the row's spent and cost
-row-spent : (u : tie.After-commit) {es vs : List ℕ} (c : Hand (start u) es vs) →
+row-spent : (u : tie.After-commit_of_parts) {es vs : List ℕ} (c : Hand (start u) es vs) →
     let i = (slot u).slot_of-slot.result in
-    (cell u.commit.new.rows i spent_at ≡ c.hand.taken.spent) × (cell u.commit.new.rows i cost_at ≡ c.hand.taken.cost)
+    (cell u.commit_of_parts.new.rows i spent_at ≡ c.hand.taken.spent) × (cell u.commit_of_parts.new.rows i cost_at ≡ c.hand.taken.cost)
 unfolding memory
-row-spent u c = end-spent c (slot u).slot_of-slot.ensures.0 (start u).requires.0.0.has.deep u.commit.new.rows u.commit.ensures.0.1
+row-spent u c = end-spent c (slot u).slot_of-slot.ensures.0 (start u).requires.0.0.has.deep u.commit_of_parts.new.rows u.commit_of_parts.ensures.0.1
 
 add-t22 : tie.Need-overflow_add-counts
 add-t22 c = search rules

@@ -156,7 +156,7 @@ copied-in c b vs o q =
     let put : Put (cell-of t spent_at) (cell-of t earlier_at) = subst₂ Put (spent-is t) (earlier-is t) c.put.ensures in
     fork-written o (start t).requires.0.0.enough a.number (entry-is c b vs o q) holders (start t).requires.0.0 copied more put
 
-claim-requires : tie.Need-claim-requires
+claim-requires : tie.Need-claim_of_parts-requires
 unfolding memory
 claim-requires c κs =
     let s = start (began c.before.before.before.before.before) in
@@ -185,7 +185,7 @@ keep-known-requires c κs =
 returns : tie.Need-returns
 unfolding memory
 returns c =
-    let f = c.before.before.before.before.before.before.before.before.before.before.claim in
+    let f = c.before.before.before.before.before.before.before.before.before.before.claim_of_parts in
     let s = start (began c.before.before.before.before.before.before.before.before.before.before.before.before.before.before.before.before) in
     let g = c.before.before.keep_known.ensures in (
       (

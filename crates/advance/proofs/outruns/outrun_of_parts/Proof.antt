@@ -14,8 +14,8 @@ use Rattle.order.proofs.Queues.{queue-length}
 use Rattle.standing.proofs.Sizes.{stands-length}
 use Rattle.advance.proofs.Sides.{sides-length, stay_all, stay-ahead}
 use Rattle.advance.proofs.Losses.{stands-numbers, outruns}
-use Rattle.advance.proofs.outruns.outrun.Statement.{statement}
-use Rattle.advance.proofs.outruns.outrun.Tie as tie
+use Rattle.advance.proofs.outruns.outrun_of_parts.Statement.{statement}
+use Rattle.advance.proofs.outruns.outrun_of_parts.Tie as tie
 
 mul-seen : tie.Need-offset_bounds-visits-b
 mul-seen c = search rules
@@ -126,8 +126,8 @@ returns-2 c =
       ),
     )
 
-pub outrun_spec : {M : Type 1} → statement M
-outrun_spec =
+pub outrun_of_parts_spec : {M : Type 1} → statement M
+outrun_of_parts_spec =
     tie.close
     (tie.spec
     mul-seen

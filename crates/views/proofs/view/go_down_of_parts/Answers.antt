@@ -7,7 +7,7 @@ use Rattle.standing.specs.Seen.{memory, Viewed, StepSeen}
 use Rattle.views.specs.Steps.{Upper}
 use Rattle.views.proofs.Seeing.{ids-on}
 use Rattle.views.proofs.Down.{down, down-upper, viewed-on, turned_none, turned_more}
-use Rattle.views.proofs.view.go_down.Goals as goal
+use Rattle.views.proofs.view.go_down_of_parts.Goals as goal
 
 pub loop-h-init : goal.loop-h-init
 loop-h-init c = (omega arith, omega arith, refl, c.requires.has_arrays.0, record { size = refl; before = λ k b. refl; after = λ k b. refl }, turned_none _ _ _ _ _)

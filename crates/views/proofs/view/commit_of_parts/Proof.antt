@@ -18,8 +18,8 @@ use Rattle.views.specs.Steps.{Joined}
 use Rattle.views.proofs.Seeing.{Took, took, has_on, ids-only, seen-shared}
 use Rattle.views.proofs.Inside.{joined-room}
 use Rattle.views.proofs.Committing.{put-joined, put_word, lower-id, lower-bits, seen-commit}
-use Rattle.views.proofs.view.commit.Statement.{statement}
-use Rattle.views.proofs.view.commit.Tie as tie
+use Rattle.views.proofs.view.commit_of_parts.Statement.{statement}
+use Rattle.views.proofs.view.commit_of_parts.Tie as tie
 
 take-requires : tie.Need-take-to-requires
 unfolding memory
@@ -134,8 +134,8 @@ returns c =
           f.ensures.0 f.ensures.1 (word-is c.before.before.before.before.before.before),
     )
 
-pub commit_spec : {M : Type 1} → statement M
-commit_spec =
+pub commit_of_parts_spec : {M : Type 1} → statement M
+commit_of_parts_spec =
     tie.close
     (tie.spec
     take-requires

@@ -5,7 +5,7 @@ use lib.ListN.{length}
 use Rattle.standing.specs.Seen.{memory, HasArrays, StepSeen, IdsOnly}
 use Rattle.views.specs.Steps.{Upper}
 use Rattle.views.proofs.Down.{down}
-use Rattle.views.proofs.view.go_down.Given as goal
+use Rattle.views.proofs.view.go_down_of_parts.Given as goal
 
 abbrev pub invariant-loop-h : goal.invariant-loop-h
 invariant-loop-h l =

@@ -10,8 +10,8 @@ use Rattle.heights.specs.Workspace.{Id, Parts}
 use Rattle.standing.specs.Seen.{memory, StepSeen}
 use Rattle.views.specs.Steps.{Claimable}
 use Rattle.views.proofs.Seeing.{Took, took, has_on, ids-only, store-self, seen-id, seen-some, seen-shared, seen-take, seen-put}
-use Rattle.views.proofs.view.claim.Statement.{statement}
-use Rattle.views.proofs.view.claim.Tie as tie
+use Rattle.views.proofs.view.claim_of_parts.Statement.{statement}
+use Rattle.views.proofs.view.claim_of_parts.Tie as tie
 
 id-of-requires : tie.Need-id_of-from-requires
 unfolding memory
@@ -99,8 +99,8 @@ returns-3 c =
       λ others v seen met. rw (ne_eqb a.h a.j c.if-h-j.false) (seen-take seen p.0 p.1 p.2 (taken c.before.before.before)),
     )
 
-pub claim_spec : {M : Type 1} → statement M
-claim_spec =
+pub claim_of_parts_spec : {M : Type 1} → statement M
+claim_of_parts_spec =
     tie.close
     (tie.spec
     id-of-requires

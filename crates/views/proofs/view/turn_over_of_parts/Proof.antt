@@ -12,8 +12,8 @@ use Rattle.sharing.specs.Sharing.{id_at}
 use Rattle.heights.specs.Workspace.{Id, Parts}
 use Rattle.standing.specs.Seen.{memory, StepSeen}
 use Rattle.views.proofs.Seeing.{Took, took, has_on, ids-only, seen-id, seen-some, seen-vals, seen-shared, seen-put}
-use Rattle.views.proofs.view.turn_over.Statement.{statement}
-use Rattle.views.proofs.view.turn_over.Tie as tie
+use Rattle.views.proofs.view.turn_over_of_parts.Statement.{statement}
+use Rattle.views.proofs.view.turn_over_of_parts.Tie as tie
 
 add-id-of : tie.Need-overflow_add-h
 add-id-of c = search rules
@@ -90,8 +90,8 @@ returns c =
           (above c.before.before.before.before.before ∙ seen-id seen p.2) (c.before.before.before.before.before.before.before.before.id_of-word.ensures ∙ seen-id seen l) (f.ensures.1 g b seen.vals seen.sums)),
     )
 
-pub turn_over_spec : {M : Type 1} → statement M
-turn_over_spec =
+pub turn_over_of_parts_spec : {M : Type 1} → statement M
+turn_over_of_parts_spec =
     tie.close
     (tie.spec
     add-id-of
