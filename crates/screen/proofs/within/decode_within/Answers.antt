@@ -3,7 +3,7 @@
 use Rattle.std.proofs.Common.{refl}
 use Rattle.machine.specs.declared.Reads.TheVariants.{Data}
 use Rattle.machine.specs.Calls.{Input, Lent, given, lent}
-use Rattle.decoder.proofs.Said.{without-record}
+use Rattle.decoder.proofs.Said.{without_record}
 use Rattle.screen.specs.Screen.{showing}
 use Rattle.screen.proofs.Extracted.{left-fits}
 use Rattle.screen.proofs.within.decode_within.Goals as goal
@@ -16,4 +16,4 @@ returns c =
     let call : Input = given a.book.now a.s a.values.now in
     let before : Lent = lent a.word.now a.bits.now a.numbers.now a.bytes.now a.walk_path.now a.walk_blocks.now a.walk_score.now in
     let after : Lent = lent l.word l.bits l.numbers l.bytes l.walk_path l.walk_blocks l.walk_score in
-    (without-record (showing Data a.room) call before x.result after refl x.ensures, left-fits Data a.room call before x.result after x.ensures)
+    (without_record (showing Data a.room) call before x.result after refl x.ensures, left-fits Data a.room call before x.result after x.ensures)
