@@ -7,7 +7,7 @@ ghost use Rattle.std.specs.Prelude.{◌≡◌, length};
 ghost use Rattle.machine.specs.Calls.{given, lent_in, SameOutput, SameWorkspace, SameWalk};
 ghost use Rattle.answers.specs.Slices.{counts_slice, filled};
 ghost use Rattle.decoder.specs.Decodes.{Decodes};
-ghost use Rattle.slices.specs.Slices.{PlainSlices, HookSlices, counting, recording};
+ghost use Rattle.slices.specs.Slices.{PlainSlices, HookSlices};
 
 use answers::{put_counts, put_hook};
 use codebook::outcome_number;
