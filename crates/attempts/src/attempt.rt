@@ -2,7 +2,7 @@
 // on ran.rt, verdict.rt and the crates loading, coding and checks; machine/specs/Calls says what a call answers and leaves.
 ghost use Rattle.std.specs.Prelude.{◌≡◌, ◌≤◌, T, length};
 ghost use Rattle.settings.specs.Settings.{Ranged};
-ghost use Rattle.machine.specs.Calls.{given, lent_before, lent_after, numbers_needed, bytes_needed, walk_needed, holds, refused_as, ran_call, call_by};
+ghost use Rattle.machine.specs.Calls.{given, lent_before, lent_after, lent_in, SameOutput, SameWorkspace, SameWalk, numbers_needed, bytes_needed, walk_needed, holds, refused_as, ran_call, call_by};
 ghost use Rattle.attempts.specs.Reading.{reader_run};
 ghost use Rattle.attempts.specs.Attempt.{Ready};
 
@@ -13,7 +13,7 @@ use codebook::{Outcome, Refusal, Shape};
 use codec::{HookRecord, Status};
 use coding::data_of;
 use loading::load_tables;
-use machine::{Counts, HookDecoded, Lengths, Manner, Reads};
+use machine::{Counts, HookDecoded, Lengths, Manner, Output, Reads, Walk, Workspace};
 use settings::{Checked, Settings};
 
 // The answer where no run is made.
@@ -102,8 +102,8 @@ fn decide(
     }
 }
 
-// A call in this manner: loaded, tested, run, judged, handed out. The run is the reader's on the workspace lent (specs/Reading).
-pub fn attempt(
+// The call over its buffers: loaded, tested, run, judged, handed out. The run is the reader's on the workspace lent (specs/Reading).
+pub fn attempt_of_parts(
     k: Manner,
     book: &[u8],
     asked: Settings,
@@ -173,4 +173,40 @@ pub fn attempt(
             &mut info,
         ),
     }
+}
+
+// A call in this manner: loaded, tested, run, judged, handed out. The run is the reader's on the workspace lent (specs/Reading).
+pub fn attempt(
+    k: Manner,
+    book: &[u8],
+    asked: Settings,
+    values: &[i16],
+    out: &mut Output,
+    workspace: &mut Workspace,
+    walk: &mut Walk,
+) -> HookDecoded
+    ensures called { let w = call_by reader_run k (given book.now asked values.now) (lent_in out.old workspace.old walk.old) in
+        (result ≡ w.answer) × (lent_in out.new workspace.new walk.new ≡ w.lent) }
+    ensures same { SameOutput out.new out.old × SameWorkspace workspace.new workspace.old × SameWalk walk.new walk.old }
+{
+    let word = &mut *out.word;
+    let bits = &mut *out.bits;
+    let numbers = &mut *workspace.numbers;
+    let bytes = &mut *workspace.bytes;
+    let walk_path = &mut *walk.path;
+    let walk_blocks = &mut *walk.blocks;
+    let walk_score = &mut *walk.score;
+    attempt_of_parts(
+        k,
+        book,
+        asked,
+        values,
+        word,
+        bits,
+        numbers,
+        bytes,
+        walk_path,
+        walk_blocks,
+        walk_score,
+    )
 }

@@ -13,6 +13,7 @@ ghost use Rattle.machine.specs.Calls.{given, lent_before, lent_after};
 ghost use Rattle.numbered.specs.Answers.{load_answer, make_record_wrote, read_record_answer};
 ghost use Rattle.slices.specs.Slices.{PlainSlices, HookSlices};
 
+use machine::{Output, Walk, Workspace};
 use numbered::{
     encode_number, load_answer, make_record_number, read_data_number, read_record_answer,
     test_number,
@@ -105,17 +106,20 @@ pub extern "C" fn saddlemint_decode(
         paths,
         limit,
     };
+    let mut out = Output { word, bits };
+    let mut workspace = Workspace { numbers, bytes };
+    let mut walk = Walk {
+        path: walk_path,
+        blocks: walk_blocks,
+        score: walk_score,
+    };
     decode_slices(
         book,
         s,
         values,
-        word,
-        bits,
-        numbers,
-        bytes,
-        walk_path,
-        walk_blocks,
-        walk_score,
+        &mut out,
+        &mut workspace,
+        &mut walk,
         counts,
     )
 }
@@ -147,17 +151,20 @@ pub extern "C" fn saddlemint_decode_hook(
         paths,
         limit,
     };
+    let mut out = Output { word, bits };
+    let mut workspace = Workspace { numbers, bytes };
+    let mut walk = Walk {
+        path: walk_path,
+        blocks: walk_blocks,
+        score: walk_score,
+    };
     decode_hook_slices(
         book,
         s,
         values,
-        word,
-        bits,
-        numbers,
-        bytes,
-        walk_path,
-        walk_blocks,
-        walk_score,
+        &mut out,
+        &mut workspace,
+        &mut walk,
         counts,
         hook,
     )

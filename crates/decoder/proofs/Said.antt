@@ -30,7 +30,7 @@ module _ (k : Manner) (c : Input) (l : Lent) (answer : HookDecoded) (after : Len
       }
 
   -- where no record is read, the answer without its record is all of it
-  pub without-record : k.reads ≡ Data → Decodes k c l answer after → Decodes k c l (unread (bare answer)) after
-  without-record e d =
+  pub without_record : k.reads ≡ Data → Decodes k c l answer after → Decodes k c l (unread (bare answer)) after
+  without_record e d =
       let h : answer.hook ≡ no_record = ap (λ (x : HookDecoded). x.hook) d.answered ∙ data-unread machine_run k c l e in
       subst (λ (x : HookDecoded). Decodes k c l x after) (λ i. record { outcome = answer.outcome; counts = answer.counts; hook = h i }) d

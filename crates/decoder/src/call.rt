@@ -1,9 +1,9 @@
 // The decoding calls. All are one call, in different manners. Relies on the crate attempts; specs/Decodes.antt says what each promises, machine/specs/Calls what it answers and leaves.
-ghost use Rattle.machine.specs.Calls.{given, lent_before, lent_after, plain, hooked, unread};
+ghost use Rattle.machine.specs.Calls.{given, lent_in, SameOutput, SameWorkspace, SameWalk, plain, hooked, unread};
 ghost use Rattle.decoder.specs.Decodes.{Decodes};
 
 use attempts::attempt::attempt;
-use machine::{Beside, Decoded, HookDecoded, Manner, Reads};
+use machine::{Beside, Decoded, HookDecoded, Manner, Output, Reads, Walk, Workspace};
 use settings::Settings;
 
 // A decoding call in manner k. Its settings may be any numbers: those out of range are refused.
@@ -12,47 +12,28 @@ pub fn decode_in(
     book: &[u8],
     s: Settings,
     values: &[i16],
-    word: &mut [u8],
-    bits: &mut [u8],
-    numbers: &mut [i32],
-    bytes: &mut [u8],
-    walk_path: &mut [i32],
-    walk_blocks: &mut [i32],
-    walk_score: &mut [i32],
+    out: &mut Output,
+    workspace: &mut Workspace,
+    walk: &mut Walk,
 ) -> HookDecoded
-    ensures { Decodes k (given book.now s values.now) (lent_before word bits numbers bytes walk_path walk_blocks walk_score)
-        result (lent_after word bits numbers bytes walk_path walk_blocks walk_score) }
+    ensures decodes { Decodes k (given book.now s values.now) (lent_in out.old workspace.old walk.old) result (lent_in out.new workspace.new walk.new) }
+    ensures same { SameOutput out.new out.old × SameWorkspace workspace.new workspace.old × SameWalk walk.new walk.old }
 {
-    attempt(
-        k,
-        book,
-        s,
-        values,
-        word,
-        bits,
-        numbers,
-        bytes,
-        walk_path,
-        walk_blocks,
-        walk_score,
-    )
+    attempt(k, book, s, values, out, workspace, walk)
 }
 
 // The plain decoding call.
+#[tactic(auto, using(crate::proofs::Said::without_record))]
 pub fn decode(
     book: &[u8],
     s: Settings,
     values: &[i16],
-    word: &mut [u8],
-    bits: &mut [u8],
-    numbers: &mut [i32],
-    bytes: &mut [u8],
-    walk_path: &mut [i32],
-    walk_blocks: &mut [i32],
-    walk_score: &mut [i32],
+    out: &mut Output,
+    workspace: &mut Workspace,
+    walk: &mut Walk,
 ) -> Decoded
-    ensures { Decodes plain (given book.now s values.now) (lent_before word bits numbers bytes walk_path walk_blocks walk_score)
-        (unread result) (lent_after word bits numbers bytes walk_path walk_blocks walk_score) }
+    ensures decodes { Decodes plain (given book.now s values.now) (lent_in out.old workspace.old walk.old) (unread result) (lent_in out.new workspace.new walk.new) }
+    ensures same { SameOutput out.new out.old × SameWorkspace workspace.new workspace.old × SameWalk walk.new walk.old }
 {
     let k = Manner {
         reads: Reads::Data,
@@ -60,22 +41,11 @@ pub fn decode(
         counts: Beside::Absent,
         hook: Beside::Absent,
     };
-    let x = decode_in(
-        k,
-        book,
-        s,
-        values,
-        word,
-        bits,
-        numbers,
-        bytes,
-        walk_path,
-        walk_blocks,
-        walk_score,
-    );
-    let outcome = x.outcome;
-    let counts = x.counts;
-    Decoded { outcome, counts }
+    let x = decode_in(k, book, s, values, out, workspace, walk);
+    Decoded {
+        outcome: x.outcome,
+        counts: x.counts,
+    }
 }
 
 // The hook call: the record of the word's data besides.
@@ -83,16 +53,12 @@ pub fn decode_hook(
     book: &[u8],
     s: Settings,
     values: &[i16],
-    word: &mut [u8],
-    bits: &mut [u8],
-    numbers: &mut [i32],
-    bytes: &mut [u8],
-    walk_path: &mut [i32],
-    walk_blocks: &mut [i32],
-    walk_score: &mut [i32],
+    out: &mut Output,
+    workspace: &mut Workspace,
+    walk: &mut Walk,
 ) -> HookDecoded
-    ensures { Decodes hooked (given book.now s values.now) (lent_before word bits numbers bytes walk_path walk_blocks walk_score)
-        result (lent_after word bits numbers bytes walk_path walk_blocks walk_score) }
+    ensures decodes { Decodes hooked (given book.now s values.now) (lent_in out.old workspace.old walk.old) result (lent_in out.new workspace.new walk.new) }
+    ensures same { SameOutput out.new out.old × SameWorkspace workspace.new workspace.old × SameWalk walk.new walk.old }
 {
     let k = Manner {
         reads: Reads::Record,
@@ -100,17 +66,5 @@ pub fn decode_hook(
         counts: Beside::Absent,
         hook: Beside::Absent,
     };
-    decode_in(
-        k,
-        book,
-        s,
-        values,
-        word,
-        bits,
-        numbers,
-        bytes,
-        walk_path,
-        walk_blocks,
-        walk_score,
-    )
+    decode_in(k, book, s, values, out, workspace, walk)
 }

@@ -46,8 +46,8 @@ steps-roomy r room c l = go (load c.book) refl
     go (refused x) e = omega arith
     go (loaded B) e = checked B e (barred (showing r room) B c l) refl
 
-pub left-fits : (r : Reads) (room : ℕ) (c : Input) (l : Lent) (answer : HookDecoded) (after : Lent) → Decodes (showing r room) c l answer after → Fitting answer.counts room after
+pub left_fits : (r : Reads) (room : ℕ) (c : Input) (l : Lent) (answer : HookDecoded) (after : Lent) → Decodes (showing r room) c l answer after → Fitting answer.counts room after
 unfolding Fitting
-left-fits r room c l answer after d =
+left_fits r room c l answer after d =
     let e = left-long (showing r room) c l answer after d in
     (omega (arith, steps-roomy r room c l, (extracted (showing r room) c l answer after d).counted), e.0, e.1, e.2)

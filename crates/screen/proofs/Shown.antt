@@ -1,6 +1,6 @@
 -- What the screen's calls say, from what their covered parts leave: the records are those of the machine's extractions, which are the reader's. Once for
 -- both calls. Assumes nothing.
-use mathlib.Core.Path.{◌≡◌, sym, ap, ◌∙◌}
+use mathlib.Core.Path.{◌≡◌, refl, sym, ap, ◌∙◌}
 use mathlib.Core.List.{List}
 use Prim.Native.Nat.{ℕ, ◌≤◌}
 use native.Mathlib.Omega.{arith}
@@ -8,14 +8,16 @@ use lib.ListN.{length}
 use Rattle.codebook.specs.Book.{Book}
 use Rattle.queue.specs.Queue.{Step, Final, Run}
 use Rattle.machine.specs.declared.Reads.{Reads}
+use Rattle.machine.specs.declared.Reads.TheVariants.{Data}
 use Rattle.machine.specs.declared.Manner.{Manner}
 use Rattle.machine.specs.declared.HookDecoded.{HookDecoded}
-use Rattle.machine.specs.Calls.{Input, Lent, Called, readied, machine_run, ran_call, call_of}
+use Rattle.machine.specs.Calls.{Input, Lent, Called, readied, machine_run, ran_call, call_of, bare, unread}
 use Rattle.machine.proofs.Called.{call-ran}
 use Rattle.runs.specs.Handed.{Made}
 use Rattle.attempts.specs.Reading.{reader_run}
 use Rattle.attempts.proofs.Whole.{runs_same}
 use Rattle.decoder.specs.Decodes.{Decodes}
+use Rattle.decoder.proofs.Said.{without_record}
 use Rattle.decoder.proofs.Walked.{extracted}
 use Rattle.steprecords.specs.declared.StepRecord.{StepRecord}
 use Rattle.steprecords.specs.Records.{recorded, copied}
@@ -52,3 +54,9 @@ decodes-steps r c l old answer after h = record { decodes = d; shown = shown; wh
         let a = extracted k c l answer after d in
         let few-enough : length (call_of k c l).steps ≤ length old = omega (arith, a.counted, h.1.0) in
         rw (a.paths, a.blocks, a.scores, a.counted) (copied-recorded (call_of k c l).steps l.walk_path l.walk_blocks l.walk_score old few-enough)
+
+-- where no record is read, the answer without its record is all of it
+pub steps-unread : (c : Input) (l : Lent) (old : List StepRecord) (answer : HookDecoded) (after : Lent) (steps : List StepRecord)
+    → DecodesSteps Data c l old answer after steps → DecodesSteps Data c l old (unread (bare answer)) after steps
+steps-unread c l old answer after steps d =
+    record { decodes = without_record (showing Data (length old)) c l answer after refl d.decodes; shown = d.shown; whole = d.whole }

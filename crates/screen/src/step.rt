@@ -1,11 +1,11 @@
 // The plain decoding call with one record of its walk, in plain parameters: no slice of structs. Relies on the crates steprecords and decoder;
 // specs/Screen.antt says what it answers and leaves.
-ghost use Rattle.machine.specs.Calls.{given, lent_before, lent_after};
+ghost use Rattle.machine.specs.Calls.{given, lent_in, SameOutput, SameWorkspace, SameWalk};
 ghost use Rattle.screen.specs.Screen.{DecodesStep};
 
 use codebook::Outcome;
 use decoder::decode;
-use machine::Counts;
+use machine::{Counts, Output, Walk, Workspace};
 use settings::Settings;
 use steprecords::{StepRecord, record_at};
 
@@ -22,37 +22,23 @@ pub fn decode_step(
     book: &[u8],
     s: Settings,
     values: &[i16],
-    word: &mut [u8],
-    bits: &mut [u8],
-    numbers: &mut [i32],
-    bytes: &mut [u8],
-    walk_path: &mut [i32],
-    walk_blocks: &mut [i32],
-    walk_score: &mut [i32],
+    out: &mut Output,
+    workspace: &mut Workspace,
+    walk: &mut Walk,
     i: usize,
 ) -> StepDecoded
-    ensures { DecodesStep (given book.now s values.now) (lent_before word bits numbers bytes walk_path walk_blocks walk_score) i
-        result (lent_after word bits numbers bytes walk_path walk_blocks walk_score) }
+    ensures decodes { DecodesStep (given book.now s values.now) (lent_in out.old workspace.old walk.old) i result (lent_in out.new workspace.new walk.new) }
+    ensures same { SameOutput out.new out.old × SameWorkspace workspace.new workspace.old × SameWalk walk.new walk.old }
 {
-    let r = decode(
-        book,
-        s,
-        values,
-        word,
-        bits,
-        numbers,
-        bytes,
-        walk_path,
-        walk_blocks,
-        walk_score,
-    );
+    let r = decode(book, s, values, out, workspace, walk);
     let n = r.counts.extractions as usize;
-    let step = record_at(walk_path, walk_blocks, walk_score, n, i);
-    let outcome = r.outcome;
-    let counts = r.counts;
+    let paths = &mut *walk.path;
+    let blocks = &mut *walk.blocks;
+    let scores = &mut *walk.score;
+    let step = record_at(paths, blocks, scores, n, i);
     StepDecoded {
-        outcome,
-        counts,
+        outcome: r.outcome,
+        counts: r.counts,
         step,
     }
 }

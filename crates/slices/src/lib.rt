@@ -3,31 +3,51 @@
 
 #![tactic(auto)]
 
-ghost use Rattle.machine.specs.Calls.{given, lent_before, lent_after};
+ghost use Rattle.std.specs.Prelude.{◌≡◌, length};
+ghost use Rattle.machine.specs.Calls.{given, lent_in, SameOutput, SameWorkspace, SameWalk};
+ghost use Rattle.answers.specs.Slices.{counts_slice, filled};
+ghost use Rattle.decoder.specs.Decodes.{Decodes};
 ghost use Rattle.slices.specs.Slices.{PlainSlices, HookSlices};
 
 use answers::{put_counts, put_hook};
 use codebook::outcome_number;
 use decoder::decode_in;
-use machine::{Beside, Manner, Reads};
+use machine::{Beside, HookDecoded, Manner, Output, Reads, Walk, Workspace};
 use settings::Settings;
+
+// A call with its counts in a lent slice.
+fn decode_counted(
+    k: Manner,
+    book: &[u8],
+    s: Settings,
+    values: &[i16],
+    out: &mut Output,
+    workspace: &mut Workspace,
+    walk: &mut Walk,
+    counts: &mut [u32],
+) -> HookDecoded
+    ensures decodes { Decodes k (given book.now s values.now) (lent_in out.old workspace.old walk.old) result (lent_in out.new workspace.new walk.new) }
+    ensures counted { counts.new ≡ filled (counts_slice result.counts) counts.old }
+    ensures same { SameOutput out.new out.old × SameWorkspace workspace.new workspace.old × SameWalk walk.new walk.old }
+{
+    let x = decode_in(k, book, s, values, out, workspace, walk);
+    put_counts(counts, x.counts);
+    x
+}
 
 // The plain decoding call.
 pub fn decode_slices(
     book: &[u8],
     s: Settings,
     values: &[i16],
-    word: &mut [u8],
-    bits: &mut [u8],
-    numbers: &mut [i32],
-    bytes: &mut [u8],
-    walk_path: &mut [i32],
-    walk_blocks: &mut [i32],
-    walk_score: &mut [i32],
+    out: &mut Output,
+    workspace: &mut Workspace,
+    walk: &mut Walk,
     counts: &mut [u32],
 ) -> u32
-    ensures { PlainSlices (given book.now s values.now) (lent_before word bits numbers bytes walk_path walk_blocks walk_score) counts.old
-        result (lent_after word bits numbers bytes walk_path walk_blocks walk_score) counts.new }
+    ensures decodes { PlainSlices (given book.now s values.now) (lent_in out.old workspace.old walk.old) counts.old
+        result (lent_in out.new workspace.new walk.new) counts.new }
+    ensures same { SameOutput out.new out.old × SameWorkspace workspace.new workspace.old × SameWalk walk.new walk.old }
 {
     let k = Manner {
         reads: Reads::Data,
@@ -35,23 +55,8 @@ pub fn decode_slices(
         counts: Beside::Entries(counts.len()),
         hook: Beside::Absent,
     };
-    let x = decode_in(
-        k,
-        book,
-        s,
-        values,
-        word,
-        bits,
-        numbers,
-        bytes,
-        walk_path,
-        walk_blocks,
-        walk_score,
-    );
-    let found = x.counts;
-    put_counts(counts, found);
-    let outcome = x.outcome;
-    outcome_number(outcome)
+    let x = decode_counted(k, book, s, values, out, workspace, walk, counts);
+    outcome_number(x.outcome)
 }
 
 // The hook call.
@@ -59,18 +64,15 @@ pub fn decode_hook_slices(
     book: &[u8],
     s: Settings,
     values: &[i16],
-    word: &mut [u8],
-    bits: &mut [u8],
-    numbers: &mut [i32],
-    bytes: &mut [u8],
-    walk_path: &mut [i32],
-    walk_blocks: &mut [i32],
-    walk_score: &mut [i32],
+    out: &mut Output,
+    workspace: &mut Workspace,
+    walk: &mut Walk,
     counts: &mut [u32],
     hook: &mut [u32],
 ) -> u32
-    ensures { HookSlices (given book.now s values.now) (lent_before word bits numbers bytes walk_path walk_blocks walk_score) counts.old
-        hook.old result (lent_after word bits numbers bytes walk_path walk_blocks walk_score) counts.new hook.new }
+    ensures decodes { HookSlices (given book.now s values.now) (lent_in out.old workspace.old walk.old) counts.old
+        hook.old result (lent_in out.new workspace.new walk.new) counts.new hook.new }
+    ensures same { SameOutput out.new out.old × SameWorkspace workspace.new workspace.old × SameWalk walk.new walk.old }
 {
     let k = Manner {
         reads: Reads::Record,
@@ -78,23 +80,7 @@ pub fn decode_hook_slices(
         counts: Beside::Entries(counts.len()),
         hook: Beside::Entries(hook.len()),
     };
-    let x = decode_in(
-        k,
-        book,
-        s,
-        values,
-        word,
-        bits,
-        numbers,
-        bytes,
-        walk_path,
-        walk_blocks,
-        walk_score,
-    );
-    let found = x.counts;
-    put_counts(counts, found);
-    let h = x.hook;
-    put_hook(hook, h);
-    let outcome = x.outcome;
-    outcome_number(outcome)
+    let x = decode_counted(k, book, s, values, out, workspace, walk, counts);
+    put_hook(hook, x.hook);
+    outcome_number(x.outcome)
 }

@@ -1,21 +1,11 @@
--- `screen::call::decode_steps` meets its contract: what the call leaves fits the buffers and the records, and the walk's buffers, copied, are the records of its extractions.
--- Assumes nothing.
-use Rattle.machine.specs.declared.Reads.TheVariants.{Data}
-use Rattle.machine.specs.Calls.{Input, Lent, given, lent, unread}
-use Rattle.screen.specs.Screen.{Fitting}
-use Rattle.screen.proofs.Shown.{decodes-steps}
+-- `screen::call::decode_steps` meets its contract: the call that reads no record, whose answer without its record is all of it. Assumes nothing.
+use Rattle.machine.specs.Calls.{given, lent_in}
+use Rattle.screen.proofs.Shown.{steps-unread}
 use Rattle.screen.proofs.call.decode_steps.Goals as goal
 
-pub copy_steps-requires : goal.copy_steps-requires
-unfolding Fitting
-copy_steps-requires c = c.decode_within-r.ensures.1
-
-pub returns : goal.returns
-returns c =
+pub returns-clause-decodes : goal.returns-clause-decodes
+returns-clause-decodes c =
     let a = c.args in
-    let x = c.decode_within-r in
-    let l = x.new in
-    let call : Input = given a.book.now a.s a.values.now in
-    let before : Lent = lent a.word.now a.bits.now a.numbers.now a.bytes.now a.walk_path.now a.walk_blocks.now a.walk_score.now in
-    let after : Lent = lent l.word l.bits l.numbers l.bytes l.walk_path l.walk_blocks l.walk_score in
-    rw c.copy_steps.ensures (decodes-steps Data call before a.steps.now (unread x.result) after x.ensures)
+    let x = c.decode_shown-x in
+    steps-unread (given a.book.now a.s a.values.now) (lent_in a.out.now a.workspace.now a.walk.now) a.steps.now x.result
+    (lent_in x.new.out x.new.workspace x.new.walk) x.new.steps x.ensures.decodes

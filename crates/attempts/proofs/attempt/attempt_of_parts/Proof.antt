@@ -1,4 +1,4 @@
--- `attempts::attempt::attempt` meets its contract: by the outcome of loading, then of the tests; else the run is made and decided on, and what it leaves is the call's.
+-- `attempts::attempt::attempt_of_parts` meets its contract: by the outcome of loading, then of the tests; else the run is made and decided on, and what it leaves is the call's.
 -- Assumes nothing.
 use mathlib.Core.Path.{◌≡◌, sym, ap, ap₂, ◌∙◌, subst}
 use mathlib.Core.Option.{none}
@@ -18,8 +18,8 @@ use Rattle.machine.proofs.Called.{call-refused, call-barred, call-ran}
 use Rattle.attempts.specs.Reading.{reader_run}
 use Rattle.attempts.specs.Attempt.{Ready}
 use Rattle.attempts.proofs.Readied.{Has, shape_has, has-small, has-few, load-long, ready, admitted-good, admitted-bad, barred-is}
-use Rattle.attempts.proofs.attempt.attempt.Statement.{statement}
-use Rattle.attempts.proofs.attempt.attempt.Tie as tie
+use Rattle.attempts.proofs.attempt.attempt_of_parts.Statement.{statement}
+use Rattle.attempts.proofs.attempt.attempt_of_parts.Tie as tie
 
 -- where the book is loaded, and where the call begins
 abbrev start : tie.After-load_tables-x → tie.Start
@@ -184,8 +184,8 @@ returns-3 c =
     let o = c.before.before.before.before.before.before.before.before.before.before.before.before.decide.ensures (readied c.before.before.before.before.before.before.before.before.before.before.before.before.before.before.before.before.before.before.before.before.before.before.before.before.before.before.before) in
     (o.0 ∙ ap (λ (x : Called HookDecoded). x.answer) w, o.1 ∙ ap (λ (x : Called HookDecoded). x.lent) w)
 
-pub attempt_spec : {M : Type 1} → statement M
-attempt_spec =
+pub attempt_of_parts_spec : {M : Type 1} → statement M
+attempt_of_parts_spec =
     tie.close
     (tie.spec
     load-tables-requires
