@@ -13,7 +13,7 @@ use borrow.Author.Tests.{eq-eqb, ne_eqb, lt-ltb, le-ltb, le-leb, lt-leb}
 use Rattle.std.specs.Prelude.{Ok, Err}
 use Rattle.laws.proofs.Tests.{and_left, and_right, lt-or}
 use Rattle.codebook.specs.declared.Refusal.{Refusal}
-use Rattle.codebook.specs.declared.Refusal.TheVariants.{Truncated, Misplaced, OutOfRange, TooManyTied, TooManyFree}
+use Rattle.codebook.specs.declared.Refusal.TheVariants.{Truncated, Misplaced, OutOfRange, TooManyFree}
 use Rattle.codebook.specs.declared.Command.{Command}
 use Rattle.codebook.specs.declared.Command.TheVariants.{Length, Free, Zero, Tie, Term, Block as NextBlock, End}
 use Rattle.codebook.specs.declared.Progress.{Progress}
@@ -71,10 +71,6 @@ module _ (p : Progress) (s : Loading) (c : CountsLoaded p s) where
   unfolding fault unless
   length-low m h = rw (lt-leb 2 m h)
 
-  pub length_high : (m : ℕ) → 2 ≤ m → 9 < m → fault s (Length m) ≡ some OutOfRange
-  unfolding fault unless
-  length_high m l h = rw (le-leb 2 m l, lt-leb m 9 h)
-
   pub length-fits : (m : ℕ) → 2 ≤ m → m ≤ 9 → fault s (Length m) ≡ none
   unfolding fault unless
   length-fits m l h = rw (le-leb 2 m l, le-leb m 9 h)
@@ -94,10 +90,6 @@ module _ (p : Progress) (s : Loading) (c : CountsLoaded p s) where
   pub tie-later : (i : ℕ) → p.filled ≤ i → fault s (Tie i) ≡ some OutOfRange
   unfolding fault unless
   tie-later i h = rw (le-ltb i (length s.kinds) (omega (arith, c.filled)))
-
-  pub tie-many : (i : ℕ) → i < p.filled → 32 ≤ p.ties → fault s (Tie i) ≡ some TooManyTied
-  unfolding fault unless
-  tie-many i h m = rw (lt-ltb i (length s.kinds) (omega (arith, c.filled)), le-ltb s.ties 32 (omega (arith, c.ties)))
 
   pub tie-fits : (i : ℕ) → i < p.filled → p.ties < 32 → fault s (Tie i) ≡ none
   unfolding fault unless

@@ -27,6 +27,7 @@ fn stands(p: Progress, c: Command) -> bool
 }
 
 // The length.
+#[tactic(auto, unfolding(codebook::specs::Progress::Settled, codebook::specs::Loading::fault, codebook::specs::Refusals::unless))]
 fn begin(p: Progress, m: u32, tables: &mut Tables) -> Result<Progress, Refusal>
     requires { p.m ≡ 0 }
     ensures { Grows p (Command.Length m) tables.old tables.new result }
@@ -56,10 +57,7 @@ fn run(p: Progress, count: u32, code: u8, tables: &mut Tables) -> Result<Progres
     requires { (p.filled < p.n) × (code < 2) }
     ensures { Grows p (run_command code count) tables.old tables.new result }
 {
-    if count < 1 {
-        return Err(Refusal::OutOfRange);
-    }
-    if p.n - p.filled < count {
+    if count < 1 || p.n - p.filled < count {
         return Err(Refusal::OutOfRange);
     }
     let filled = p.filled + count;
@@ -71,6 +69,7 @@ fn run(p: Progress, count: u32, code: u8, tables: &mut Tables) -> Result<Progres
 }
 
 // The next index is tied to index i.
+#[tactic(auto, unfolding(codebook::specs::Progress::Settled, codebook::specs::Loading::fault, codebook::specs::Refusals::unless))]
 fn tie(p: Progress, i: u32, tables: &mut Tables) -> Result<Progress, Refusal>
     requires { p.filled < p.n }
     ensures { Grows p (Command.Tie i) tables.old tables.new result }
@@ -96,10 +95,7 @@ fn term(p: Progress, i: u32, tables: &mut Tables) -> Result<Progress, Refusal>
     requires { p.tying ≡ true }
     ensures { Grows p (Command.Term i) tables.old tables.new result }
 {
-    if p.filled <= i {
-        return Err(Refusal::OutOfRange);
-    }
-    if p.filled - i <= 1 {
+    if p.filled.saturating_sub(i) <= 1 {
         return Err(Refusal::OutOfRange);
     }
     let bit = word_power(p.ties - 1);
@@ -139,7 +135,8 @@ fn block(p: Progress, j: u32, bias: i32, tables: &mut Tables) -> Result<Progress
     }
     let end = p.covered + word_power(j);
     let free = count_free(&tables.kinds[p.covered as usize..end as usize]);
-    if 8 < free {
+    let light = free <= 8;
+    if !light {
         return Err(Refusal::TooManyFree);
     }
     let b = p.blocks as usize;

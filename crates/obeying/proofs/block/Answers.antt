@@ -39,15 +39,15 @@ slice_bounds-count_free-end c =
     let p = c.args.p in
     omega (arith, p.small, fits-facts p.covered p.n c.args.j _ (sym c.fits.ensures ∙ c.if-not-fits.false), c.word_power.ensures)
 
-pub returns-then-free-gt8 : goal.returns-then-free-gt8
+pub returns-then-not-light : goal.returns-then-not-light
 unfolding unless
-returns-then-free-gt8 c old s h =
+returns-then-not-light c old s h =
     let a = c.args in
     let fit = sym c.fits.ensures ∙ c.if-not-fits.false in
     let back = to_z-of_z w32 a.bias c.ranges.bias in
     let size : a.p.covered + c.word_power.result - a.p.covered ≡ 2 ^ a.j = omega (arith, c.word_power.ensures) in
     let count = rw size at c.count_free-free.ensures ∙ block-free a.p a.tables.now old s h a.j a.bias c.requires.0 (fits-facts a.p.covered a.p.n a.j _ fit).1 in
-    refuse _ _ TooManyFree (block_fit a.p s h.counts a.j a.bias (rw back at fit) ∙ rw (lt-leb (free_count (take (2 ^ a.j) (drop s.covered s.kinds))) 8 (rw count at c.if-free-gt8.true))) refl
+    refuse _ _ TooManyFree (block_fit a.p s h.counts a.j a.bias (rw back at fit) ∙ rw (lt-leb (free_count (take (2 ^ a.j) (drop s.covered s.kinds))) 8 (rw count at c.if-not-light.true))) refl
 
 pub overflow_cast-tables : goal.overflow_cast-tables
 overflow_cast-tables c =
@@ -79,5 +79,5 @@ returns c old s h =
     let size : a.p.covered + c.word_power.result - a.p.covered ≡ 2 ^ a.j = omega (arith, power) in
     let count = rw size at c.count_free-free.ensures ∙ block-free a.p a.tables.now old s h a.j a.bias c.requires.0 (fits-facts a.p.covered a.p.n a.j _ fit).1 in
     let full : length s.kinds ≡ total s = omega (arith, h.counts.filled, h.counts.n, c.requires.0) in
-    proceed _ _ _ _ (block_fit a.p s h.counts a.j a.bias (rw back at fit) ∙ rw (le-leb (free_count (take (2 ^ a.j) (drop s.covered s.kinds))) 8 (rw count at c.if-free-gt8.false)))
+    proceed _ _ _ _ (block_fit a.p s h.counts a.j a.bias (rw back at fit) ∙ rw (le-leb (free_count (take (2 ^ a.j) (drop s.covered s.kinds))) 8 (rw count at c.if-not-light.false)))
     (rw back (block-holds a.p a.tables.now old s h a.j a.bias _ full (omega arith) (omega arith) (omega arith) refl refl refl refl refl (ap (λ n. a.p.free + n) count) refl (ap (λ n. a.p.covered + n) power)))
