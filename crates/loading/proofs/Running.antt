@@ -24,11 +24,11 @@ use Rattle.codebook.specs.declared.Found.{Found}
 use Rattle.codebook.specs.declared.Progress.{Progress}
 use Rattle.codebook.specs.declared.Step.TheVariants.{Next, End as Ended}
 use Rattle.codebook.specs.Refusals.{unless}
-use Rattle.codebook.specs.Book.{free_count, tied_count, start_of}
+use Rattle.codebook.specs.Book.{free_count}
 use Rattle.codebook.specs.Loading.{Loading, refused, loaded, start, total, placed, listed, width, command, next, refusal, book_of, load, shape_of}
 use Rattle.codebook.specs.declared.Tables.{Tables}
 use Rattle.codebook.specs.Tables.{kind_codes, tie_set, tables_of, overlaid, tables_so_far, loaded_up_to, Filled}
-use Rattle.codebook.specs.Progress.{read_at, byte_of, is_end, verdict, Sized, HoldsLoaded, Goes, Judged, shape_at}
+use Rattle.codebook.specs.Progress.{read_at, byte_of, is_end, verdict, Begun, HoldsLoaded, Goes, Judged, shape_at}
 use Rattle.codebook.proofs.Fuel.{judged_as, fold_from, none_left, fuel-enough, refused_as, ended_as, load-fold, stopped, stopped_at, stop-fold}
 use Rattle.codebook.proofs.Blocks.{start-some}
 use Rattle.codebook.proofs.Loaded.{total-begun}
@@ -255,14 +255,13 @@ pub record Reached (bytes : List ℕ) (old : Tables) (p : Progress) (t : Tables)
   pub within : at ≤ length bytes
 
 -- nothing is loaded yet
-pub reached-none : (bytes : List ℕ) (t : Tables) → Sized t → Reached bytes t (record { m = 0; n = 0; filled = 0; ties = 0; tying = false; free = 0; blocks = 0; covered = 0 }) t 0
-unfolding load loaded_up_to start total over tab kind_codes tie_set tied_count start_of free_count
-reached-none bytes t sized =
+pub reached-none : (bytes : List ℕ) (t : Tables) (p : Progress) → Begun 0 0 p → Reached bytes t p t 0
+unfolding load loaded_up_to start total over tab kind_codes tie_set
+reached-none bytes t p b =
     record {
       s = start;
       holds = record {
-        counts = counts-none 0 0 zero-le refl;
-        sized = sized;
+        counts = counts-none p 0 0 b refl;
         kinds = refl;
         terms = refl;
         heights = refl;
