@@ -1,5 +1,6 @@
 -- What a decoding call answers, and what it leaves in every lent buffer: document 01, "Refusal table" and "The marker's plain machine". One definition serves every call: a
 -- manner says how one differs from another, and the run is an argument, so that the plain machine's and the reader's go into the same definition. Assumes nothing.
+use Rattle.std.specs.List.{list_all}
 use Rattle.std.specs.Prelude.{◌≡◌, Bool, true, false, cond, ◌&&◌, List, [], ◌∷◌, ◌++◌, map, ℕ, ◌+◌, ◌*◌, length, drop, replicate, ℤ, pos, nat_abs, leb, eqb, Option as Beside, Some, None, Result, Ok, Err, is_ok}
 use Rattle.std.proofs.Math.Option.{Option, none, some}
 use Rattle.std.specs.Borrow.{MutBor}
@@ -172,8 +173,7 @@ holds Record x = eqb x.k 32
 
 -- every value lies in -2,047 to 2,047
 unfoldable pub values_ok : List ℤ → Bool
-values_ok [] = true
-values_ok (y ∷ ys) = leb (nat_abs y) 2047 && values_ok ys
+values_ok = list_all (λ y. leb (nat_abs y) 2047)
 
 -- the tests of a call whose book loads, in document 01's order: 8, 7, 9
 unfoldable pub tests_before : Manner → Shape → Settings → Lengths → List ℤ → List Test
