@@ -152,7 +152,6 @@ part_small v k vs h =
 
 -- its entries are small
 pub costs-small : {t : List ℕ} {runs : ℕ} {vs : List ℤ} → Costs t runs vs → All (Within 1048064) vs → Small t runs
-unfolding Small
 costs-small {t} {runs} {vs} c h k l =
     let p : ℕ = k / 16 in
     let v : ℕ = k % 16 in
@@ -163,7 +162,6 @@ costs-small {t} {runs} {vs} c h k l =
 
 -- an entry that is picked
 pub entry-small : (t : List ℕ) (n p w r : ℕ) → Small t n → p < n → r ≡ get_or t (16 * p + w % 16) 0 → r ≤ 4192256
-unfolding Small
 entry-small t n p w r s h e = omega (arith, s (16 * p + w % 16) (omega arith))
 
 pub picked-two : (t : List ℕ) (w : ℕ) → picked t 0 2 w ≡ get_or t (16 * 0 + w % 16) 0 + get_or t (16 * 1 + w / 16 % 16) 0
@@ -187,5 +185,4 @@ picked-eight t w =
     omega (arith, ap (picked t 4 4) e)
 
 pub small-less : (t : List ℕ) (k n : ℕ) → Small t n → k ≤ n → Small t k
-unfolding Small
 small-less t k n s h i l = s i (omega arith)

@@ -17,8 +17,8 @@ pub fn none() -> Two
     ensures { (k : ℕ → ℕ) (bound : ℕ) → result ≡ two_least k bound 0 }
 {
     Two {
-        first: 18446744073709551615,
-        second: 18446744073709551615,
+        first: u64::MAX,
+        second: u64::MAX,
         at: 0,
         next: 0,
     }
@@ -35,12 +35,8 @@ fn either<T: Copy>(a: u64, b: u64, x: T, y: T) -> T
 fn open(key: u64, bound: u64, first: u64) -> u64
     ensures { result ≡ opened key bound first }
 {
-    let later = either(key, bound, 18446744073709551615, key);
-    if later == first {
-        18446744073709551615
-    } else {
-        later
-    }
+    let later = either(key, bound, u64::MAX, key);
+    if later == first { u64::MAX } else { later }
 }
 
 // The two least with the key of one setting more, by its cost and its number, where it is not below the bound; the earlier of equals. It is all choices and

@@ -10,9 +10,9 @@ ghost use Rattle.passes.specs.Pass.{after_first, two_least, Turned, summed_key, 
 use crate::Two;
 use crate::least_two::{among, none, sift, sift_both};
 use outer::{Candidate, Pair, Scratch};
-use tables::Directions;
 use tables::costs::{cost_of, prepare};
 use tables::messages::{double_all, spread_at};
+use tables::{Directions, HalfBytes};
 
 // The word of n ones.
 fn ones(n: usize) -> u32
@@ -24,61 +24,40 @@ fn ones(n: usize) -> u32
 }
 
 // The sum of the costs of the first two words, where the last of at least 4 directions is the word of n ones.
-fn turned(
-    words: &[u32],
-    sums: &[u32; 128],
-    runs: usize,
-    directions: &Directions,
-    n: usize,
-) -> Option<u32>
-    requires sums { Runs runs × Small sums.now runs }
-    requires sizes { (directions.now.free ≤ 8) × (n ≤ 32) × (length words.now ≡ 2 ^ directions.now.free) }
+fn turned(words: &[u32], table: HalfBytes, directions: &Directions, n: usize) -> Option<u32>
+    requires { (n ≤ 32) × (length words.now ≡ 2 ^ directions.now.free) }
     ensures { IfSome result (λ total. (0 < directions.now.free) × (get_or directions.now.words directions.now.free 0 ≡ 2 ^ n - 1) × (total < 4294967295)
-        × (total ≡ picked sums.now 0 runs (get_or words.now 0 0) + picked sums.now 0 runs (get_or words.now 1 0))) }
+        × (total ≡ picked table.entry.sums.now 0 table.entry.runs (get_or words.now 0 0) + picked table.entry.sums.now 0 table.entry.runs (get_or words.now 1 0))) }
 {
     if directions.free < 4 || directions.words[directions.free] != ones(n) {
         return None;
     }
-    Some(cost_of(sums, runs, words[0]) + cost_of(sums, runs, words[1]))
+    Some(cost_of(table, words[0]) + cost_of(table, words[1]))
 }
 
 // The two least keys of words from the bound on.
-fn two_each(words: &[u32], sums: &[u32; 128], runs: usize, bound: u64) -> Two
-    requires { Runs runs × Small sums.now runs }
-    ensures { result ≡ two_least (summed_key sums.now runs words.now) bound (length words.now) }
+fn two_each(words: &[u32], table: HalfBytes, bound: u64) -> Two
+    ensures { result ≡ two_least (summed_key table.entry.sums.now table.entry.runs words.now) bound (length words.now) }
 {
     let mut two = none();
     for (w, word) in words.iter().enumerate() {
-        two = sift(
-            two,
-            bound,
-            cost_of(sums, runs, *word),
-            *word,
-            w,
-            words.len(),
-        );
+        two = sift(two, bound, cost_of(table, *word), *word, w, words.len());
     }
     two
 }
 
 // The same, where the costs of each two words from an even setting on have one sum: each second cost is what is left of it. Of many words most are passed
 // over, two at a time; for few there is no branch.
-fn two_turned<const MANY: bool>(
-    words: &[u32],
-    sums: &[u32; 128],
-    runs: usize,
-    total: u32,
-    bound: u64,
-) -> Two
-    requires { Runs runs × Small sums.now runs × (total < 4294967295) × Turned sums.now runs words.now (length words.now) total }
-    ensures { result ≡ two_least (summed_key sums.now runs words.now) bound (length words.now) }
+fn two_turned<const MANY: bool>(words: &[u32], table: HalfBytes, total: u32, bound: u64) -> Two
+    requires { (total < 4294967295) × Turned table.sums.now table.runs words.now (length words.now) total }
+    ensures { result ≡ two_least (summed_key table.entry.sums.now table.entry.runs words.now) bound (length words.now) }
 {
     let mut two = none();
     for k in 0..words.len() / 2 {
         let w = 2 * k;
         let word = words[w];
         let other = words[w + 1];
-        let cost = cost_of(sums, runs, word);
+        let cost = cost_of(table, word);
         if MANY {
             two = sift_both(two, bound, cost, word, total - cost, other, w);
         } else {
@@ -90,21 +69,20 @@ fn two_turned<const MANY: bool>(
 }
 
 // The same, two words a turn where there is such a sum; more than 64 words are many.
-fn pass(words: &[u32], sums: &[u32; 128], runs: usize, total: Option<u32>, bound: u64) -> Two
-    requires { Runs runs × Small sums.now runs
-        × IfSome total (λ total. (total < 4294967295) × Turned sums.now runs words.now (length words.now) total) }
-    ensures { result ≡ two_least (summed_key sums.now runs words.now) bound (length words.now) }
+fn pass(words: &[u32], table: HalfBytes, total: Option<u32>, bound: u64) -> Two
+    requires { IfSome total (λ total. (total < 4294967295) × Turned table.sums.now table.runs words.now (length words.now) total) }
+    ensures { result ≡ two_least (summed_key table.entry.sums.now table.entry.runs words.now) bound (length words.now) }
 {
     match total {
-        None => two_each(words, sums, runs, bound),
-        Some(total) if words.len() > 64 => two_turned::<true>(words, sums, runs, total, bound),
-        Some(total) => two_turned::<false>(words, sums, runs, total, bound),
+        None => two_each(words, table, bound),
+        Some(total) if words.len() > 64 => two_turned::<true>(words, table, total, bound),
+        Some(total) => two_turned::<false>(words, table, total, bound),
     }
 }
 
 // The word with a key, as a candidate; none for the greatest number.
 fn candidate(key: u64, at: usize, directions: &Directions) -> Candidate
-    requires { (at < 256) × (directions.now.free ≤ 8) }
+    requires { at < 256 }
     ensures { result ≡ chosen directions.now.sets directions.now.free key at }
 {
     if key == u64::MAX {
@@ -127,7 +105,7 @@ fn candidate(key: u64, at: usize, directions: &Directions) -> Candidate
 
 // The word of least key from a bound on, of a block with these values and directions, and the one of least key after it.
 pub fn find_two(values: &[i32], bound: u64, directions: &Directions, scratch: &mut Scratch) -> Pair
-    requires { (directions.now.free ≤ 8) × (length values.now ≤ 32) × All (Within 1048064) values.now }
+    requires { (length values.now ≤ 32) × All (Within 1048064) values.now }
     ensures { (e : ℕ → Entry) → Spans directions.now.words directions.now.sets directions.now.free e → ((w : ℕ) → (e w).word < 4294967296)
         → (let n = 2 ^ directions.now.free in
         (result.first ≡ answer e values.now (least_from (setting_key e values.now) bound n)) × (result.second ≡ answer e values.now (after_first (setting_key e values.now) bound n))) }
@@ -135,8 +113,16 @@ pub fn find_two(values: &[i32], bound: u64, directions: &Directions, scratch: &m
     let count = double_all(&mut scratch.words, directions);
     let runs = prepare(values, &mut scratch.sums);
     let words = &scratch.words[..count];
-    let total = turned(words, &scratch.sums, runs, directions, values.len());
-    let two = pass(words, &scratch.sums, runs, total, bound);
+    let table = HalfBytes {
+        sums: &scratch.sums,
+        runs,
+    };
+    let two = pass(
+        words,
+        table,
+        turned(words, table, directions, values.len()),
+        bound,
+    );
     Pair {
         first: candidate(two.first, two.at, directions),
         second: candidate(two.second, two.next, directions),

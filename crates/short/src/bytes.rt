@@ -24,7 +24,7 @@ fn fill_halves(values: &[i32], halves: &mut [u32; 256])
 fn from(key: u32, bound: u32) -> u32
     ensures { result ≡ kept bound key }
 {
-    if key < bound { 4294967295 } else { key }
+    if key < bound { u32::MAX } else { key }
 }
 
 // The least of the keys that are not below a bound.
@@ -92,7 +92,7 @@ fn narrow(bound: u64) -> u32
     let cost = bound / 4294967296;
     let number = bound % 4294967296;
     if cost >= 8388608 {
-        return 4294967295;
+        return u32::MAX;
     }
     if number >= 256 {
         return (cost * 256 + 256) as u32;

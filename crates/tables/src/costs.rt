@@ -5,6 +5,7 @@ ghost use Rattle.laws.specs.Lists.{All};
 ghost use Rattle.polar.specs.Layers.{part, Within};
 ghost use Rattle.outer.specs.Search.{cost_of, picked, Runs, Costs, Small};
 
+use crate::HalfBytes;
 use polar::values::cost;
 
 // Value i, 0 past the last.
@@ -73,35 +74,34 @@ pub fn prepare(values: &[i32], sums: &mut [u32; 128]) -> usize
 }
 
 // The entry of run p that the lowest half byte of w picks.
-fn pick(sums: &[u32; 128], p: usize, w: u32) -> u32
+fn pick(table: HalfBytes, p: usize, w: u32) -> u32
     requires { p < 8 }
-    ensures { result ≡ get_or sums.now (16 * p + w % 16) 0 }
+    ensures { result ≡ get_or table.entry.sums.now (16 * p + w % 16) 0 }
 {
-    sums[16 * p + (w % 16) as usize]
+    table.sums[16 * p + (w % 16) as usize]
 }
 
 // The cost of the four lowest half bytes of w, from run p on.
-fn four(sums: &[u32; 128], p: usize, w: u32) -> u32
-    requires { (p + 4 ≤ 8) × Small sums.now (p + 4) }
-    ensures { (result ≡ picked sums.now p 4 w) × (result ≤ 16769024) }
+fn four(table: HalfBytes, p: usize, w: u32) -> u32
+    requires { p + 4 ≤ table.runs }
+    ensures { (result ≡ picked table.entry.sums.now p 4 w) × (result ≤ 16769024) }
 {
     let w1 = w / 16;
     let w2 = w1 / 16;
     let w3 = w2 / 16;
-    pick(sums, p, w) + pick(sums, p + 1, w1) + pick(sums, p + 2, w2) + pick(sums, p + 3, w3)
+    pick(table, p, w) + pick(table, p + 1, w1) + pick(table, p + 2, w2) + pick(table, p + 3, w3)
 }
 
 // The cost of a word.
-pub fn cost_of(sums: &[u32; 128], runs: usize, word: u32) -> u32
-    requires { Runs runs × Small sums.now runs }
-    ensures { (result ≡ picked sums.now 0 runs word) × (result ≤ 33538048) }
+pub fn cost_of(table: HalfBytes, word: u32) -> u32
+    ensures { (result ≡ picked table.entry.sums.now 0 table.entry.runs word) × (result ≤ 33538048) }
 {
-    if runs == 2 {
-        return pick(sums, 0, word) + pick(sums, 1, word / 16);
+    if table.runs == 2 {
+        return pick(table, 0, word) + pick(table, 1, word / 16);
     }
-    let low = four(sums, 0, word);
-    if runs == 4 {
+    let low = four(table, 0, word);
+    if table.runs == 4 {
         return low;
     }
-    low + four(sums, 4, word / 65536)
+    low + four(table, 4, word / 65536)
 }

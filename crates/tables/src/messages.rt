@@ -34,7 +34,7 @@ pub fn where_set(x: u32, bit: u32) -> u32
 
 // Bit t of each entry's own set, where it is 1, adds the row to the word and the ties to the set.
 fn follow(directions: &mut Directions, t: u32, row: u32, ties: u32)
-    requires { (directions.old.free ≤ 8) × (t < 32) }
+    requires { t < 32 }
     ensures { (directions.new.free ≡ directions.old.free) × ((k : ℕ) → k < directions.old.free + 1 →
         (get_or directions.new.words k 0 ≡ bit_xor (get_or directions.old.words k 0) (row * (get_or directions.old.sets k 0 / 2 ^ t % 2)))
         × (get_or directions.new.sets k 0 ≡ bit_xor (get_or directions.old.sets k 0) (ties * (get_or directions.old.sets k 0 / 2 ^ t % 2)))) }
@@ -100,7 +100,6 @@ fn double(table: &mut [u32; 256], count: usize, mask: u32)
 
 // The words of all settings of the free bits: the last direction first. Returns their number.
 pub fn double_all(table: &mut [u32; 256], directions: &Directions) -> usize
-    requires { directions.now.free ≤ 8 }
     ensures { (length table.new ≡ 256) × (result ≡ 2 ^ directions.now.free)
         × ((k : ℕ) → k < 2 ^ directions.now.free → get_or table.new k 0 ≡ spread directions.now.words 0 directions.now.free k) }
 {

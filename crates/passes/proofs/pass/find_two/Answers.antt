@@ -27,11 +27,11 @@ taken count n table e h = length-take count table ∙ omega arith
 filled : (count n : ℕ) (table : List ℕ) (f : ℕ → ℕ) → count ≡ n → ((k : ℕ) → k < n → get_or table k 0 ≡ f k) → (k : ℕ) → k < n → get_or (take count table) k 0 ≡ f k
 filled count n table f e h k l = get_or-take count table k 0 (omega arith) ∙ h k l
 
-pub turned-total-requires-clause-sizes : goal.turned-total-requires-clause-sizes
-turned-total-requires-clause-sizes c =
+pub turned-requires : goal.turned-requires
+turned-requires c =
     let n = c.args.directions.now.free in
     let w = c.double_all-count in
-    (c.requires.0, c.requires.1, taken w.result (2 ^ n) w.new.table w.ensures.1 (omega (arith, w.ensures.0, few n c.requires.0)))
+    (c.requires.0, taken w.result (2 ^ n) w.new.table w.ensures.1 (omega (arith, w.ensures.0, few n c.args.directions.now.few)))
 
 pub pass-two-requires : goal.pass-two-requires
 pass-two-requires c =
@@ -39,26 +39,23 @@ pass-two-requires c =
     let n = 2 ^ d.free in
     let p = c.prepare-runs in
     let w = c.double_all-count in
-    let e = taken w.result n w.new.table w.ensures.1 (omega (arith, w.ensures.0, few d.free c.requires.0)) in (
-      p.ensures.0.count,
-      p.ensures.1,
-      IfSome_then c.turned-total.result c.turned-total.ensures
-          (λ t q. (q.2, turned-pairs _ d.words _ d.free _ p.result t _ c.args.values.now q.0 e (filled w.result n w.new.table (spread d.words 0 d.free) w.ensures.1 w.ensures.2) p.ensures.0 q.1 refl q.3)),
-    )
+    let e = taken w.result n w.new.table w.ensures.1 (omega (arith, w.ensures.0, few d.free d.few)) in
+    IfSome_then c.turned.result c.turned.ensures
+    (λ t q. (q.2, turned-pairs _ d.words _ d.free _ p.result t _ c.args.values.now q.0 e (filled w.result n w.new.table (spread d.words 0 d.free) w.ensures.1 w.ensures.2) p.ensures.0 q.1 refl q.3))
 
 pub candidate-requires : goal.candidate-requires
 candidate-requires c =
     let n = c.args.directions.now.free in
     let w = c.double_all-count in
-    let e = taken w.result (2 ^ n) w.new.table w.ensures.1 (omega (arith, w.ensures.0, few n c.requires.0)) in
-    ((two-within _ c.args.bound _ c.pass-two.result c.pass-two.ensures (omega (arith, e, few n c.requires.0))).0, c.requires.0)
+    let e = taken w.result (2 ^ n) w.new.table w.ensures.1 (omega (arith, w.ensures.0, few n c.args.directions.now.few)) in
+    (two-within _ c.args.bound _ c.pass-two.result c.pass-two.ensures (omega (arith, e, few n c.args.directions.now.few))).0
 
 pub candidate-requires-2 : goal.candidate-requires-2
 candidate-requires-2 c =
     let n = c.args.directions.now.free in
     let w = c.double_all-count in
-    let e = taken w.result (2 ^ n) w.new.table w.ensures.1 (omega (arith, w.ensures.0, few n c.requires.0)) in
-    ((two-within _ c.args.bound _ c.pass-two.result c.pass-two.ensures (omega (arith, e, few n c.requires.0))).1, c.requires.0)
+    let e = taken w.result (2 ^ n) w.new.table w.ensures.1 (omega (arith, w.ensures.0, few n c.args.directions.now.few)) in
+    (two-within _ c.args.bound _ c.pass-two.result c.pass-two.ensures (omega (arith, e, few n c.args.directions.now.few))).1
 
 pub returns : goal.returns
 returns c = λ e h l.
@@ -68,9 +65,9 @@ returns c = λ e h l.
     let vs = a.values.now in
     let p = c.prepare-runs in
     let w = c.double_all-count in
-    let size = taken w.result n w.new.table w.ensures.1 (omega (arith, w.ensures.0, few d.free c.requires.0)) in
+    let size = taken w.result n w.new.table w.ensures.1 (omega (arith, w.ensures.0, few d.free d.few)) in
     let q =
-    answers _ _ _ _ d.free _ p.result e vs h (λ k i. filled w.result n w.new.table (spread d.words 0 d.free) w.ensures.1 w.ensures.2 k (omega (arith, size))) p.ensures.0 l c.requires.2 c.requires.1
+    answers _ _ _ _ d.free _ p.result e vs h (λ k i. filled w.result n w.new.table (spread d.words 0 d.free) w.ensures.1 w.ensures.2 k (omega (arith, size))) p.ensures.0 l c.requires.1 c.requires.0
     a.bound c.pass-two.result c.pass-two.ensures in (
       c.candidate.ensures ∙ q.0 ∙ ap (λ i. answer e vs (least_from (setting_key e vs) a.bound i)) size,
       c.candidate-2.ensures ∙ q.1 ∙ ap (λ i. answer e vs (after_first (setting_key e vs) a.bound i)) size,

@@ -10,5 +10,5 @@ pub bounds-words-1 : goal.bounds-words-1
 bounds-words-1 c =
     let n : 4 ≤ c.args.directions.now.free = omega (arith, c.if-directions-lt4.false) in
     let p : 2 ^ 4 ≤ 2 ^ c.args.directions.now.free = pow_mono n in
-    let l : 1 < length c.args.words.now = omega (arith, c.requires.sizes.2) in
+    let l : 1 < length c.args.words.now = omega (arith, c.requires.1) in
     search (rules, l)

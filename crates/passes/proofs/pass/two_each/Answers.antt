@@ -9,4 +9,4 @@ pub loop-w-preserved : goal.loop-w-preserved
 unfolding summed_key
 loop-w-preserved c =
     let a = c.args in
-    c.sift-two.ensures (summed_key a.sums.now a.runs a.words.now) c.loop-w.invariant (ap (λ i. key_of i (get_or a.words.now c.loop-w.w 0)) c.cost_of.ensures.0)
+    c.sift-two.ensures (summed_key a.table.sums.now a.table.runs a.words.now) c.loop-w.invariant (ap (λ i. key_of i (get_or a.words.now c.loop-w.w 0)) c.cost_of.ensures.0)

@@ -4,4 +4,4 @@ use Rattle.passes.specs.Pass.{two_least, summed_key}
 use Rattle.passes.proofs.pass.two_each.Given as goal
 
 abbrev pub invariant-loop-w : goal.invariant-loop-w
-invariant-loop-w l = l.two ≡ two_least (summed_key l.sums l.runs l.words) l.bound l.w
+invariant-loop-w l = l.two ≡ two_least (summed_key l.table.sums.now l.table.runs l.words) l.bound l.w

@@ -8,13 +8,13 @@ use Rattle.passes.proofs.pass.two_turned.Goals as goal
 use Rattle.passes.proofs.pass.two_turned.Goals.{then-this-ne0, else-this-ne0}
 
 pub overflow_sub-total : goal.overflow_sub-total
-overflow_sub-total g c = omega (arith, (pair-keys c.requires.3 (omega arith) (omega arith) c.cost_of-cost.ensures.0).0)
+overflow_sub-total g c = omega (arith, (pair-keys c.requires.1 (omega arith) (omega arith) c.cost_of-cost.ensures.0).0)
 
 pub loop-k-preserved : goal.loop-k-preserved
 loop-k-preserved g c =
     let a = c.args in
     let x = c.loop-k in
-    let p = pair-keys c.requires.3 (omega arith) (omega arith) c.cost_of-cost.ensures.0 in
+    let p = pair-keys c.requires.1 (omega arith) (omega arith) c.cost_of-cost.ensures.0 in
     let next : 2 * x.k + 2 ≡ 2 * (x.k + 1) = omega arith in
     elim c.if-this-ne0.branch [
       | then-this-ne0 w ↦ w.two-is ∙ w.sift_both-two.ensures _ x.invariant p.1 p.2 ∙ ap (two_least _ _) next

@@ -5,4 +5,4 @@ use Rattle.passes.specs.Pass.{two_least, summed_key}
 use Rattle.passes.proofs.pass.two_turned.Given as goal
 
 abbrev pub invariant-loop-k : goal.invariant-loop-k
-invariant-loop-k g l = l.two ≡ two_least (summed_key l.sums l.runs l.words) l.bound (2 * l.k)
+invariant-loop-k g l = l.two ≡ two_least (summed_key l.table.sums.now l.table.runs l.words) l.bound (2 * l.k)

@@ -8,7 +8,6 @@ use lib.IntN.{ℤ}
 use Rattle.laws.specs.Lists.{All}
 use Rattle.polar.specs.Layers.{Within}
 use Rattle.outer.specs.Search.{settings, entry, found_pair}
-use Rattle.tables.proofs.Advance.{few-free}
 use Rattle.tables.proofs.Bounds.{entry-word}
 use Rattle.search.proofs.Cases.{all-bytes, some_bytes, count-of, pair-among, pair-passed, pair-nearest}
 use Rattle.search.proofs.find.nearest_pair.Goals as goal
@@ -26,8 +25,7 @@ pair_checked-requires c =
 pub find_two-requires : goal.find_two-requires
 find_two-requires c =
     let s = c.requires.searchable in
-    let few = few-free c.walk-directions.result.free (omega (arith, c.walk-directions.ensures.0, ap (settings c.args.tables.now.kinds c.args.start) c.power.ensures, s.walk.few)) in
-    (few, omega (arith, s.count, s.walk.short), s.small)
+    (omega (arith, s.count, s.walk.short), s.small)
 
 pub returns-in-Some : goal.returns-in-Some
 returns-in-Some c =
@@ -38,8 +36,7 @@ returns-in-Some c =
     let d = w.result in
     let chunk = c.in-Some.ensures.cases in
     let q : c.power.result ≡ 8 = c.power.ensures ∙ sym s.count ∙ chunk.long in
-    let few = few-free d.free (omega (arith, w.ensures.0, ap (settings t.kinds a.start) c.power.ensures, s.walk.few)) in
-    let f : d.free ≡ 8 = omega (arith, few, c.if-directions-ge8.true) in
+    let f : d.free ≡ 8 = omega (arith, d.few, c.if-directions-ge8.true) in
     let r = c.pair_free.ensures (entry t.kinds t.terms a.start a.parities 8) (all-bytes t.kinds t.terms a.start a.parities c.power.result d.free d.words d.sets q w.ensures.0 w.ensures.1 f) in
     let settings-are : 256 ≡ settings t.kinds a.start 8 = sym (count-of t.kinds t.terms a.start a.parities c.power.result d.free d.words d.sets q w.ensures.0 w.ensures.1 8 f) in
     let is = pair-among t.kinds t.terms a.start a.parities a.j 8 256 c.in-Some.octet.now (sym q ∙ c.power.ensures) settings-are c.pair_free.result r.0 r.1 in

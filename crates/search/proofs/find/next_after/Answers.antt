@@ -9,7 +9,6 @@ use Rattle.laws.specs.Lists.{All}
 use Rattle.polar.specs.Layers.{Within}
 use Rattle.outer.specs.Search.{settings, entry, found}
 use Rattle.outer.specs.declared.Next.{Next}
-use Rattle.tables.proofs.Advance.{few-free}
 use Rattle.tables.proofs.Bounds.{entry-word}
 use Rattle.search.proofs.Cases.{all-bytes, count-of, found_among, after-passed, next-found}
 use Rattle.search.proofs.find.next_after.Goals as goal
@@ -18,14 +17,12 @@ pub search_bytes-first-requires : goal.search_bytes-first-requires
 search_bytes-first-requires c =
     let s = c.requires.searchable in
     let d = c.walk-directions.result in
-    let few = few-free d.free (omega (arith, c.walk-directions.ensures.0, ap (settings c.args.tables.now.kinds c.args.start) c.power.ensures, s.walk.few)) in
-    (omega (arith, few, c.if-directions-ge8.true), subst (All (Within 1048064)) (sym c.in-Some.ensures.cases.same) s.small)
+    (omega (arith, d.few, c.if-directions-ge8.true), subst (All (Within 1048064)) (sym c.in-Some.ensures.cases.same) s.small)
 
 pub find_two-two-requires : goal.find_two-two-requires
 find_two-two-requires c =
     let s = c.requires.searchable in
-    let few = few-free c.walk-directions.result.free (omega (arith, c.walk-directions.ensures.0, ap (settings c.args.tables.now.kinds c.args.start) c.power.ensures, s.walk.few)) in
-    (few, omega (arith, s.count, s.walk.short), s.small)
+    (omega (arith, s.count, s.walk.short), s.small)
 
 pub returns-in-Some : goal.returns-in-Some
 returns-in-Some c =
@@ -36,8 +33,7 @@ returns-in-Some c =
     let d = w.result in
     let chunk = c.in-Some.ensures.cases in
     let q : c.power.result ≡ 8 = c.power.ensures ∙ sym s.count ∙ chunk.long in
-    let few = few-free d.free (omega (arith, w.ensures.0, ap (settings t.kinds a.start) c.power.ensures, s.walk.few)) in
-    let f : d.free ≡ 8 = omega (arith, few, c.if-directions-ge8.true) in
+    let f : d.free ≡ 8 = omega (arith, d.few, c.if-directions-ge8.true) in
     let r = c.search_bytes-first in
     let is =
     r.ensures (entry t.kinds t.terms a.start a.parities 8) (all-bytes t.kinds t.terms a.start a.parities c.power.result d.free d.words d.sets q w.ensures.0 w.ensures.1 f) in

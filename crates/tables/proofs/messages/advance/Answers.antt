@@ -23,7 +23,7 @@ pub bounds-directions-directions-then-code-eq0 : goal.bounds-directions-directio
 bounds-directions-directions-then-code-eq0 c = omega (arith, free-room _ _ c.if-code-eq0.true c.requires.0)
 
 pub follow-requires : goal.follow-requires
-follow-requires c = (other-room _ _ c.if-code-eq0.false c.requires.0, omega (arith, c.wide.ensures))
+follow-requires c = omega (arith, c.wide.ensures)
 
 pub returns-then-code-eq0 : goal.returns-then-code-eq0
 returns-then-code-eq0 c =
@@ -53,3 +53,6 @@ returns-else-code-gt1 c =
     let d = a.directions.now in
     let q : a.code ≡ 1 = omega (arith, c.if-code-eq0.false, c.if-code-gt1.false) in
     (sym (grown-other a.code (2 ^ d.free) c.if-code-eq0.false), λ e h. zero-spans d.words d.sets d.free e h a.row a.ties a.code q)
+
+pub invariant_of-directions : goal.invariant_of-directions
+invariant_of-directions c = record { few = omega (arith, free-room _ _ c.if-code-eq0.true c.requires.0) }

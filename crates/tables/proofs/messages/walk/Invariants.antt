@@ -6,5 +6,5 @@ use Rattle.tables.proofs.messages.walk.Given as goal
 
 abbrev pub invariant-loop-i : goal.invariant-loop-i
 invariant-loop-i l =
-    let d = l.directions in
-    (2 ^ d.free ≡ settings l.tables.kinds l.start l.i) × Spans d.words d.sets d.free (entry l.tables.kinds l.tables.terms l.start l.parities l.i)
+    let (words, (sets, (free, _))) = l.directions in
+    (2 ^ free ≡ settings l.tables.kinds l.start l.i) × Spans words sets free (entry l.tables.kinds l.tables.terms l.start l.parities l.i)
