@@ -16,6 +16,7 @@ use borrow.Author.Tests.{le-leb, lt-leb}
 use Rattle.laws.specs.Lists.{All}
 use Rattle.polar.specs.Bits.{Bit}
 use Rattle.polar.specs.Layers.{part}
+use Rattle.polar.specs.Transform.{transform}
 use Rattle.polar.proofs.Transform.{transform-length, transform-bits}
 use Rattle.codebook.specs.declared.Refusal.{Refusal}
 use Rattle.codebook.specs.declared.Refusal.TheVariants.{AboveLimit, Unreadable}
@@ -23,13 +24,15 @@ use Rattle.codebook.specs.Refusals.{unless}
 use Rattle.codebook.specs.declared.Outcome.{Outcome}
 use Rattle.codebook.specs.declared.Outcome.TheVariants.{Done, Refused}
 use Rattle.codebook.specs.declared.Shape.{Shape}
+use Rattle.codebook.specs.declared.Tables.{Tables}
 use Rattle.codebook.specs.Book.{Kind, free_count}
 use Rattle.codebook.proofs.Placing.{free-le}
 use Rattle.settings.specs.declared.Settings.{Settings}
+use Rattle.settings.specs.Settings.{Ranged}
 use Rattle.codec.specs.declared.Status.TheVariants.{Passed}
 use Rattle.codec.specs.declared.HookRecord.{HookRecord}
 use Rattle.codec.specs.declared.RecordRead.{RecordRead}
-use Rattle.codec.specs.Code.{read_data}
+use Rattle.codec.specs.Code.{free_bits, read_data}
 use Rattle.codec.specs.Record.{no_record, read_record}
 use Rattle.codec.specs.Calls.{not_read, record_read}
 use Rattle.codec.proofs.Fill.{free-length, free-bits}
@@ -39,11 +42,11 @@ use Rattle.machine.specs.declared.Counts.{Counts}
 use Rattle.queue.specs.Queue.{Step, Final, End, found, Run}
 use Rattle.machine.specs.Calls.{Lent, numbers_needed, bytes_needed, holds, first_failed, final_in, verdict, verdicts, is_read, record_tests, within, outcome_of, is_done, record_or, hook_of, counts_of, walked, after_run, ran_call}
 use Rattle.runs.specs.Runs.{Exact}
-use Rattle.reader.specs.Arrays.{Arrays}
 use Rattle.reader.specs.Reader as R
 use Rattle.reader.proofs.Agree.{valid-agree, reader-exact}
 use Rattle.heights.specs.Workspace.{Room}
 use Rattle.reading.specs.Running.{Running}
+use Rattle.reading.proofs.Received.{received-root}
 use Rattle.attempts.specs.Reading.{arrays_lent, reader_run}
 use Rattle.attempts.specs.Attempt.{Ready, judged_as, judged_final, RecordIn}
 
@@ -63,7 +66,7 @@ free-most ks = subst (λ l. free_count l ≤ length ks) (take_all (length ks) ks
 
 -- ---- a book in tables, and values that fit it
 
-module _ {x : Shape} {values : List ℤ} {kinds terms heights starts : List ℕ} {biases : List ℤ} (r : Ready x values kinds terms heights starts biases) where
+module _ {x : Shape} {values : List ℤ} {tables : Tables} (r : Ready x values tables) where
   -- the shape's numbers are the book's
   pub ready-deep : x.m ≡ r.book.m
   ready-deep = ap (λ (y : Shape). y.m) r.shape
@@ -79,17 +82,17 @@ module _ {x : Shape} {values : List ℤ} {kinds terms heights starts : List ℕ}
 
   pub ready-small : x.n ≤ 512
   ready-small =
-      let small : 2 ^ r.book.m ≤ 2 ^ 9 = pow_mono {j = 9} r.tables.booked.valid.high in
+      let small : 2 ^ r.book.m ≤ 2 ^ 9 = pow_mono {j = 9} r.in_tables.booked.valid.high in
       omega (arith, ready-size)
 
   pub ready-free : x.k ≤ 512
-  ready-free = omega (arith, ready-small, ready-size, ready-bits, r.tables.booked.valid.indices, free-most r.book.kinds)
+  ready-free = omega (arith, ready-small, ready-size, ready-bits, r.in_tables.booked.valid.indices, free-most r.book.kinds)
 
-  abbrev pub ready-running : Running x values kinds terms heights starts biases
+  abbrev pub ready-running : Running x values tables
   ready-running =
       record {
         book = r.book;
-        tables = r.tables;
+        in_tables = r.in_tables;
         deep = sym ready-deep;
         blocks = sym (ap (λ (y : Shape). y.blocks) r.shape);
         size = r.fits ∙ ready-own;
@@ -106,29 +109,51 @@ module _ {x : Shape} {values : List ℤ} {kinds terms heights starts : List ℕ}
     unfolding Room bytes_needed
     bytes-room h = rw (← ready-own, length-take-le (s.paths * (2 * x.n)) l h) (omega arith)
 
-  -- the reader's run, from arrays whose root holds the values: its word is exact, and it finds one
-  module _ (L D : ℕ) (visited : 1 ≤ L) (A : Arrays) (root : A.vals x.m 1 ≡ values) where
-    at-root : A.vals r.book.m 1 ≡ values
-    at-root = ap (λ m. A.vals m 1) (sym ready-deep) ∙ root
+  -- the reader's run on the workspace lent, which has room for its arrays
+  module _ (s : Settings) (l : Lent) (ranged : Ranged s) (room : numbers_needed x s ≤ length l.numbers) where
+    abbrev pub run_lent : Run Final
+    run_lent = R.run_of r.book s.visits s.paths (arrays_lent x s values l)
 
-    pub exact : Exact r.book values (final_in (R.run_of r.book L D A).end)
-    exact = reader-exact r.book r.tables.booked.valid L D values A visited (r.fits ∙ ready-size) at-root
+    -- their root holds the values
+    lent-root : (arrays_lent x s values l).vals r.book.m 1 ≡ values
+    unfolding arrays_lent
+    lent-root =
+        ap (λ m. (arrays_lent x s values l).vals m 1) (sym ready-deep)
+        ∙ received-root x.m s.paths values (take (numbers_needed x s) l.numbers) (numbers-room s l.numbers room) (omega (arith, ranged.alive)) (r.fits ∙ ready-own) _
 
-    pub finds : (R.run_of r.book L D A).end ≡ found (final_in (R.run_of r.book L D A).end)
+    -- so its word is exact, and it finds one
+    exact : Exact r.book values (final_in run_lent.end)
+    exact = reader-exact r.book r.in_tables.booked.valid s.visits s.paths values (arrays_lent x s values l) ranged.visited (r.fits ∙ ready-size) lent-root
+
+    pub finds : run_lent.end ≡ found (final_in run_lent.end)
     unfolding final_in
     finds =
-        let f = (valid-agree r.book r.tables.booked.valid L D values A visited (r.fits ∙ ready-size) at-root).finds in
+        let f = (valid-agree r.book r.in_tables.booked.valid s.visits s.paths values (arrays_lent x s values l) ranged.visited (r.fits ∙ ready-size) lent-root).finds in
         f ∙ ap found (sym (ap final_in f))
 
-  -- the data of the word found are bits
-  pub data-bits : (word : List ℕ) → All Bit word → All Bit (read_data r.book word)
-  unfolding read_data
-  data-bits word h = free-bits r.book.kinds _ (transform-bits r.book.m word h)
+    -- the word found
+    module _ {word : List ℕ} (is : word ≡ (final_in run_lent.end).word) where
+      pub word-size : length word ≡ x.n
+      word-size = ap length is ∙ exact.size ∙ sym ready-size
 
-  -- and as many as the book has free indices
-  pub data-length : (word : List ℕ) → length word ≡ 2 ^ r.book.m → length (read_data r.book word) ≡ x.k
-  unfolding read_data
-  data-length word e = free-length r.book.kinds _ (transform-length r.book.m word e ∙ sym r.tables.booked.valid.indices) ∙ sym ready-bits
+      pub word-bits : All Bit word
+      word-bits = subst (All Bit) (sym is) exact.bits
+
+      -- its data
+      module _ {ds : List ℕ} (read : ds ≡ free_bits r.book.kinds (transform x.m word)) where
+        pub data_are : ds ≡ (final_in run_lent.end).bits
+        unfolding read_data
+        data_are = read ∙ ap₂ (λ m w. free_bits r.book.kinds (transform m w)) ready-deep is ∙ sym exact.databits
+
+        pub data-size : length ds ≡ x.k
+        unfolding read_data
+        data-size =
+            ap length (data_are ∙ exact.databits)
+            ∙ free-length r.book.kinds _ (transform-length r.book.m _ exact.size ∙ sym r.in_tables.booked.valid.indices) ∙ sym ready-bits
+
+        pub data-bits : All Bit ds
+        unfolding read_data
+        data-bits = subst (All Bit) (sym (data_are ∙ exact.databits)) (free-bits r.book.kinds _ (transform-bits r.book.m _ exact.bits))
 
 -- where a record is read, there are 32 of them
 pub record-in : (reads : Reads) (x : Shape) → T (holds reads x) → (ds : List ℕ) → length ds ≡ x.k → All Bit ds → RecordIn reads ds
@@ -196,7 +221,7 @@ module _ {A : Type 0} (x y : A) where
 -- ---- the call after its run
 
 -- the reader's run in the sizes of the shape
-pub reader-same : {x : Shape} {values : List ℤ} {kinds terms heights starts : List ℕ} {biases : List ℤ} (r : Ready x values kinds terms heights starts biases) (s : Settings) (l : Lent)
+pub reader-same : {x : Shape} {values : List ℤ} {tables : Tables} (r : Ready x values tables) (s : Settings) (l : Lent)
     → R.run_of r.book s.visits s.paths (arrays_lent x s values l) ≡ reader_run r.book s values l
 unfolding reader_run
 reader-same {x} {values} r s l = ap (λ (y : Shape). R.run_of r.book s.visits s.paths (arrays_lent y s values l)) r.shape

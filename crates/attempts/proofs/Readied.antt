@@ -59,7 +59,7 @@ module _ (book : List ℕ) (x : Shape) (h : Has book x) where
 -- ---- the tables of a loaded book
 
 module _ (book : List ℕ) (B : Book) (e : load book ≡ loaded B) (old new : C.Tables) (f : Filled (load book) (loaded_up_to book) old new) where
-  pub load_read : InTables B new.kinds new.terms new.heights new.starts new.biases
+  pub load_read : InTables B new
   unfolding Filled overlaid tables_of block_at
   load_read =
       let g : new ≡ overlaid (tables_of B) old = rw e at f in
@@ -121,11 +121,11 @@ barred-is k c l x h = ap (λ (y : Shape). first_failed (tests_before k y c.setti
 -- ---- all that the run needs
 
 abbrev pub ready : (book : List ℕ) (ys : List ℤ) (x : Shape) (h : Has book x) (old new : C.Tables) → Filled (load book) (loaded_up_to book) old new
-    → length ys ≡ x.n → T (values_ok ys) → Ready x ys new.kinds new.terms new.heights new.starts new.biases
+    → length ys ≡ x.n → T (values_ok ys) → Ready x ys new
 ready book ys x h old new f fits good =
     record {
       book = h.is;
-      tables = load_read book h.is h.loads old new f;
+      in_tables = load_read book h.is h.loads old new f;
       shape = h.shape;
       fits = fits;
       range = values-within ys good;

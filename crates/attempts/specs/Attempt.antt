@@ -5,6 +5,7 @@ use Rattle.laws.specs.Lists.{All}
 use Rattle.polar.specs.Bits.{Bit}
 use Rattle.polar.specs.Layers.{Within}
 use Rattle.codebook.specs.declared.Shape.{Shape}
+use Rattle.codebook.specs.declared.Tables.{Tables}
 use Rattle.codebook.specs.Book.{Book}
 use Rattle.codebook.specs.Loading.{book_shape}
 use Rattle.settings.specs.declared.Settings.{Settings}
@@ -29,9 +30,9 @@ RecordIn Data ds = Unit {0}
 RecordIn Record ds = (length ds ≡ 32) × All Bit ds
 
 -- what a run needs: a loaded book, in tables and with this shape, and values that fit it
-pub record Ready (x : Shape) (values : List ℤ) (kinds terms heights starts : List ℕ) (biases : List ℤ) : Type 0 where
+pub record Ready (x : Shape) (values : List ℤ) (tables : Tables) : Type 0 where
   pub book : Book
-  pub tables : InTables book kinds terms heights starts biases
+  pub in_tables : InTables book tables
   pub shape : x ≡ book_shape book
   pub fits : length values ≡ x.n
   pub range : All (Within 2047) values
