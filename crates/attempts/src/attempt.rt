@@ -1,39 +1,30 @@
 // A decoding call by the reader's run: the book is loaded, the call is admitted or refused, the run is made, its word is judged, and handed out where no verdict is against it. Relies
 // on ran.rt, verdict.rt and the crates loading, coding and checks; machine/specs/Calls says what a call answers and leaves.
-ghost use Rattle.std.specs.Prelude.{◌≡◌, ◌≤◌, T, length};
+ghost use Rattle.std.specs.Prelude.{◌≡◌, ◌≤◌, T, length, Err};
 ghost use Rattle.settings.specs.Settings.{Ranged};
-ghost use Rattle.machine.specs.Calls.{given, lent_in, SameOutput, SameWorkspace, SameWalk, numbers_needed, bytes_needed, walk_needed, holds, refused_as, ran_call, call_by};
+ghost use Rattle.codec.specs.Record.{no_record};
+ghost use Rattle.machine.specs.Calls.{given, lent_in, SameOutput, SameWorkspace, SameWalk, numbers_needed, bytes_needed, walk_needed, holds, ran_call, call_by};
 ghost use Rattle.attempts.specs.Reading.{reader_run};
 ghost use Rattle.attempts.specs.Attempt.{Ready};
 
 use crate::ran::run_cleared;
 use crate::verdict::{give, judge};
 use checks::admission::admit;
-use codebook::{Outcome, Refusal, Shape, Tables};
-use codec::{HookRecord, Status};
+use codebook::{Refusal, Shape, Tables};
+use codec::HookRecord;
 use coding::data_of;
 use loading::load_tables;
 use machine::{Counts, HookDecoded, Lengths, Manner, Output, Reads, Walk, Workspace};
-use settings::{Checked, Settings};
+use settings::Settings;
 
-// The answer where no run is made.
-fn refused(r: Refusal) -> HookDecoded
-    ensures { result ≡ refused_as r }
+// The answer of a refusal, with these counts.
+fn refused(r: Refusal, counts: Counts) -> HookDecoded
+    ensures { result ≡ record { outcome = Err r; counts = counts; hook = no_record } }
 {
     HookDecoded {
-        outcome: Outcome::Refused(r),
-        counts: Counts {
-            extractions: 0,
-            crowded: 0,
-            outrun: 0,
-            discrepancy: 0,
-        },
-        hook: HookRecord {
-            plant: 0,
-            carcass: 0,
-            side: 0,
-            status: Status::Passed,
-        },
+        outcome: Err(r),
+        counts,
+        hook: HookRecord::default(),
     }
 }
 
@@ -80,13 +71,17 @@ fn decide(
         walk,
         word,
     );
-    data_of(&tables.kinds, x.m, word, &mut u[..n], bits);
-    let read = judge(r, s, counts.discrepancy, bits);
-    give(word, bits, out);
-    HookDecoded {
-        outcome: read.outcome,
-        counts,
-        hook: read.hook,
+    data_of(tables, x.m, word, &mut u[..n], bits);
+    match judge(r, s, counts.discrepancy, bits) {
+        Ok(hook) => {
+            give(word, bits, out);
+            HookDecoded {
+                outcome: Ok(()),
+                counts,
+                hook,
+            }
+        }
+        Err(against) => refused(against, counts),
     }
 }
 
@@ -104,25 +99,11 @@ pub fn attempt(
         (result ≡ w.answer) × (lent_in out.new workspace.new walk.new ≡ w.lent) }
     ensures same { SameOutput out.new out.old × SameWorkspace workspace.new workspace.old × SameWalk walk.new walk.old }
 {
-    let mut tables = Tables {
-        kinds: [0; 512],
-        terms: [0; 512],
-        heights: [0; 512],
-        starts: [0; 512],
-        biases: [0; 512],
+    let mut tables = Tables::empty();
+    let x = match load_tables(book, &mut tables) {
+        Ok(x) => x,
+        Err(r) => return refused(r, Counts::default()),
     };
-    let x = load_tables(
-        book,
-        &mut tables.kinds,
-        &mut tables.terms,
-        &mut tables.heights,
-        &mut tables.starts,
-        &mut tables.biases,
-    );
-    let outcome = x.outcome;
-    if let Outcome::Refused(r) = outcome {
-        return refused(r);
-    }
     let l = Lengths {
         values: values.len(),
         word: out.word.len(),
@@ -134,7 +115,7 @@ pub fn attempt(
         scores: walk.score.len(),
     };
     match admit(k, x, asked, l, values) {
-        Checked::Bad(r) => refused(r),
-        Checked::Good(s) => decide(k.reads, x, s, values, &tables, out, workspace, walk),
+        Ok(s) => decide(k.reads, x, s, values, &tables, out, workspace, walk),
+        Err(r) => refused(r, Counts::default()),
     }
 }

@@ -3,31 +3,22 @@ ghost use Rattle.std.specs.Prelude.{◌≡◌, length};
 ghost use Rattle.machine.specs.Calls.{SameOutput};
 ghost use Rattle.attempts.specs.Attempt.{judged_final, judged_as, RecordIn};
 
-use codebook::{Outcome, Refusal};
-use codec::{HookRecord, RecordRead, Status};
-use hooks::{not_read, record_of};
+use codebook::Refusal;
+use codec::HookRecord;
+use hooks::record_of;
 use machine::{Output, Reads};
 use settings::Settings;
 
-// The outcome for a word with this discrepancy and these data: 10 above the limit; then, where a record is read, the record or 11.
-#[tactic(auto, using(crate::proofs::Judged::judged_over))]
-pub fn judge(r: Reads, s: Settings, discrepancy: u32, info: &[u8]) -> RecordRead
+// The record for a word with this discrepancy and these data, zeros where none is read; or 10 above the limit, 11 where the data hold no record.
+pub fn judge(r: Reads, s: Settings, discrepancy: u32, info: &[u8]) -> Result<HookRecord, Refusal>
     requires { RecordIn r info.now }
     ensures { result ≡ judged_as r s (judged_final discrepancy info.now) }
 {
     if s.limit < discrepancy {
-        return not_read(Refusal::AboveLimit);
+        return Err(Refusal::AboveLimit);
     }
     match r {
-        Reads::Data => RecordRead {
-            outcome: Outcome::Done,
-            hook: HookRecord {
-                plant: 0,
-                carcass: 0,
-                side: 0,
-                status: Status::Passed,
-            },
-        },
+        Reads::Data => Ok(HookRecord::default()),
         Reads::Record => record_of(info),
     }
 }
