@@ -1,25 +1,20 @@
 -- What the run on the lent workspace answers, by the end of the reader's run: its counts and its final word. Assumes nothing.
 use mathlib.Core.Path.{◌≡◌, sym, ap, ◌∙◌}
-use mathlib.Core.List.{List, ◌++◌, append-nil}
+use mathlib.Core.List.{List}
 use Prim.Native.Nat.{ℕ, ◌^◌, ◌≤◌}
 use native.Mathlib.Omega.{arith}
 use lib.IntN.{ℤ}
-use lib.ListN.{length, drop, replicate}
-use lib.Seq.{drop-length}
 use Rattle.polar.specs.Layers.{part}
 use Rattle.codebook.specs.declared.Shape.{Shape}
+use Rattle.codebook.specs.declared.Tables.{Tables}
 use Rattle.queue.specs.Queue.{Final, Run}
 use Rattle.machine.specs.Calls.{final_in, counts_of}
 use Rattle.heights.specs.Workspace.{spot}
 use Rattle.reading.specs.declared.Ran.{Ran}
 use Rattle.reading.specs.Running.{Running, RanIs}
 
--- a whole list cleared
-pub all-cleared : {A : Type 0} (v : A) (l : List A) (n : ℕ) → n ≡ length l → (k : ℕ) → k ≡ n → replicate n v ++ drop n l ≡ replicate k v
-all-cleared v l n e k q = rw (q, e, drop-length l) (append-nil (replicate (length l) v))
-
-pub deep-enough : {x : Shape} {values : List ℤ} {kinds terms heights starts : List ℕ} {biases : List ℤ} → Running x values kinds terms heights starts biases → x.m ≤ 9
-deep-enough c = omega (arith, c.tables.booked.valid.high, c.deep)
+pub deep-enough : {x : Shape} {values : List ℤ} {tables : Tables} → Running x values tables → x.m ≤ 9
+deep-enough c = omega (arith, c.in_tables.booked.valid.high, c.deep)
 
 module _ {m N : ℕ} {run : Run Final} {x : Ran} {bytes : List ℕ} (r : RanIs m N run x bytes) where
   -- the final word is the end's

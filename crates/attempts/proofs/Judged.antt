@@ -1,12 +1,13 @@
 -- What a run and its verdict stand on: a book in tables gives the run's input and fits the buffers, the final word has the data that is read from it,
 -- and what is judged and handed out is the call's. By the limits of a loaded book and the exactness of the run. Assumes nothing.
 use mathlib.Core.Path.{◌≡◌, refl, sym, ap, ap₂, ◌∙◌, subst}
-use mathlib.Core.Bool.{true, cond}
+use mathlib.Core.Bool.{cond}
 use mathlib.Core.List.{List, ◌++◌}
 use mathlib.Core.Option.{Option, none, some}
 use Prim.Native.Nat.{ℕ, ◌+◌, ◌*◌, ◌^◌, ◌≤◌, ◌<◌}
 use native.Mathlib.Nat.{mul-le-mul_left}
 use native.Mathlib.Omega.{arith}
+use Rattle.std.specs.Prelude.{Result, Ok, Err, is_ok}
 use lib.IntN.{ℤ, pos}
 use lib.ListN.{length, take, drop, replicate}
 use lib.Seq.{take_all, length-take-le}
@@ -16,36 +17,35 @@ use borrow.Author.Tests.{le-leb, lt-leb}
 use Rattle.laws.specs.Lists.{All}
 use Rattle.polar.specs.Bits.{Bit}
 use Rattle.polar.specs.Layers.{part}
+use Rattle.polar.specs.Transform.{transform}
 use Rattle.polar.proofs.Transform.{transform-length, transform-bits}
 use Rattle.codebook.specs.declared.Refusal.{Refusal}
 use Rattle.codebook.specs.declared.Refusal.TheVariants.{AboveLimit, Unreadable}
 use Rattle.codebook.specs.Refusals.{unless}
-use Rattle.codebook.specs.declared.Outcome.{Outcome}
-use Rattle.codebook.specs.declared.Outcome.TheVariants.{Done, Refused}
 use Rattle.codebook.specs.declared.Shape.{Shape}
+use Rattle.codebook.specs.declared.Tables.{Tables}
 use Rattle.codebook.specs.Book.{Kind, free_count}
 use Rattle.codebook.proofs.Placing.{free-le}
 use Rattle.settings.specs.declared.Settings.{Settings}
-use Rattle.codec.specs.declared.Status.TheVariants.{Passed}
+use Rattle.settings.specs.Settings.{Ranged}
 use Rattle.codec.specs.declared.HookRecord.{HookRecord}
-use Rattle.codec.specs.declared.RecordRead.{RecordRead}
-use Rattle.codec.specs.Code.{read_data}
+use Rattle.codec.specs.Code.{free_bits, read_data}
 use Rattle.codec.specs.Record.{no_record, read_record}
-use Rattle.codec.specs.Calls.{not_read, record_read}
+use Rattle.codec.specs.Calls.{record_read}
 use Rattle.codec.proofs.Fill.{free-length, free-bits}
 use Rattle.machine.specs.declared.Reads.{Reads}
 use Rattle.machine.specs.declared.Reads.TheVariants.{Data, Record}
 use Rattle.machine.specs.declared.Counts.{Counts}
 use Rattle.queue.specs.Queue.{Step, Final, End, found, Run}
-use Rattle.machine.specs.Calls.{Lent, numbers_needed, bytes_needed, holds, first_failed, final_in, verdict, verdicts, is_read, record_tests, within, outcome_of, is_done, record_or, hook_of, counts_of, walked, after_run, ran_call}
+use Rattle.machine.specs.Calls.{Lent, numbers_needed, bytes_needed, holds, first_failed, final_in, verdict, verdicts, is_read, record_tests, within, outcome_of, record_or, hook_of, counts_of, walked, after_run, ran_call}
 use Rattle.runs.specs.Runs.{Exact}
-use Rattle.reader.specs.Arrays.{Arrays}
 use Rattle.reader.specs.Reader as R
 use Rattle.reader.proofs.Agree.{valid-agree, reader-exact}
 use Rattle.heights.specs.Workspace.{Room}
 use Rattle.reading.specs.Running.{Running}
+use Rattle.reading.proofs.Received.{received-root}
 use Rattle.attempts.specs.Reading.{arrays_lent, reader_run}
-use Rattle.attempts.specs.Attempt.{Ready, judged_as, judged_final, RecordIn}
+use Rattle.attempts.specs.Attempt.{Ready, answered, judged_as, judged_final, RecordIn}
 
 -- ---- parts of buffers
 
@@ -63,7 +63,7 @@ free-most ks = subst (λ l. free_count l ≤ length ks) (take_all (length ks) ks
 
 -- ---- a book in tables, and values that fit it
 
-module _ {x : Shape} {values : List ℤ} {kinds terms heights starts : List ℕ} {biases : List ℤ} (r : Ready x values kinds terms heights starts biases) where
+module _ {x : Shape} {values : List ℤ} {tables : Tables} (r : Ready x values tables) where
   -- the shape's numbers are the book's
   pub ready-deep : x.m ≡ r.book.m
   ready-deep = ap (λ (y : Shape). y.m) r.shape
@@ -79,17 +79,17 @@ module _ {x : Shape} {values : List ℤ} {kinds terms heights starts : List ℕ}
 
   pub ready-small : x.n ≤ 512
   ready-small =
-      let small : 2 ^ r.book.m ≤ 2 ^ 9 = pow_mono {j = 9} r.tables.booked.valid.high in
+      let small : 2 ^ r.book.m ≤ 2 ^ 9 = pow_mono {j = 9} r.in_tables.booked.valid.high in
       omega (arith, ready-size)
 
   pub ready-free : x.k ≤ 512
-  ready-free = omega (arith, ready-small, ready-size, ready-bits, r.tables.booked.valid.indices, free-most r.book.kinds)
+  ready-free = omega (arith, ready-small, ready-size, ready-bits, r.in_tables.booked.valid.indices, free-most r.book.kinds)
 
-  abbrev pub ready-running : Running x values kinds terms heights starts biases
+  abbrev pub ready-running : Running x values tables
   ready-running =
       record {
         book = r.book;
-        tables = r.tables;
+        in_tables = r.in_tables;
         deep = sym ready-deep;
         blocks = sym (ap (λ (y : Shape). y.blocks) r.shape);
         size = r.fits ∙ ready-own;
@@ -106,29 +106,51 @@ module _ {x : Shape} {values : List ℤ} {kinds terms heights starts : List ℕ}
     unfolding Room bytes_needed
     bytes-room h = rw (← ready-own, length-take-le (s.paths * (2 * x.n)) l h) (omega arith)
 
-  -- the reader's run, from arrays whose root holds the values: its word is exact, and it finds one
-  module _ (L D : ℕ) (visited : 1 ≤ L) (A : Arrays) (root : A.vals x.m 1 ≡ values) where
-    at-root : A.vals r.book.m 1 ≡ values
-    at-root = ap (λ m. A.vals m 1) (sym ready-deep) ∙ root
+  -- the reader's run on the workspace lent, which has room for its arrays
+  module _ (s : Settings) (l : Lent) (ranged : Ranged s) (room : numbers_needed x s ≤ length l.numbers) where
+    abbrev pub run_lent : Run Final
+    run_lent = R.run_of r.book s.visits s.paths (arrays_lent x s values l)
 
-    pub exact : Exact r.book values (final_in (R.run_of r.book L D A).end)
-    exact = reader-exact r.book r.tables.booked.valid L D values A visited (r.fits ∙ ready-size) at-root
+    -- their root holds the values
+    lent-root : (arrays_lent x s values l).vals r.book.m 1 ≡ values
+    unfolding arrays_lent
+    lent-root =
+        ap (λ m. (arrays_lent x s values l).vals m 1) (sym ready-deep)
+        ∙ received-root x.m s.paths values (take (numbers_needed x s) l.numbers) (numbers-room s l.numbers room) (omega (arith, ranged.alive)) (r.fits ∙ ready-own) _
 
-    pub finds : (R.run_of r.book L D A).end ≡ found (final_in (R.run_of r.book L D A).end)
+    -- so its word is exact, and it finds one
+    exact : Exact r.book values (final_in run_lent.end)
+    exact = reader-exact r.book r.in_tables.booked.valid s.visits s.paths values (arrays_lent x s values l) ranged.visited (r.fits ∙ ready-size) lent-root
+
+    pub finds : run_lent.end ≡ found (final_in run_lent.end)
     unfolding final_in
     finds =
-        let f = (valid-agree r.book r.tables.booked.valid L D values A visited (r.fits ∙ ready-size) at-root).finds in
+        let f = (valid-agree r.book r.in_tables.booked.valid s.visits s.paths values (arrays_lent x s values l) ranged.visited (r.fits ∙ ready-size) lent-root).finds in
         f ∙ ap found (sym (ap final_in f))
 
-  -- the data of the word found are bits
-  pub data-bits : (word : List ℕ) → All Bit word → All Bit (read_data r.book word)
-  unfolding read_data
-  data-bits word h = free-bits r.book.kinds _ (transform-bits r.book.m word h)
+    -- the word found
+    module _ {word : List ℕ} (is : word ≡ (final_in run_lent.end).word) where
+      pub word-size : length word ≡ x.n
+      word-size = ap length is ∙ exact.size ∙ sym ready-size
 
-  -- and as many as the book has free indices
-  pub data-length : (word : List ℕ) → length word ≡ 2 ^ r.book.m → length (read_data r.book word) ≡ x.k
-  unfolding read_data
-  data-length word e = free-length r.book.kinds _ (transform-length r.book.m word e ∙ sym r.tables.booked.valid.indices) ∙ sym ready-bits
+      pub word-bits : All Bit word
+      word-bits = subst (All Bit) (sym is) exact.bits
+
+      -- its data
+      module _ {ds : List ℕ} (read : ds ≡ free_bits r.book.kinds (transform x.m word)) where
+        pub data_are : ds ≡ (final_in run_lent.end).bits
+        unfolding read_data
+        data_are = read ∙ ap₂ (λ m w. free_bits r.book.kinds (transform m w)) ready-deep is ∙ sym exact.databits
+
+        pub data-size : length ds ≡ x.k
+        unfolding read_data
+        data-size =
+            ap length (data_are ∙ exact.databits)
+            ∙ free-length r.book.kinds _ (transform-length r.book.m _ exact.size ∙ sym r.in_tables.booked.valid.indices) ∙ sym ready-bits
+
+        pub data-bits : All Bit ds
+        unfolding read_data
+        data-bits = subst (All Bit) (sym (data_are ∙ exact.databits)) (free-bits r.book.kinds _ (transform-bits r.book.m _ exact.bits))
 
 -- where a record is read, there are 32 of them
 pub record-in : (reads : Reads) (x : Shape) → T (holds reads x) → (ds : List ℕ) → length ds ≡ x.k → All Bit ds → RecordIn reads ds
@@ -137,6 +159,17 @@ record-in Data x t ds e h = tt
 record-in Record x t ds e h = (e ∙ eqb→eq x.k 32 t, h)
 
 -- ---- the verdict
+
+-- an answer tells what was refused, or that nothing was, and the record
+pub answered-ok : (v : Option Refusal) (g h : HookRecord) → Ok h ≡ answered v g → (v ≡ none) × (h ≡ g)
+unfolding answered
+answered-ok none g h e = (refl, (cc))
+answered-ok (some r) g h e = let z : ◌≡◌ {A = ℕ} 0 1 = cc in absurd (omega arith)
+
+pub answered-err : (v : Option Refusal) (g : HookRecord) (r : Refusal) → Err r ≡ answered v g → v ≡ some r
+unfolding answered
+answered-err none g r e = let z : ◌≡◌ {A = ℕ} 0 1 = cc in absurd (omega arith)
+answered-err (some x) g r e = cc
 
 -- a record is read of the data alone
 hook-same : (r : Reads) (v : Option Refusal) (f g : Final) → f.bits ≡ g.bits → hook_of r v f ≡ hook_of r v g
@@ -147,75 +180,78 @@ hook-same Record (some x) f g e = refl
 
 -- the verdicts look at the discrepancy and the data alone
 pub judged-same : (r : Reads) (s : Settings) (e : End Final) (f : Final) → e ≡ found f → (d : ℕ) (ds : List ℕ) → d ≡ f.discrepancy → ds ≡ f.bits
-    → judged_as r s (judged_final d ds) ≡ (let v = verdict r s e in record { outcome = outcome_of v; hook = hook_of r v (final_in e) })
-unfolding judged_as verdict verdicts first_failed record_tests within final_in outcome_of hook_of
+    → judged_as r s (judged_final d ds) ≡ (let v = verdict r s e in answered v (hook_of r v (final_in e)))
+unfolding judged_as verdict verdicts first_failed record_tests within final_in hook_of
 judged-same r s e f q d ds p w =
     ap₂ (λ (x : ℕ) (y : List ℕ). judged_as r s (judged_final x y)) p w ∙ go r
-    ∙ ap (λ (o : End Final). let v = verdict r s o in record { outcome = outcome_of v; hook = hook_of r v (final_in o) }) (sym q)
+    ∙ ap (λ (o : End Final). let v = verdict r s o in answered v (hook_of r v (final_in o))) (sym q)
   where
-    go : (t : Reads) → judged_as t s (judged_final f.discrepancy f.bits) ≡ (let v = verdict t s (found f) in record { outcome = outcome_of v; hook = hook_of t v f })
+    go : (t : Reads) → judged_as t s (judged_final f.discrepancy f.bits) ≡ (let v = verdict t s (found f) in answered v (hook_of t v f))
     go Data = refl
-    go Record = λ i. record { outcome = outcome_of (verdict Record s (found f)); hook = hook-same Record (verdict Record s (found f)) (judged_final f.discrepancy f.bits) f refl i }
+    go Record = ap (answered (verdict Record s (found f))) (hook-same Record (verdict Record s (found f)) (judged_final f.discrepancy f.bits) f refl)
 
 -- what the code finds: above the limit; within it, without a record to be read, or with one
 module _ (s : Settings) (f : Final) where
-  pub judged-above : (r : Reads) → s.limit < f.discrepancy → not_read AboveLimit ≡ judged_as r s f
-  unfolding judged_as verdict verdicts first_failed unless within outcome_of hook_of not_read
-  judged-above Data h = rw (lt-leb f.discrepancy s.limit h) refl
-  judged-above Record h = rw (lt-leb f.discrepancy s.limit h) refl
+  pub judged-above : (r : Reads) → s.limit < f.discrepancy → Err AboveLimit ≡ judged_as r s f
+  unfolding judged_as answered verdict verdicts first_failed unless within
+  judged-above r h = rw (lt-leb f.discrepancy s.limit h) refl
 
-  pub judged-data : f.discrepancy ≤ s.limit → record { outcome = Done; hook = record { plant = 0; carcass = 0; side = 0; status = Passed } } ≡ judged_as Data s f
-  unfolding judged_as verdict verdicts first_failed unless record_tests within outcome_of hook_of no_record
+  pub judged-data : f.discrepancy ≤ s.limit → Ok no_record ≡ judged_as Data s f
+  unfolding judged_as answered verdict verdicts first_failed unless record_tests within hook_of
   judged-data h = rw (le-leb f.discrepancy s.limit h) refl
 
   pub judged-record : f.discrepancy ≤ s.limit → record_read (read_record f.bits) ≡ judged_as Record s f
-  unfolding judged_as verdict verdicts first_failed unless record_tests is_read within outcome_of hook_of record_or record_read not_read final_in
+  unfolding judged_as answered verdict verdicts first_failed unless record_tests is_read within hook_of record_or record_read final_in
   judged-record h = rw (le-leb f.discrepancy s.limit h) (go (read_record f.bits) refl)
     where
-      go : (o : Option HookRecord) → read_record f.bits ≡ o
-          → record_read o ≡ (let v = unless (is_read o) Unreadable none in record { outcome = outcome_of v; hook = hook_of Record v f })
+      go : (o : Option HookRecord) → read_record f.bits ≡ o → record_read o ≡ (let v = unless (is_read o) Unreadable none in answered v (hook_of Record v f))
       go none e = refl
-      go (some h) e = ap (λ (x : HookRecord). record { outcome = Done; hook = x }) (sym (ap record_or e))
-
--- ---- what is handed out
-
--- by the outcome
-pub done : {o : Outcome} → o ≡ Done → is_done o ≡ true
-unfolding is_done
-done e = rw e refl
-
-module _ {A : Type 0} (x y : A) where
-  pub given-done : {o : Outcome} → o ≡ Done → x ≡ cond (is_done o) x y
-  unfolding is_done
-  given-done e = rw e refl
-
-  pub given-not : {o : Outcome} {r : Refusal} → o ≡ Refused r → y ≡ cond (is_done o) x y
-  unfolding is_done
-  given-not e = rw e refl
+      go (some h) e = ap Ok (sym (ap record_or e))
 
 -- ---- the call after its run
 
 -- the reader's run in the sizes of the shape
-pub reader-same : {x : Shape} {values : List ℤ} {kinds terms heights starts : List ℕ} {biases : List ℤ} (r : Ready x values kinds terms heights starts biases) (s : Settings) (l : Lent)
+pub reader-same : {x : Shape} {values : List ℤ} {tables : Tables} (r : Ready x values tables) (s : Settings) (l : Lent)
     → R.run_of r.book s.visits s.paths (arrays_lent x s values l) ≡ reader_run r.book s values l
 unfolding reader_run
 reader-same {x} {values} r s l = ap (λ (y : Shape). R.run_of r.book s.visits s.paths (arrays_lent y s values l)) r.shape
 
-module _ (reads : Reads) (x : Shape) (s : Settings) (l : Lent) (run : Run Final) (read : RecordRead)
-    (judged : read ≡ (let v = verdict reads s run.end in record { outcome = outcome_of v; hook = hook_of reads v (final_in run.end) })) where
-  pub ran-answer : (counts : Counts) → counts ≡ counts_of run.steps (final_in run.end) → record { outcome = read.outcome; counts = counts; hook = read.hook } ≡ (ran_call reads x s l run).answer
-  unfolding ran_call
-  ran-answer counts e = λ i. record { outcome = (judged i).outcome; counts = e i; hook = (judged i).hook }
+-- what is handed out, by the verdict
+module _ (new old : List ℕ) {v : Option Refusal} where
+  pub given-out : v ≡ none → new ≡ cond (is_ok (outcome_of v)) new old
+  unfolding outcome_of
+  given-out e = rw e refl
 
-  -- what is handed out, by the parts of the buffers that hold it
-  given_out : (old new : List ℕ) (buffer final : List ℕ) → new ≡ cond (is_done read.outcome) (part 0 (length old) buffer) old → part 0 (length old) buffer ≡ final
-      → new ≡ cond (is_done (outcome_of (verdict reads s run.end))) final old
-  given_out old new buffer final e f =
-      e ∙ ap (λ y. cond (is_done read.outcome) y old) f ∙ ap (λ (q : RecordRead). cond (is_done q.outcome) final old) judged
+  pub given-none : {r : Refusal} → v ≡ some r → old ≡ cond (is_ok (outcome_of v)) new old
+  unfolding outcome_of
+  given-none e = rw e refl
 
-  pub ran-lent : (word info : List ℕ) (after : Lent)
-      → after.word ≡ cond (is_done read.outcome) (part 0 (length l.word) word) l.word → part 0 (length l.word) word ≡ (final_in run.end).word
-      → after.bits ≡ cond (is_done read.outcome) (part 0 (length l.bits) info) l.bits → part 0 (length l.bits) info ≡ (final_in run.end).bits
+module _ (reads : Reads) (x : Shape) (s : Settings) (l : Lent) (run : Run Final) where
+  -- the verdict on its word
+  abbrev against : Option Refusal
+  against = verdict reads s run.end
+
+  module _ {counts : Counts} (counted : counts ≡ counts_of run.steps (final_in run.end)) where
+    pub ran-done : {h : HookRecord} → against ≡ none → h ≡ hook_of reads against (final_in run.end)
+        → record { outcome = Ok tt; counts = counts; hook = h } ≡ (ran_call reads x s l run).answer
+    unfolding ran_call outcome_of
+    ran-done e p = let o = ap outcome_of (sym e) in λ i. record { outcome = o i; counts = counted i; hook = p i }
+
+    pub ran-refused : {r : Refusal} → against ≡ some r → record { outcome = Err r; counts = counts; hook = no_record } ≡ (ran_call reads x s l run).answer
+    unfolding ran_call outcome_of
+    ran-refused {r} e =
+        let o = ap outcome_of (sym e) in
+        let h = none-read reads ∙ ap (λ (v : Option Refusal). hook_of reads v (final_in run.end)) (sym e) in
+        λ i. record { outcome = o i; counts = counted i; hook = h i }
+      where
+        none-read : (t : Reads) → no_record ≡ hook_of t (some r) (final_in run.end)
+        unfolding hook_of
+        none-read Data = refl
+        none-read Record = refl
+
+  pub ran-lent : (after : Lent)
+      → after.word ≡ cond (is_ok (outcome_of against)) (final_in run.end).word l.word
+      → after.bits ≡ cond (is_ok (outcome_of against)) (final_in run.end).bits l.bits
       → after.numbers ≡ replicate (numbers_needed x s) (pos 0) ++ drop (numbers_needed x s) l.numbers
       → after.bytes ≡ replicate (bytes_needed x s) 0 ++ drop (bytes_needed x s) l.bytes
       → after.walk_path ≡ walked (λ (z : Step). pos z.path) run.steps l.walk_path
@@ -223,11 +259,4 @@ module _ (reads : Reads) (x : Shape) (s : Settings) (l : Lent) (run : Run Final)
       → after.walk_score ≡ walked (λ (z : Step). z.score) run.steps l.walk_score
       → after ≡ (ran_call reads x s l run).lent
   unfolding ran_call after_run
-  ran-lent word info after w fw b fb n y p q t =
-      let w' = given_out l.word after.word word (final_in run.end).word w fw in
-      let b' = given_out l.bits after.bits info (final_in run.end).bits b fb in
-      λ i. record { word = w' i; bits = b' i; numbers = n i; bytes = y i; walk_path = p i; walk_blocks = q i; walk_score = t i }
-
--- what is refused above the limit, whatever the test is called in the code
-pub judged_over : (r : Reads) (s : Settings) (d : ℕ) (ds : List ℕ) (x : RecordRead) → s.limit < d → x ≡ not_read AboveLimit → x ≡ judged_as r s (judged_final d ds)
-judged_over r s d ds x h e = e ∙ judged-above s (judged_final d ds) r h
+  ran-lent after w b n y p q t = λ i. record { word = w i; bits = b i; numbers = n i; bytes = y i; walk_path = p i; walk_blocks = q i; walk_score = t i }

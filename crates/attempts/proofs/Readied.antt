@@ -4,6 +4,7 @@ use mathlib.Core.List.{List, [], ◌∷◌, map}
 use mathlib.Core.Option.{Option, none, some}
 use Prim.Native.Nat.{ℕ, ◌^◌, ◌≤◌}
 use native.Mathlib.Omega.{arith}
+use Rattle.std.specs.Prelude.{Result, Ok, Err}
 use lib.IntN.{ℤ, pos, nat_abs}
 use lib.ListN.{length, get_or, length-map, get_or-map}
 use lib.Dec.{T, leb, leb→le}
@@ -13,16 +14,14 @@ use Rattle.laws.proofs.Tests.{and_left, and_right}
 use Rattle.laws.proofs.Lists.{over-get_d, over-length, length-tab, get_d-tab}
 use Rattle.polar.specs.Layers.{Within}
 use Rattle.codebook.specs.declared.Refusal.{Refusal}
-use Rattle.codebook.specs.declared.Outcome.TheVariants.{Done}
 use Rattle.codebook.specs.declared.Shape.{Shape}
+use Rattle.codebook.specs.declared.Tables.{Tables}
 use Rattle.codebook.specs.Book.{Book, Block, block_at, start_of}
 use Rattle.codebook.specs.Loading.{Load, load, refused, loaded, book_shape, shape_of}
 use Rattle.codebook.specs.Tables.{tables_of, overlaid, loaded_up_to, Filled}
-use Rattle.codebook.specs.Tables as C
 use Rattle.codebook.proofs.Loaded.{loaded-valid}
 use Rattle.coding.proofs.Told.{load-tabled}
 use Rattle.settings.specs.declared.Settings.{Settings}
-use Rattle.settings.specs.declared.Checked.TheVariants.{Good, Bad}
 use Rattle.machine.specs.declared.Manner.{Manner}
 use Rattle.machine.specs.Calls.{Input, Lent, lengths_of, first_failed, values_ok, tests_before, barred}
 use Rattle.checks.specs.Checks.{admitted_as}
@@ -38,13 +37,13 @@ pub record Has (book : List ℕ) (x : Shape) : Type 0 where
   pub loads : load book ≡ loaded is
   pub shape : x ≡ book_shape is
 
-pub shape_has : (book : List ℕ) (x : Shape) → x ≡ shape_of (load book) → x.outcome ≡ Done → Has book x
+pub shape_has : (book : List ℕ) (x : Shape) → Ok x ≡ shape_of (load book) → Has book x
 unfolding shape_of
-shape_has book x e d = go (load book) refl (sym (ap (λ (y : Shape). y.outcome) e) ∙ d)
+shape_has book x e = go (load book) refl e
   where
-    go : (l : Load) → load book ≡ l → (shape_of l).outcome ≡ Done → Has book x
+    go : (l : Load) → load book ≡ l → Ok x ≡ shape_of l → Has book x
     go (refused r) p f = let z : ◌≡◌ {A = ℕ} 0 1 = cc in absurd (omega arith)
-    go (loaded B) p f = record { is = B; loads = p; shape = e ∙ ap shape_of p }
+    go (loaded B) p f = record { is = B; loads = p; shape = (cc) }
 
 module _ (book : List ℕ) (x : Shape) (h : Has book x) where
   -- it is small
@@ -58,41 +57,29 @@ module _ (book : List ℕ) (x : Shape) (h : Has book x) where
 
 -- ---- the tables of a loaded book
 
-module _ (book : List ℕ) (B : Book) (e : load book ≡ loaded B) (old new : C.Tables) (f : Filled (load book) (loaded_up_to book) old new) where
-  pub load_read : InTables B new.kinds new.terms new.heights new.starts new.biases
+module _ (book : List ℕ) (B : Book) (e : load book ≡ loaded B) (old new : Tables) (f : Filled (load book) (loaded_up_to book) old new) where
+  pub load_read : InTables B new
   unfolding Filled overlaid tables_of block_at
   load_read =
       let g : new ≡ overlaid (tables_of B) old = rw e at f in
       record {
         booked = record { valid = loaded-valid book B e; tabled = load-tabled book B old new e f };
-        height = λ b h.
-            ap (λ (t : C.Tables). get_or t.heights b 0) g
-            ∙ over-get_d (map (λ (x : Block). x.j) B.blocks) old.heights b 0 (omega (arith, length-map B.blocks (λ (x : Block). x.j)))
-            ∙ get_or-map (λ (x : Block). x.j) B.blocks b (record { j = 0; bias = pos 0 });
-        start = λ b h.
-            ap (λ (t : C.Tables). get_or t.starts b 0) g
-            ∙ over-get_d (tab (length B.blocks) (start_of B.blocks)) old.starts b 0 (omega (arith, length-tab (length B.blocks) (start_of B.blocks)))
-            ∙ get_d-tab (length B.blocks) (start_of B.blocks) b 0 h;
-        bias = λ b h.
-            ap (λ (t : C.Tables). get_or t.biases b (pos 0)) g
-            ∙ over-get_d (map (λ (x : Block). x.bias) B.blocks) old.biases b (pos 0) (omega (arith, length-map B.blocks (λ (x : Block). x.bias)))
-            ∙ get_or-map (λ (x : Block). x.bias) B.blocks b (record { j = 0; bias = pos 0 });
+        blocks =
+            record {
+              height = λ b h.
+                  ap (λ (t : Tables). get_or t.heights b 0) g
+                  ∙ over-get_d (map (λ (x : Block). x.j) B.blocks) old.heights b 0 (omega (arith, length-map B.blocks (λ (x : Block). x.j)))
+                  ∙ get_or-map (λ (x : Block). x.j) B.blocks b (record { j = 0; bias = pos 0 });
+              start = λ b h.
+                  ap (λ (t : Tables). get_or t.starts b 0) g
+                  ∙ over-get_d (tab (length B.blocks) (start_of B.blocks)) old.starts b 0 (omega (arith, length-tab (length B.blocks) (start_of B.blocks)))
+                  ∙ get_d-tab (length B.blocks) (start_of B.blocks) b 0 h;
+              bias = λ b h.
+                  ap (λ (t : Tables). get_or t.biases b (pos 0)) g
+                  ∙ over-get_d (map (λ (x : Block). x.bias) B.blocks) old.biases b (pos 0) (omega (arith, length-map B.blocks (λ (x : Block). x.bias)))
+                  ∙ get_or-map (λ (x : Block). x.bias) B.blocks b (record { j = 0; bias = pos 0 });
+            };
       }
-
-  -- the blocks' tables are as long as they were
-  pub load-long : {n : ℕ} → 512 ≤ n → length old.heights ≡ n → length old.starts ≡ n → length old.biases ≡ n
-      → (length new.heights ≡ n) × (length new.starts ≡ n) × (length new.biases ≡ n)
-  unfolding Filled overlaid tables_of
-  load-long h a b d =
-      let g : new ≡ overlaid (tables_of B) old = rw e at f in
-      let few = blocks-few B (loaded-valid book B e) in
-      let js = map (λ (x : Block). x.j) B.blocks in
-      let ss = tab (length B.blocks) (start_of B.blocks) in
-      let ws = map (λ (x : Block). x.bias) B.blocks in (
-        ap (λ (t : C.Tables). length t.heights) g ∙ over-length js old.heights (omega (arith, length-map B.blocks (λ (x : Block). x.j))) ∙ a,
-        ap (λ (t : C.Tables). length t.starts) g ∙ over-length ss old.starts (omega (arith, length-tab (length B.blocks) (start_of B.blocks))) ∙ b,
-        ap (λ (t : C.Tables). length t.biases) g ∙ over-length ws old.biases (omega (arith, length-map B.blocks (λ (x : Block). x.bias))) ∙ d,
-      )
 
 -- ---- the values
 
@@ -103,12 +90,12 @@ values-within (y ∷ ys) t = (leb→le (nat_abs y) 2047 (and_left (leb (nat_abs 
 
 -- ---- what the tests come to
 
-pub admitted-good : (o : Option Refusal) (s x : Settings) → admitted_as o s ≡ Good x → (o ≡ none) × (x ≡ s)
+pub admitted-good : (o : Option Refusal) (s x : Settings) → Ok x ≡ admitted_as o s → (o ≡ none) × (x ≡ s)
 unfolding admitted_as
 admitted-good none s x e = (refl, (cc))
 admitted-good (some r) s x e = let z : ◌≡◌ {A = ℕ} 0 1 = cc in absurd (omega arith)
 
-pub admitted-bad : (o : Option Refusal) (s : Settings) (r : Refusal) → admitted_as o s ≡ Bad r → o ≡ some r
+pub admitted-bad : (o : Option Refusal) (s : Settings) (r : Refusal) → Err r ≡ admitted_as o s → o ≡ some r
 unfolding admitted_as
 admitted-bad none s r e = let z : ◌≡◌ {A = ℕ} 0 1 = cc in absurd (omega arith)
 admitted-bad (some q) s r e = cc
@@ -120,12 +107,12 @@ barred-is k c l x h = ap (λ (y : Shape). first_failed (tests_before k y c.setti
 
 -- ---- all that the run needs
 
-abbrev pub ready : (book : List ℕ) (ys : List ℤ) (x : Shape) (h : Has book x) (old new : C.Tables) → Filled (load book) (loaded_up_to book) old new
-    → length ys ≡ x.n → T (values_ok ys) → Ready x ys new.kinds new.terms new.heights new.starts new.biases
+abbrev pub ready : (book : List ℕ) (ys : List ℤ) (x : Shape) (h : Has book x) (old new : Tables) → Filled (load book) (loaded_up_to book) old new
+    → length ys ≡ x.n → T (values_ok ys) → Ready x ys new
 ready book ys x h old new f fits good =
     record {
       book = h.is;
-      tables = load_read book h.is h.loads old new f;
+      in_tables = load_read book h.is h.loads old new f;
       shape = h.shape;
       fits = fits;
       range = values-within ys good;

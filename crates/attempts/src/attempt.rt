@@ -1,177 +1,87 @@
 // A decoding call by the reader's run: the book is loaded, the call is admitted or refused, the run is made, its word is judged, and handed out where no verdict is against it. Relies
 // on ran.rt, verdict.rt and the crates loading, coding and checks; machine/specs/Calls says what a call answers and leaves.
-ghost use Rattle.std.specs.Prelude.{◌≡◌, ◌≤◌, T, length};
+ghost use Rattle.std.specs.Prelude.{◌≡◌, ◌≤◌, T, length, Err};
 ghost use Rattle.settings.specs.Settings.{Ranged};
-ghost use Rattle.machine.specs.Calls.{given, lent_before, lent_after, lent_in, SameOutput, SameWorkspace, SameWalk, numbers_needed, bytes_needed, walk_needed, holds, refused_as, ran_call, call_by};
+ghost use Rattle.codec.specs.Record.{no_record};
+ghost use Rattle.machine.specs.Calls.{given, lent_in, SameOutput, SameWorkspace, SameWalk, numbers_needed, bytes_needed, walk_needed, holds, ran_call, call_by};
 ghost use Rattle.attempts.specs.Reading.{reader_run};
 ghost use Rattle.attempts.specs.Attempt.{Ready};
 
 use crate::ran::run_cleared;
 use crate::verdict::{give, judge};
 use checks::admission::admit;
-use codebook::{Outcome, Refusal, Shape};
-use codec::{HookRecord, Status};
+use codebook::{Refusal, Shape, Tables};
+use codec::HookRecord;
 use coding::data_of;
 use loading::load_tables;
 use machine::{Counts, HookDecoded, Lengths, Manner, Output, Reads, Walk, Workspace};
-use settings::{Checked, Settings};
+use settings::Settings;
 
-// The answer where no run is made.
-fn refused(r: Refusal) -> HookDecoded
-    ensures { result ≡ refused_as r }
+// The answer of a refusal, with these counts.
+fn refused(r: Refusal, counts: Counts) -> HookDecoded
+    ensures { result ≡ record { outcome = Err r; counts = counts; hook = no_record } }
 {
     HookDecoded {
-        outcome: Outcome::Refused(r),
-        counts: Counts {
-            extractions: 0,
-            crowded: 0,
-            outrun: 0,
-            discrepancy: 0,
-        },
-        hook: HookRecord {
-            plant: 0,
-            carcass: 0,
-            side: 0,
-            status: Status::Passed,
-        },
+        outcome: Err(r),
+        counts,
+        hook: HookRecord::default(),
     }
 }
 
-// An admitted call: the run on the stated part of the workspace, the data of its word, the verdict, and what is handed out. What the run finds goes to `found`, its data to `info`.
+// An admitted call: the run on the stated part of the workspace, the data of its word, the verdict, and what is handed out.
 fn decide(
     r: Reads,
     x: Shape,
     s: Settings,
     values: &[i16],
-    kinds: &[u8; 512],
-    terms: &[u32; 512],
-    heights: &[u8; 512],
-    starts: &[u16; 512],
-    biases: &[i32; 512],
-    word: &mut [u8],
-    bits: &mut [u8],
-    numbers: &mut [i32],
-    bytes: &mut [u8],
-    walk_path: &mut [i32],
-    walk_blocks: &mut [i32],
-    walk_score: &mut [i32],
-    found: &mut [u8],
-    info: &mut [u8],
+    tables: &Tables,
+    out: &mut Output,
+    workspace: &mut Workspace,
+    walk: &mut Walk,
 ) -> HookDecoded
-    requires ranged { Ranged s × T (holds r x) × (length word.old ≡ x.n) × (length bits.old ≡ x.k) }
-    requires heights_len { (length heights.now ≡ 512) × (length starts.now ≡ 512) × (length biases.now ≡ 512) × (length found.old ≡ 512) × (length info.old ≡ 512) }
-    requires s_in_bounds { (numbers_needed x s ≤ length numbers.old) × (bytes_needed x s ≤ length bytes.old) }
-    requires s_in_bounds_2 { (walk_needed x s ≤ length walk_path.old) × (walk_needed x s ≤ length walk_blocks.old) × (walk_needed x s ≤ length walk_score.old) }
-    requires ready { Ready x values.now kinds.now terms.now heights.now starts.now biases.now }
-    ensures { (c : Ready x values.now kinds.now terms.now heights.now starts.now biases.now)
-        → (let l = lent_before word bits numbers bytes walk_path walk_blocks walk_score in
+    requires ranged { Ranged s × T (holds r x) × (length out.old.word.now ≡ x.n) × (length out.old.bits.now ≡ x.k) }
+    requires workspace_needed { (numbers_needed x s ≤ length workspace.old.numbers.now) × (bytes_needed x s ≤ length workspace.old.bytes.now) }
+    requires walk_needed { (walk_needed x s ≤ length walk.old.path.now) × (walk_needed x s ≤ length walk.old.blocks.now) × (walk_needed x s ≤ length walk.old.score.now) }
+    requires ready { Ready x values.now tables.now }
+    ensures called { (c : Ready x values.now tables.now)
+        → (let l = lent_in out.old workspace.old walk.old in
         let w = ran_call r x s l (reader_run c.book s values.now l) in
-        (result ≡ w.answer) × (lent_after word bits numbers bytes walk_path walk_blocks walk_score ≡ w.lent)) }
+        (result ≡ w.answer) × (lent_in out.new workspace.new walk.new ≡ w.lent)) }
+    ensures same { SameOutput out.new out.old × SameWorkspace workspace.new workspace.old × SameWalk walk.new walk.old }
 {
     let n = x.n as usize;
     let k = x.k as usize;
     let most = s.paths as usize;
     let size = most * (2 * n + 32);
     let room = most * (2 * n);
+    let numbers = &mut *workspace.numbers;
+    let bytes = &mut *workspace.bytes;
+    let mut found = [0u8; 512];
+    let mut info = [0u8; 512];
+    let mut u = [0u8; 512];
+    let word = &mut found[..n];
+    let bits = &mut info[..k];
     let counts = run_cleared(
         x,
         s,
         values,
-        kinds,
-        terms,
-        heights,
-        starts,
-        biases,
+        tables,
         &mut numbers[..size],
         &mut bytes[..room],
-        walk_path,
-        walk_blocks,
-        walk_score,
-        &mut found[..n],
+        walk,
+        word,
     );
-    let mut u = [0u8; 512];
-    data_of(kinds, x.m, &found[..n], &mut u[..n], &mut info[..k]);
-    let read = judge(r, s, counts.discrepancy, &info[..k]);
-    let outcome = read.outcome;
-    give(outcome, found, info, word, bits);
-    let hook = read.hook;
-    HookDecoded {
-        outcome,
-        counts,
-        hook,
-    }
-}
-
-// The call over its buffers: loaded, tested, run, judged, handed out. The run is the reader's on the workspace lent (specs/Reading).
-pub fn attempt_of_parts(
-    k: Manner,
-    book: &[u8],
-    asked: Settings,
-    values: &[i16],
-    word: &mut [u8],
-    bits: &mut [u8],
-    numbers: &mut [i32],
-    bytes: &mut [u8],
-    walk_path: &mut [i32],
-    walk_blocks: &mut [i32],
-    walk_score: &mut [i32],
-) -> HookDecoded
-    ensures { let w = call_by reader_run k (given book.now asked values.now) (lent_before word bits numbers bytes walk_path walk_blocks walk_score) in
-        (result ≡ w.answer) × (lent_after word bits numbers bytes walk_path walk_blocks walk_score ≡ w.lent) }
-{
-    let mut kinds = [0u8; 512];
-    let mut terms = [0u32; 512];
-    let mut heights = [0u8; 512];
-    let mut starts = [0u16; 512];
-    let mut biases = [0i32; 512];
-    let x = load_tables(
-        book,
-        &mut kinds,
-        &mut terms,
-        &mut heights,
-        &mut starts,
-        &mut biases,
-    );
-    let outcome = x.outcome;
-    if let Outcome::Refused(r) = outcome {
-        return refused(r);
-    }
-    let l = Lengths {
-        values: values.len(),
-        word: word.len(),
-        bits: bits.len(),
-        numbers: numbers.len(),
-        bytes: bytes.len(),
-        paths: walk_path.len(),
-        blocks: walk_blocks.len(),
-        scores: walk_score.len(),
-    };
-    let admitted = admit(k, x, asked, l, values);
-    let reads = k.reads;
-    let mut found = [0u8; 512];
-    let mut info = [0u8; 512];
-    match admitted {
-        Checked::Bad(r) => refused(r),
-        Checked::Good(s) => decide(
-            reads,
-            x,
-            s,
-            values,
-            &kinds,
-            &terms,
-            &heights,
-            &starts,
-            &biases,
-            word,
-            bits,
-            numbers,
-            bytes,
-            walk_path,
-            walk_blocks,
-            walk_score,
-            &mut found,
-            &mut info,
-        ),
+    data_of(tables, x.m, word, &mut u[..n], bits);
+    match judge(r, s, counts.discrepancy, bits) {
+        Ok(hook) => {
+            give(word, bits, out);
+            HookDecoded {
+                outcome: Ok(()),
+                counts,
+                hook,
+            }
+        }
+        Err(against) => refused(against, counts),
     }
 }
 
@@ -189,24 +99,23 @@ pub fn attempt(
         (result ≡ w.answer) × (lent_in out.new workspace.new walk.new ≡ w.lent) }
     ensures same { SameOutput out.new out.old × SameWorkspace workspace.new workspace.old × SameWalk walk.new walk.old }
 {
-    let word = &mut *out.word;
-    let bits = &mut *out.bits;
-    let numbers = &mut *workspace.numbers;
-    let bytes = &mut *workspace.bytes;
-    let walk_path = &mut *walk.path;
-    let walk_blocks = &mut *walk.blocks;
-    let walk_score = &mut *walk.score;
-    attempt_of_parts(
-        k,
-        book,
-        asked,
-        values,
-        word,
-        bits,
-        numbers,
-        bytes,
-        walk_path,
-        walk_blocks,
-        walk_score,
-    )
+    let mut tables = Tables::empty();
+    let x = match load_tables(book, &mut tables) {
+        Ok(x) => x,
+        Err(r) => return refused(r, Counts::default()),
+    };
+    let l = Lengths {
+        values: values.len(),
+        word: out.word.len(),
+        bits: out.bits.len(),
+        numbers: workspace.numbers.len(),
+        bytes: workspace.bytes.len(),
+        paths: walk.path.len(),
+        blocks: walk.blocks.len(),
+        scores: walk.score.len(),
+    };
+    match admit(k, x, asked, l, values) {
+        Ok(s) => decide(k.reads, x, s, values, &tables, out, workspace, walk),
+        Err(r) => refused(r, Counts::default()),
+    }
 }

@@ -4,15 +4,14 @@ ghost use Rattle.std.specs.Prelude.{◌≡◌, ◌^◌, ◌≤◌, pos, length, 
 ghost use Rattle.settings.specs.Settings.{Ranged};
 ghost use Rattle.queue.specs.Run.{most_extractions};
 ghost use Rattle.queue.specs.Queue.{Step};
-ghost use Rattle.machine.specs.Calls.{final_in, counts_of, walked};
+ghost use Rattle.machine.specs.Calls.{final_in, counts_of, walked, SameWalk};
 ghost use Rattle.heights.specs.Workspace.{Room};
 ghost use Rattle.reader.specs.Reader as R;
 ghost use Rattle.reading.specs.Running.{arrays_of, received, Running};
 
-use checks::buffers::{clear_bytes, clear_numbers, hand_out};
-use codebook::Shape;
+use codebook::{Shape, Tables};
 use heights::arrays::spot_of;
-use machine::Counts;
+use machine::{Counts, Walk};
 use reading::run::run;
 use settings::Settings;
 
@@ -21,52 +20,32 @@ pub fn run_cleared(
     x: Shape,
     s: Settings,
     values: &[i16],
-    kinds: &[u8; 512],
-    terms: &[u32; 512],
-    heights: &[u8; 512],
-    starts: &[u16; 512],
-    biases: &[i32; 512],
+    tables: &Tables,
     numbers: &mut [i32],
     bytes: &mut [u8],
-    walk_path: &mut [i32],
-    walk_blocks: &mut [i32],
-    walk_score: &mut [i32],
+    walk: &mut Walk,
     found: &mut [u8],
 ) -> Counts
-    requires ranged { Ranged s }
-    requires heights_len { (length heights.now ≡ 512) × (length starts.now ≡ 512) × (length biases.now ≡ 512) × (length found.old ≡ 2 ^ x.m) }
+    requires ranged { Ranged s × (length found.old ≡ 2 ^ x.m) }
     requires room { Room x.m s.paths numbers.old × Room x.m s.paths bytes.old }
-    requires blocks_in_bounds { (most_extractions s.visits x.blocks ≤ length walk_path.old) × (most_extractions s.visits x.blocks ≤ length walk_blocks.old)
-        × (most_extractions s.visits x.blocks ≤ length walk_score.old) }
-    requires running { Running x values.now kinds.now terms.now heights.now starts.now biases.now }
+    requires blocks_in_bounds { (most_extractions s.visits x.blocks ≤ length walk.old.path.now) × (most_extractions s.visits x.blocks ≤ length walk.old.blocks.now)
+        × (most_extractions s.visits x.blocks ≤ length walk.old.score.now) }
+    requires running { Running x values.now tables.now }
     ensures numbers_after { (numbers.new ≡ replicate (length numbers.old) (pos 0)) × (bytes.new ≡ replicate (length bytes.old) 0) }
-    ensures fact { (c : Running x values.now kinds.now terms.now heights.now starts.now biases.now)
+    ensures fact { (c : Running x values.now tables.now)
         → (let y = R.run_of c.book s.visits s.paths (arrays_of x.m (received x.m values.now numbers.old) bytes.old) in
         (result ≡ counts_of y.steps (final_in y.end)) × (found.new ≡ (final_in y.end).word)
-        × (walk_path.new ≡ walked (λ (z : Step). pos z.path) y.steps walk_path.old)
-        × (walk_blocks.new ≡ walked (λ (z : Step). pos z.blocks) y.steps walk_blocks.old)
-        × (walk_score.new ≡ walked (λ (z : Step). z.score) y.steps walk_score.old)) }
+        × (walk.new.path.now ≡ walked (λ (z : Step). pos z.path) y.steps walk.old.path.now)
+        × (walk.new.blocks.now ≡ walked (λ (z : Step). pos z.blocks) y.steps walk.old.blocks.now)
+        × (walk.new.score.now ≡ walked (λ (z : Step). z.score) y.steps walk.old.score.now)) }
+    ensures same_walk { SameWalk walk.new walk.old }
 {
     let m = x.m as usize;
-    let r = run(
-        x,
-        s,
-        values,
-        kinds,
-        terms,
-        heights,
-        starts,
-        biases,
-        numbers,
-        bytes,
-        walk_path,
-        walk_blocks,
-        walk_score,
-    );
-    hand_out(found, bytes, spot_of(m, r.id, m));
-    let size = numbers.len();
-    clear_numbers(numbers, size);
-    let room = bytes.len();
-    clear_bytes(bytes, room);
+    let r = run(x, s, values, tables, numbers, bytes, walk);
+    let at = spot_of(m, r.id, m);
+    let end = at + found.len();
+    found.copy_from_slice(&bytes[at..end]);
+    numbers.fill(0);
+    bytes.fill(0);
     r.counts
 }

@@ -7,9 +7,11 @@ use mathlib.Core.Option.{Option, none, some}
 use Prim.Native.Nat.{ℕ}
 use native.Mathlib.Omega.{arith}
 use lib.ListN.{length, get_or, drop, length-map}
+use Rattle.std.specs.Prelude.{Result, Ok, Err, is_ok}
 use lib.IntN.{ℤ}
 use borrow.Author.Tests.{le-leb, eq-eqb}
 use Rattle.laws.specs.Lists.{over}
+use Rattle.codebook.specs.declared.Refusal.{Refusal}
 use Rattle.codebook.specs.declared.Refusal.TheVariants.{Unreadable}
 use Rattle.codebook.specs.Refusals.{unless}
 use Rattle.codebook.specs.Book.{Book}
@@ -19,13 +21,13 @@ use Rattle.settings.specs.declared.Settings.{Settings}
 use Rattle.codec.specs.declared.HookRecord.{HookRecord}
 use Rattle.codec.specs.Code.{read_data}
 use Rattle.codec.specs.Record.{read_record}
-use Rattle.codec.specs.Calls.{not_read, record_read}
+use Rattle.codec.specs.Calls.{record_read, hook_read}
 use Rattle.queue.specs.Queue.{Step, Final, End, found, Run}
 use Rattle.machine.specs.declared.Reads.{Reads}
 use Rattle.machine.specs.declared.Reads.TheVariants.{Data, Record}
 use Rattle.machine.specs.declared.Manner.{Manner}
 use Rattle.machine.specs.declared.HookDecoded.{HookDecoded}
-use Rattle.machine.specs.Calls.{Input, Lent, readied, machine_run, final_in, first_failed, within, is_read, record_tests, verdicts, verdict, outcome_of, is_done, record_or, hook_of, walked, after_run, ran_call, call_of}
+use Rattle.machine.specs.Calls.{Input, Lent, readied, machine_run, final_in, first_failed, within, is_read, record_tests, verdicts, verdict, outcome_of, record_or, hook_of, walked, after_run, ran_call, call_of}
 use Rattle.machine.proofs.Called.{call-ran}
 use Rattle.runs.specs.Handed.{Made}
 use Rattle.runs.proofs.Handed.{made-free}
@@ -35,7 +37,7 @@ use Rattle.steprecords.specs.declared.StepRecord.{StepRecord}
 use Rattle.steprecords.specs.Records.{record_of, blank, nth_record, recorded}
 use Rattle.answers.specs.Slices.{counts_slice, record_slice, filled}
 use Rattle.clean.specs.Clean.{Clean, clean_walk, clean_final, RunsClean}
-use Rattle.clean.specs.Calls.{clean_read, clean_answer, clean_lent, ReadsClean, clean_records}
+use Rattle.clean.specs.Calls.{clean_read, read_outcome, clean_answer, clean_lent, ReadsClean, clean_records}
 use Rattle.clean.proofs.Run.{machine-clean}
 
 -- ---- the buffers after a clean run
@@ -66,23 +68,28 @@ module _ (B : Book) (s : Settings) (l : Lent) (w : List ℕ) where
   unfolding verdict verdicts first_failed unless within final_in clean_final
   clean-verdict r end e = rw (e, le-leb 0 s.limit (omega arith)) refl
 
-  clean-outcome : (r : Reads) → outcome_of (first_failed (record_tests r (clean_final B w))) ≡ (clean_read r (read_data B w)).outcome
-  unfolding outcome_of first_failed unless record_tests is_read clean_read clean_final record_read not_read
+  clean-outcome : (r : Reads) → outcome_of (first_failed (record_tests r (clean_final B w))) ≡ read_outcome (clean_read r (read_data B w))
+  unfolding outcome_of first_failed unless record_tests is_read clean_read clean_final record_read read_outcome
   clean-outcome Data = refl
   clean-outcome Record = go (read_record (read_data B w))
     where
-      go : (o : Option HookRecord) → outcome_of (unless (is_read o) Unreadable none) ≡ (record_read o).outcome
+      go : (o : Option HookRecord) → outcome_of (unless (is_read o) Unreadable none) ≡ read_outcome (record_read o)
       go none = refl
       go (some h) = refl
 
-  clean-hook : (r : Reads) → hook_of r (first_failed (record_tests r (clean_final B w))) (clean_final B w) ≡ (clean_read r (read_data B w)).hook
-  unfolding hook_of record_or first_failed unless record_tests is_read clean_read clean_final record_read not_read
+  clean-hook : (r : Reads) → hook_of r (first_failed (record_tests r (clean_final B w))) (clean_final B w) ≡ hook_read (clean_read r (read_data B w))
+  unfolding hook_of record_or first_failed unless record_tests is_read clean_read clean_final record_read hook_read
   clean-hook Data = refl
   clean-hook Record = go (read_record (read_data B w)) refl
     where
-      go : (o : Option HookRecord) → read_record (read_data B w) ≡ o → hook_of Record (unless (is_read o) Unreadable none) (clean_final B w) ≡ (record_read o).hook
+      go : (o : Option HookRecord) → read_record (read_data B w) ≡ o → hook_of Record (unless (is_read o) Unreadable none) (clean_final B w) ≡ hook_read (record_read o)
       go none e = refl
       go (some h) e = ap record_or e
+
+  read-ok : (x : Result HookRecord Refusal) → is_ok (read_outcome x) ≡ is_ok x
+  unfolding read_outcome
+  read-ok (Ok h) = refl
+  read-ok (Err r) = refl
 
   module _ (r : Reads) (run : Run Final) (k : RunsClean B s.visits s.paths w run.steps run.end) where
     ran-clean : ReadsClean r B s l w (ran_call r (book_shape B) s l run)
@@ -95,8 +102,8 @@ module _ (B : Book) (s : Settings) (l : Lent) (w : List ℕ) where
         record {
           answer = λ i. record { outcome = o i; counts = k.counts i; hook = h i };
           buffers =
-              ap₂ (λ (g : Final) (b : Bool). after_run (book_shape B) s l run.steps g b) f (ap is_done o)
-              ∙ lent-after run.steps (is_done (clean_read r (read_data B w)).outcome) k.walk;
+              ap₂ (λ (g : Final) (b : Bool). after_run (book_shape B) s l run.steps g b) f (ap is_ok o ∙ read-ok (clean_read r (read_data B w)))
+              ∙ lent-after run.steps (is_ok (clean_read r (read_data B w))) k.walk;
           walk = k.walk;
         }
 

@@ -3,7 +3,7 @@ ghost use Rattle.machine.specs.Calls.{given, lent_in, SameOutput, SameWorkspace,
 ghost use Rattle.decoder.specs.Decodes.{Decodes};
 
 use attempts::attempt::attempt;
-use machine::{Beside, Decoded, HookDecoded, Manner, Output, Reads, Walk, Workspace};
+use machine::{Decoded, HookDecoded, Manner, Output, Reads, Walk, Workspace};
 use settings::Settings;
 
 // A decoding call in manner k. Its settings may be any numbers: those out of range are refused.
@@ -37,9 +37,9 @@ pub fn decode(
 {
     let k = Manner {
         reads: Reads::Data,
-        steps: Beside::Absent,
-        counts: Beside::Absent,
-        hook: Beside::Absent,
+        steps: None,
+        counts: None,
+        hook: None,
     };
     let x = decode_in(k, book, s, values, out, workspace, walk);
     Decoded {
@@ -62,9 +62,9 @@ pub fn decode_hook(
 {
     let k = Manner {
         reads: Reads::Record,
-        steps: Beside::Absent,
-        counts: Beside::Absent,
-        hook: Beside::Absent,
+        steps: None,
+        counts: None,
+        hook: None,
     };
     decode_in(k, book, s, values, out, workspace, walk)
 }

@@ -1,13 +1,11 @@
 -- Demands 2 and 3, each in full, of what the calls answer by definition. That the code answers just that is in its contracts: encode, test, read data, make record and read record
 -- in coding/src, the decoding calls in decoder/src (`Decodes`). proofs/Demands.antt proves both. Assumes nothing.
-use Rattle.std.specs.Prelude.{◌≡◌, List, ◌↔◌, ℕ, ◌^◌, ◌<◌, length, ℤ, T}
+use Rattle.std.specs.Prelude.{◌≡◌, List, ◌↔◌, ℕ, ◌^◌, ◌<◌, length, ℤ, T, true, Ok}
 use Rattle.laws.specs.Lists.{All}
 use Rattle.polar.specs.Bits.{Bit}
-use Rattle.codebook.specs.declared.Outcome.TheVariants.{Done}
 use Rattle.codebook.specs.Book.{Book, free_count}
 use Rattle.codebook.specs.Loading.{loaded, load}
 use Rattle.codec.specs.declared.HookRecord.{HookRecord}
-use Rattle.codec.specs.declared.Tested.TheVariants.{InCode}
 use Rattle.codec.specs.Code.{encode, in_code, read_data}
 use Rattle.codec.specs.Calls.{wrote, encode_call, test_call, read_data_call, make_record_call, read_record_call}
 use Rattle.machine.specs.declared.Manner.{Manner}
@@ -33,15 +31,14 @@ pub record Reverse (B : Book) : Type 0 where
 -- So it is of the calls, whatever the book's bytes are and whatever is lent to them.
 pub record CallsReverse (book : List ℕ) : Type 0 where
   -- what is encoded tests as in the code, and is read back
-  pub tested : (ds c : List ℕ) → (encode_call book ds c).outcome ≡ Done → test_call book (encode_call book ds c).buffer ≡ InCode
-  pub read : (ds c old : List ℕ) → (encode_call book ds c).outcome ≡ Done → length old ≡ length ds → read_data_call book (encode_call book ds c).buffer old ≡ wrote ds
+  pub tested : (ds c : List ℕ) → (encode_call book ds c).outcome ≡ Ok tt → test_call book (encode_call book ds c).buffer ≡ Ok true
+  pub read : (ds c old : List ℕ) → (encode_call book ds c).outcome ≡ Ok tt → length old ≡ length ds → read_data_call book (encode_call book ds c).buffer old ≡ wrote ds
   -- the data of a word that tests as in the code encode to it
-  pub encoded : (c old word : List ℕ) → test_call book c ≡ InCode → (read_data_call book c old).outcome ≡ Done → length word ≡ length c →
+  pub encoded : (c old word : List ℕ) → test_call book c ≡ Ok true → (read_data_call book c old).outcome ≡ Ok tt → length word ≡ length c →
       encode_call book (read_data_call book c old).buffer word ≡ wrote c
   -- a record that is made is read back, and one that is read is made again
-  pub record-read : (h : HookRecord) (old : List ℕ) → (make_record_call book h old).outcome ≡ Done →
-      read_record_call book (make_record_call book h old).buffer ≡ record { outcome = Done; hook = h }
-  pub record-made : (ds old : List ℕ) → (read_record_call book ds).outcome ≡ Done → length old ≡ length ds → make_record_call book (read_record_call book ds).hook old ≡ wrote ds
+  pub record-read : (h : HookRecord) (old : List ℕ) → (make_record_call book h old).outcome ≡ Ok tt → read_record_call book (make_record_call book h old).buffer ≡ Ok h
+  pub record-made : (ds old : List ℕ) (h : HookRecord) → read_record_call book ds ≡ Ok h → length old ≡ length ds → make_record_call book h old ≡ wrote ds
 
 -- ---- demand 2: the decoded word
 

@@ -3,6 +3,7 @@
 use mathlib.Core.Path.{◌≡◌, refl}
 use mathlib.Core.Bool.{◌&&◌}
 use mathlib.Core.Option.{Option, none, some}
+use Rattle.std.specs.Prelude.{None}
 use Prim.Native.Nat.{ℕ, ◌≤◌}
 use native.Mathlib.Omega.{arith}
 use lib.ListN.{length}
@@ -13,7 +14,6 @@ use Rattle.codebook.specs.Book.{Book}
 use Rattle.codebook.specs.Loading.{Load, refused, loaded, load}
 use Rattle.queue.specs.Run.{most_extractions}
 use Rattle.machine.specs.declared.Reads.{Reads}
-use Rattle.machine.specs.declared.Beside.TheVariants.{Absent}
 use Rattle.machine.specs.declared.HookDecoded.{HookDecoded}
 use Rattle.machine.specs.Calls.{Input, Lent, walk_needed, at_least, exactly, counts_size, record_size, beside_ok, barred, readied, machine_run, refused_call, ran_call, unbarred, call_with, call_by, call_of}
 use Rattle.runs.specs.Handed.{Made}
@@ -31,7 +31,7 @@ steps-few r room c l B m =
     let f = made-free (showing r room) c l B m in
     let s = c.settings in
     let most = most_extractions s.visits (length B.blocks) in
-    let enough = leb→le most room (and_left (leb most room) (exactly counts_size Absent) (and_left (leb most room && exactly counts_size Absent) (exactly record_size Absent) f.beside)) in
+    let enough = leb→le most room (and_left (leb most room) (exactly counts_size None) (and_left (leb most room && exactly counts_size None) (exactly record_size None) f.beside)) in
     omega (arith, enough, run-steps B s.visits s.paths (readied (showing r room) c))
 
 steps-roomy : (r : Reads) (room : ℕ) (c : Input) (l : Lent) → length (call_of (showing r room) c l).steps ≤ room

@@ -1,11 +1,10 @@
 -- The screen's calls: the plain decoding call and the hook call with a slice of step records besides the walk's number buffers. Document 01: "the screen's
 -- call takes the walk as a lent slice of step records". With too few of them a call is refused with 7, in 7's place (machine/specs/Calls, beside_ok). And the plain call with one record of its walk, in
 -- plain parameters. Assumes nothing.
-use Rattle.std.specs.Prelude.{◌≡◌, List, ℕ, ◌≤◌, length}
+use Rattle.std.specs.Prelude.{◌≡◌, List, ℕ, ◌≤◌, length, Some, None}
 use Rattle.codebook.specs.Book.{Book}
 use Rattle.codec.specs.Record.{no_record}
 use Rattle.machine.specs.declared.Reads.{Reads}
-use Rattle.machine.specs.declared.Beside.TheVariants.{Absent, Entries}
 use Rattle.machine.specs.declared.Manner.{Manner}
 use Rattle.machine.specs.declared.Counts.{Counts}
 use Rattle.machine.specs.declared.HookDecoded.{HookDecoded}
@@ -19,7 +18,7 @@ use Rattle.screen.specs.declared.step.StepDecoded.{StepDecoded}
 
 -- a call that reads r, with so many step records beside
 abbrev pub showing : Reads → ℕ → Manner
-showing r room = record { reads = r; steps = Entries room; counts = Absent; hook = Absent }
+showing r room = record { reads = r; steps = Some room; counts = None; hook = None }
 
 -- the count of extractions is at most the room for records, and the walk's buffers hold as many entries
 unfoldable pub Fitting : Counts → ℕ → Lent → Type 0

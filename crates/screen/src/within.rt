@@ -4,7 +4,7 @@ ghost use Rattle.decoder.specs.Decodes.{Decodes};
 ghost use Rattle.screen.specs.Screen.{showing, Fitting};
 
 use decoder::decode_in;
-use machine::{Beside, HookDecoded, Manner, Output, Reads, Walk, Workspace};
+use machine::{HookDecoded, Manner, Output, Reads, Walk, Workspace};
 use settings::Settings;
 
 // The call that reads r; its count of extractions is at most the room.
@@ -26,9 +26,9 @@ pub fn decode_within(
 {
     let k = Manner {
         reads: r,
-        steps: Beside::Entries(room),
-        counts: Beside::Absent,
-        hook: Beside::Absent,
+        steps: Some(room),
+        counts: None,
+        hook: None,
     };
     decode_in(k, book, s, values, out, workspace, walk)
 }

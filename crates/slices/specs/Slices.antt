@@ -1,9 +1,8 @@
 -- The decoding calls with a number as the answer, and counts and record in lent slices. These are written with every answer; one that is lent at another size is refused as 7, where 7
 -- stands in the table's order, and keeps what it held; the other is zeros then, as with every refusal from 1 to 9. Assumes nothing.
-use Rattle.std.specs.Prelude.{◌≡◌, List, ℕ, length}
+use Rattle.std.specs.Prelude.{◌≡◌, List, ℕ, length, Some, None}
 use Rattle.codebook.specs.Refusals.{outcome_number}
 use Rattle.machine.specs.declared.Reads.TheVariants.{Data, Record}
-use Rattle.machine.specs.declared.Beside.TheVariants.{Absent, Entries}
 use Rattle.machine.specs.declared.Manner.{Manner}
 use Rattle.machine.specs.declared.HookDecoded.{HookDecoded}
 use Rattle.machine.specs.Calls.{Input, Lent}
@@ -12,10 +11,10 @@ use Rattle.answers.specs.Slices.{counts_slice, record_slice, filled}
 
 -- the plain call with counts of this size beside, and the hook call with counts and record
 abbrev pub counting : ℕ → Manner
-counting counts = record { reads = Data; steps = Absent; counts = Entries counts; hook = Absent }
+counting counts = record { reads = Data; steps = None; counts = Some counts; hook = None }
 
 abbrev pub recording : ℕ → ℕ → Manner
-recording counts hook = record { reads = Record; steps = Absent; counts = Entries counts; hook = Entries hook }
+recording counts hook = record { reads = Record; steps = None; counts = Some counts; hook = Some hook }
 
 -- Of the plain call, with counts₀ in the slice before: its number and its counts are those of the call's answer, and that answer and the buffers afterwards are all that a decoding call promises.
 pub record PlainSlices (c : Input) (l : Lent) (counts₀ : List ℕ) (number : ℕ) (after : Lent) (counts : List ℕ) : Type 0 where

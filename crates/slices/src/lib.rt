@@ -12,7 +12,7 @@ ghost use Rattle.slices.specs.Slices.{PlainSlices, HookSlices};
 use answers::{put_counts, put_hook};
 use codebook::outcome_number;
 use decoder::decode_in;
-use machine::{Beside, HookDecoded, Manner, Output, Reads, Walk, Workspace};
+use machine::{HookDecoded, Manner, Output, Reads, Walk, Workspace};
 use settings::Settings;
 
 // A call with its counts in a lent slice.
@@ -51,9 +51,9 @@ pub fn decode_slices(
 {
     let k = Manner {
         reads: Reads::Data,
-        steps: Beside::Absent,
-        counts: Beside::Entries(counts.len()),
-        hook: Beside::Absent,
+        steps: None,
+        counts: Some(counts.len()),
+        hook: None,
     };
     let x = decode_counted(k, book, s, values, out, workspace, walk, counts);
     outcome_number(x.outcome)
@@ -76,9 +76,9 @@ pub fn decode_hook_slices(
 {
     let k = Manner {
         reads: Reads::Record,
-        steps: Beside::Absent,
-        counts: Beside::Entries(counts.len()),
-        hook: Beside::Entries(hook.len()),
+        steps: None,
+        counts: Some(counts.len()),
+        hook: Some(hook.len()),
     };
     let x = decode_counted(k, book, s, values, out, workspace, walk, counts);
     put_hook(hook, x.hook);
