@@ -1,17 +1,17 @@
 -- What a command is judged by, from the loader's numbers: each test of the definitions has the answer of the code's. By cases on the command.
 -- Assumes nothing.
 use mathlib.Core.Path.{◌≡◌, refl, sym, ap, ◌∙◌, subst}
-use mathlib.Core.Bool.{Bool, true, false, not, ◌&&◌}
+use mathlib.Core.Bool.{Bool, true, false, not}
 use mathlib.Core.Option.{Option, none, some}
 use mathlib.Core.Logic.{◌⊎◌, inl, inr}
-use Prim.Native.Nat.{ℕ, zero, suc, ◌+◌, ◌-◌, ◌^◌, ◌%◌, ◌≤◌, ◌<◌}
+use Prim.Native.Nat.{ℕ, zero, suc, ◌+◌, ◌-◌, ◌^◌, ◌≤◌, ◌<◌}
 use native.Mathlib.Omega.{arith}
 use lib.ListN.{length, take, drop, replicate}
-use lib.IntN.{ℤ, nat_abs}
-use lib.Dec.{T, leb, ltb, eqb, leb→le}
+use lib.IntN.{ℤ}
+use lib.Dec.{leb, ltb, eqb}
 use borrow.Author.Tests.{eq-eqb, ne_eqb, lt-ltb, le-ltb, le-leb, lt-leb}
 use Rattle.std.specs.Prelude.{Ok, Err}
-use Rattle.laws.proofs.Tests.{and_left, and_right, lt-or}
+use Rattle.laws.proofs.Tests.{lt-or}
 use Rattle.codebook.specs.declared.Refusal.{Refusal}
 use Rattle.codebook.specs.declared.Refusal.TheVariants.{Truncated, Misplaced, OutOfRange, TooManyFree}
 use Rattle.codebook.specs.declared.Command.{Command}
@@ -32,16 +32,6 @@ refuse o P r e k = rw e (refl, k)
 pub proceed : (K : Type 0) (o : Option Refusal) (P : Progress → Type 0) (q : Progress) → o ≡ none → P q → Settled o K P (Ok q)
 unfolding Settled
 proceed K o P q e h = rw e (q, refl, h)
-
--- what a block that fits has passed
-pub fits-facts : (start n j : ℕ) (bias : ℤ) → block_fits start n j bias ≡ true → (j ≤ 5) × (start + 2 ^ j ≤ n)
-unfolding block_fits
-fits-facts start n j bias e =
-    let short = leb j 5 in
-    let aligned = eqb (start % 2 ^ j) 0 in
-    let within = leb (start + 2 ^ j) n in
-    let t = and_left (short && aligned && within) (leb (nat_abs bias) 1048576) (subst T (sym e) tt) in
-    (leb→le j 5 (and_left short aligned (and_left (short && aligned) within t)), leb→le (start + 2 ^ j) n (and_right (short && aligned) within t))
 
 -- a run has the faults of free indices, and puts its kinds last
 pub run-goes : (s : Loading) (code count : ℕ) → fault s (run_command code count) ≡ fault s (Free count) × next s (run_command code count) ≡ grown s (replicate count (kind_of code))

@@ -3,7 +3,7 @@
 
 #![tactic(auto)]
 
-ghost use Rattle.std.specs.Prelude.{◌≡◌, true, ◌<◌, ◌≤◌, ◌==◌, count_by};
+ghost use Rattle.std.specs.Prelude.{◌≡◌, true, ◌+◌, ◌^◌, ◌<◌, ◌≤◌, ◌==◌, IsTrue, count_by};
 ghost use Rattle.codebook.specs.Progress.{stands, Grows, Obeys, run_command, block_fits};
 
 use codebook::{Command, FREE, Progress, Refusal, Step, TIED, Tables, ZERO};
@@ -17,9 +17,7 @@ fn stands(p: Progress, c: Command) -> bool
 {
     match c {
         Command::Length(_) => p.m == 0,
-        Command::Free(_) => p.filled < p.n,
-        Command::Zero(_) => p.filled < p.n,
-        Command::Tie(_) => p.filled < p.n,
+        Command::Free(_) | Command::Zero(_) | Command::Tie(_) => p.filled < p.n,
         Command::Term(_) => p.tying,
         Command::Block(_, _) => p.filled == p.n && p.covered < p.n,
         Command::End => p.m != 0 && p.covered == p.n,
@@ -109,7 +107,8 @@ fn term(p: Progress, i: u32, tables: &mut Tables) -> Result<Progress, Refusal>
 // Whether a block of length 2^j may start at an index, and its bias is in range.
 fn fits(covered: u32, n: u32, j: u32, bias: i32) -> bool
     requires { (covered ≤ n) × (n ≤ 512) }
-    ensures { result ≡ block_fits covered n j bias }
+    ensures value { result ≡ block_fits covered n j bias }
+    ensures within { IsTrue result → (j ≤ 5) × (covered + 2 ^ j ≤ n) }
 {
     if 5 < j {
         return false;
