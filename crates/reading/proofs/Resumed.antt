@@ -8,6 +8,7 @@ use lib.IntN.{ℤ}
 use lib.ListN.{length, length-replicate}
 use Rattle.laws.specs.Lists.{All}
 use Rattle.codebook.specs.declared.Shape.{Shape}
+use Rattle.codebook.specs.declared.Tables.{Tables}
 use Rattle.codebook.specs.Book.{Book}
 use Rattle.codebook.specs.Limits.{Valid}
 use Rattle.queue.specs.Run.{on, Trace, after, trace, most_extractions}
@@ -143,12 +144,12 @@ module _ {B : Book} {L D N : ℕ} {A : Arrays} {most : ℕ} {x : Memory} {order 
 
 -- ---- on the tables
 
-module _ {shape : Shape} {s : Settings} {N : ℕ} {kinds terms heights starts : List ℕ} {biases : List ℤ} {x : Memory} {order vacant visits kept : List ℕ} {t : Tally} {e : ℕ} {path blocks score : List ℤ}
-    (c : Turning shape s N kinds terms heights starts biases x order vacant visits kept t e path blocks score) where
+module _ {shape : Shape} {s : Settings} {N : ℕ} {tables : Tables} {x : Memory} {order vacant visits kept : List ℕ} {t : Tally} {e : ℕ} {path blocks score : List ℤ}
+    (c : Turning shape s N tables x order vacant visits kept t e path blocks score) where
   abbrev pub turning-going : 2 ≤ s.paths → length visits ≡ 512 →
       Going c.input.book c.values s.visits s.paths N c.arrays x order vacant visits kept t e c.path₀ c.blocks₀ c.score₀ path blocks score
   turning-going two long =
-      let ok = c.input.tables.booked.valid in
+      let ok = c.input.in_tables.booked.valid in
       before-going c.at c.values ok (during-reached ok (input-moment c.input c.root c.at.moment) two) long
 
   -- the path in hand has not all blocks

@@ -13,6 +13,7 @@ use Rattle.laws.proofs.Lists.{length-snoc}
 use Rattle.laws.specs.Pairs.{Paired}
 use Rattle.polar.specs.Layers.{part}
 use Rattle.codebook.specs.declared.Shape.{Shape}
+use Rattle.codebook.specs.declared.Tables.{Tables}
 use Rattle.codebook.specs.Book.{Book}
 use Rattle.codebook.specs.Limits.{Valid}
 use Rattle.codec.specs.Code.{read_data}
@@ -68,11 +69,11 @@ module _ (B : Book) (L D : ℕ) where
 
 -- ---- the end of a run on its tables
 
-module _ {shape : Shape} {values : List ℤ} {kinds terms heights starts : List ℕ} {biases : List ℤ} (c : Running shape values kinds terms heights starts biases)
+module _ {shape : Shape} {values : List ℤ} {tables : Tables} (c : Running shape values tables)
     {L D N : ℕ} {A : Arrays} {most : ℕ} {x : Memory} {order vacant visits kept : List ℕ} {t : Tally} {e : ℕ} {path₀ blocks₀ score₀ path blocks score : List ℤ}
     (g : Before c.book L D N A most x order vacant visits kept t e path₀ blocks₀ score₀ path blocks score) where
   abbrev ok : Valid c.book
-  ok = c.tables.booked.valid
+  ok = c.in_tables.booked.valid
 
   -- the path in hand
   abbrev pub stop-hand : InHand shape.m D N x e (queue_of order t.queued) (queue_of vacant (D - (t.queued + 1)))
@@ -126,7 +127,7 @@ module _ {shape : Shape} {values : List ℤ} {kinds terms heights starts : List 
     unfolding FitFor
     last_fit root two = subst (FitFor c.book g.here.state.arrays g.here.path) last-index (during-fit ok (input-moment c root g.moment) two)
 
-    abbrev pub stop-ending : A.vals shape.m 1 ≡ values → 2 ≤ D → (last : Block) (i : ℕ) → i ≡ shape.blocks - 1 → ReadAt heights starts biases i last →
+    abbrev pub stop-ending : A.vals shape.m 1 ≡ values → 2 ≤ D → (last : Block) (i : ℕ) → i ≡ shape.blocks - 1 → ReadAt tables i last →
         Ending shape.m D N x e (queue_of order t.queued) (queue_of vacant (D - (t.queued + 1))) last
     stop-ending root two last i q l =
         record {
@@ -137,7 +138,7 @@ module _ {shape : Shape} {values : List ℤ} {kinds terms heights starts : List 
               record {
                 blocks = last-index;
                 block =
-                    subst (λ n. BlockIs c.book n last) q (l c.book kinds terms ok c.tables (omega (arith, (run-blocks c).0, c.blocks)));
+                    subst (λ n. BlockIs c.book n last) q (l c.book ok c.in_tables.blocks (omega (arith, (run-blocks c).0, c.blocks)));
                 fit = last_fit root two;
               };
           whole = omega (arith, (run-blocks c).0, c.blocks);

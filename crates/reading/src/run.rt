@@ -3,7 +3,7 @@ ghost use Rattle.std.specs.Prelude.{◌≡◌, List, ℕ, ◌+◌, ◌-◌, ◌^
 ghost use Rattle.polar.specs.Layers.{part};
 ghost use Rattle.queue.specs.Run.{most_extractions};
 ghost use Rattle.queue.specs.Queue.{Step};
-ghost use Rattle.machine.specs.Calls.{walked};
+ghost use Rattle.machine.specs.Calls.{walked, SameWalk};
 ghost use Rattle.reader.specs.Arrays.{sums_of};
 ghost use Rattle.reader.specs.Reader as R;
 ghost use Rattle.sharing.specs.Sharing.{Rows};
@@ -19,14 +19,14 @@ ghost use Rattle.reading.specs.Running.{arrays_of, received, Running, RanIs};
 ghost use Rattle.reading.specs.Turning.{Turning};
 
 use crate::{Ran, Stage};
-use codebook::Shape;
+use codebook::{Shape, Tables};
 use extraction::extract::extract;
-use machine::Counts;
+use machine::{Counts, Walk};
 use numerals::power;
 use order::entries::{blocks_of, entry, slot_of};
 use settings::Settings;
 use standing::row::{cost_of, id_of, spent_of, word_of};
-use start::{begin, block_at, fill_vacant, note, receive};
+use start::{begin, block_at_of_parts, fill_vacant, note_of_parts, receive};
 use steps::Tally;
 use views::view::commit_of_parts;
 use words::Block;
@@ -118,20 +118,20 @@ fn turn(
     requires heights_len { (length heights.now ≡ 512) × (length starts.now ≡ 512) × (length biases.now ≡ 512) }
     requires blocks_in_bounds { (most_extractions s.visits x.blocks ≤ length walk_path.old) × (most_extractions s.visits x.blocks ≤ length walk_blocks.old)
         × (most_extractions s.visits x.blocks ≤ length walk_score.old) }
-    requires turning { Turning x s arrays kinds.now terms.now heights.now starts.now biases.now (memory rows.old holders.old numbers.old bytes.old) order.old vacant.old visits.old
+    requires turning { Turning x s arrays (record { kinds = kinds.now; terms = terms.now; heights = heights.now; starts = starts.now; biases = biases.now }) (memory rows.old holders.old numbers.old bytes.old) order.old vacant.old visits.old
         kept.old t e walk_path.old walk_blocks.old walk_score.old }
     ensures lent_2 { Lent x.m s.paths arrays (memory rows.new holders.new numbers.new bytes.new) × (length order.new ≡ 256)
         × (length vacant.new ≡ 256) × (length visits.new ≡ 512) × Cells s.paths kept.new
         × Scratch words.new sets.new sums.new }
     ensures extractions_value { result.tally.extractions ≡ t.extractions + 1 }
-    ensures before { (c : Turning x s arrays kinds.now terms.now heights.now starts.now biases.now
+    ensures before { (c : Turning x s arrays (record { kinds = kinds.now; terms = terms.now; heights = heights.now; starts = starts.now; biases = biases.now })
         (memory rows.old holders.old numbers.old bytes.old) order.old vacant.old visits.old kept.old
         t e walk_path.old walk_blocks.old walk_score.old)
         → Before c.input.book s.visits s.paths arrays c.arrays (t.extractions + 1)
         (memory rows.new holders.new numbers.new bytes.new) order.new vacant.new visits.new kept.new
         result.tally result.entry c.path₀ c.blocks₀ c.score₀ walk_path.new walk_blocks.new walk_score.new }
 {
-    note(
+    note_of_parts(
         walk_path,
         walk_blocks,
         walk_score,
@@ -139,8 +139,8 @@ fn turn(
         e,
     );
     let b = blocks_of(e) as usize;
-    let last = block_at(heights, starts, biases, before(b));
-    let at = block_at(heights, starts, biases, b);
+    let last = block_at_of_parts(heights, starts, biases, before(b));
+    let at = block_at_of_parts(heights, starts, biases, b);
     let mut after = extract(
         rows,
         holders,
@@ -206,9 +206,9 @@ pub fn extractions(
     requires room { Room x.m arrays numbers.old × Room x.m arrays bytes.old × Enough s.paths arrays × (arrays ≤ 256) }
     requires blocks_in_bounds { (most_extractions s.visits x.blocks ≤ length walk_path.old) × (most_extractions s.visits x.blocks ≤ length walk_blocks.old)
         × (most_extractions s.visits x.blocks ≤ length walk_score.old) }
-    requires running { Running x values.now kinds.now terms.now heights.now starts.now biases.now }
+    requires running { Running x values.now (record { kinds = kinds.now; terms = terms.now; heights = heights.now; starts = starts.now; biases = biases.now }) }
     ensures lent { Lent x.m s.paths arrays (memory rows.new holders.new numbers.new bytes.new) }
-    ensures before { (c : Running x values.now kinds.now terms.now heights.now starts.now biases.now)
+    ensures before { (c : Running x values.now (record { kinds = kinds.now; terms = terms.now; heights = heights.now; starts = starts.now; biases = biases.now }))
         → Before c.book s.visits s.paths arrays (arrays_of x.m (received x.m values.now numbers.old) bytes.old) most
         (memory rows.new holders.new numbers.new bytes.new) order.new vacant.new visits.new kept.new
         result.tally result.entry walk_path.old walk_blocks.old walk_score.old walk_path.new walk_blocks.new walk_score.new }
@@ -287,8 +287,8 @@ fn run_with(
     requires room { Room x.m arrays numbers.old × Room x.m arrays bytes.old × Enough s.paths arrays × (arrays ≤ 256) }
     requires blocks_in_bounds { (most_extractions s.visits x.blocks ≤ length walk_path.old) × (most_extractions s.visits x.blocks ≤ length walk_blocks.old)
         × (most_extractions s.visits x.blocks ≤ length walk_score.old) }
-    requires running { Running x values.now kinds.now terms.now heights.now starts.now biases.now }
-    ensures { (c : Running x values.now kinds.now terms.now heights.now starts.now biases.now)
+    requires running { Running x values.now (record { kinds = kinds.now; terms = terms.now; heights = heights.now; starts = starts.now; biases = biases.now }) }
+    ensures { (c : Running x values.now (record { kinds = kinds.now; terms = terms.now; heights = heights.now; starts = starts.now; biases = biases.now }))
         → (let run = R.run_of c.book s.visits s.paths (arrays_of x.m (received x.m values.now numbers.old) bytes.old) in
         RanIs x.m arrays run result bytes.new
         × (walk_path.new ≡ walked (λ (y : Step). pos y.path) run.steps walk_path.old)
@@ -325,14 +325,14 @@ fn run_with(
     );
     let t = stage.tally;
     let e = stage.entry;
-    note(
+    note_of_parts(
         walk_path,
         walk_blocks,
         walk_score,
         t.extractions as usize,
         e,
     );
-    let last = block_at(heights, starts, biases, before(x.blocks as usize));
+    let last = block_at_of_parts(heights, starts, biases, before(x.blocks as usize));
     finish(
         rows,
         &mut holders,
@@ -352,6 +352,49 @@ pub fn run(
     x: Shape,
     s: Settings,
     values: &[i16],
+    tables: &Tables,
+    numbers: &mut [i32],
+    bytes: &mut [u8],
+    walk: &mut Walk,
+) -> Ran
+    requires ranged { Ranged s }
+    requires room { Room x.m s.paths numbers.old × Room x.m s.paths bytes.old }
+    requires blocks_in_bounds { (most_extractions s.visits x.blocks ≤ length walk.old.path.now) × (most_extractions s.visits x.blocks ≤ length walk.old.blocks.now)
+        × (most_extractions s.visits x.blocks ≤ length walk.old.score.now) }
+    requires running { Running x values.now tables.now }
+    ensures ran { (c : Running x values.now tables.now)
+        → (let run = R.run_of c.book s.visits s.paths (arrays_of x.m (received x.m values.now numbers.old) bytes.old) in
+        RanIs x.m s.paths run result bytes.new
+        × (walk.new.path.now ≡ walked (λ (y : Step). pos y.path) run.steps walk.old.path.now)
+        × (walk.new.blocks.now ≡ walked (λ (y : Step). pos y.blocks) run.steps walk.old.blocks.now)
+        × (walk.new.score.now ≡ walked (λ (y : Step). y.score) run.steps walk.old.score.now)) }
+    ensures same_walk { SameWalk walk.new walk.old }
+{
+    let path = &mut *walk.path;
+    let blocks = &mut *walk.blocks;
+    let score = &mut *walk.score;
+    run_of_parts(
+        x,
+        s,
+        values,
+        &tables.kinds,
+        &tables.terms,
+        &tables.heights,
+        &tables.starts,
+        &tables.biases,
+        numbers,
+        bytes,
+        path,
+        blocks,
+        score,
+    )
+}
+
+// The whole run, from any contents of the workspace, which has as many arrays of each height as there may be paths. Its tables are cleared, so few paths have small ones.
+pub fn run_of_parts(
+    x: Shape,
+    s: Settings,
+    values: &[i16],
     kinds: &[u8; 512],
     terms: &[u32; 512],
     heights: &[u8; 512],
@@ -368,8 +411,8 @@ pub fn run(
     requires room { Room x.m s.paths numbers.old × Room x.m s.paths bytes.old }
     requires blocks_in_bounds { (most_extractions s.visits x.blocks ≤ length walk_path.old) × (most_extractions s.visits x.blocks ≤ length walk_blocks.old)
         × (most_extractions s.visits x.blocks ≤ length walk_score.old) }
-    requires running { Running x values.now kinds.now terms.now heights.now starts.now biases.now }
-    ensures { (c : Running x values.now kinds.now terms.now heights.now starts.now biases.now)
+    requires running { Running x values.now (record { kinds = kinds.now; terms = terms.now; heights = heights.now; starts = starts.now; biases = biases.now }) }
+    ensures { (c : Running x values.now (record { kinds = kinds.now; terms = terms.now; heights = heights.now; starts = starts.now; biases = biases.now }))
         → (let run = R.run_of c.book s.visits s.paths (arrays_of x.m (received x.m values.now numbers.old) bytes.old) in
         RanIs x.m s.paths run result bytes.new
         × (walk_path.new ≡ walked (λ (y : Step). pos y.path) run.steps walk_path.old)

@@ -9,6 +9,7 @@ use native.Mathlib.Omega.{arith}
 use lib.IntN.{ℤ}
 use lib.ListN.{length, length-set, length-replicate}
 use Rattle.codebook.specs.declared.Shape.{Shape}
+use Rattle.codebook.specs.declared.Tables.{Tables}
 use Rattle.settings.specs.declared.Settings.{Settings}
 use Rattle.queue.specs.Run.{most_extractions}
 use Rattle.outer.specs.Search.{Scratch}
@@ -32,10 +33,10 @@ use Rattle.reading.proofs.run.extractions.Statement.{statement}
 use Rattle.reading.proofs.run.extractions.Tie as tie
 
 -- the run of an input, before an extraction
-abbrev Runs : (shape : Shape) (s : Settings) (N : ℕ) (values : List ℤ) (kinds terms heights starts : List ℕ) (biases : List ℤ) (A : Arrays) (x : Memory) (order vacant visits kept : List ℕ) (t : Tally) (e : ℕ)
+abbrev Runs : (shape : Shape) (s : Settings) (N : ℕ) (values : List ℤ) (tables : Tables) (A : Arrays) (x : Memory) (order vacant visits kept : List ℕ) (t : Tally) (e : ℕ)
     (path₀ blocks₀ score₀ path blocks score : List ℤ) → Type 0
-Runs shape s N values kinds terms heights starts biases A x order vacant visits kept t e path₀ blocks₀ score₀ path blocks score =
-    (c : Running shape values kinds terms heights starts biases) →
+Runs shape s N values tables A x order vacant visits kept t e path₀ blocks₀ score₀ path blocks score =
+    (c : Running shape values tables) →
     Before c.book s.visits s.paths N A t.extractions x order vacant visits kept t e path₀ blocks₀ score₀ path blocks score
 
 abbrev invariant-loop : tie.invariant-loop-t
@@ -43,7 +44,7 @@ invariant-loop most rows₀ holders₀ order₀ vacant₀ visits₀ kept₀ x s 
     (Lent x.m s.paths arrays (memory rows holders numbers bytes) × (length order ≡ 256) × (length vacant ≡ 256) × (length visits ≡ 512) × Cells s.paths kept × Scratch words sets sums)
     × ((length numbers ≡ length numbers₀) × (length bytes ≡ length bytes₀) × (length walk-path ≡ length walk-path₀)
     × (length walk-blocks ≡ length walk-blocks₀) × (length walk-score ≡ length walk-score₀) × (length rows ≡ length rows₀) × (length kept ≡ length kept₀))
-    × Runs x s arrays values kinds terms heights starts biases (arrays_of x.m numbers₀ bytes₀) (memory rows holders numbers bytes) order vacant visits kept t e
+    × Runs x s arrays values (record { kinds = kinds; terms = terms; heights = heights; starts = starts; biases = biases }) (arrays_of x.m numbers₀ bytes₀) (memory rows holders numbers bytes) order vacant visits kept t e
     walk-path₀ walk-blocks₀ walk-score₀ walk-path walk-blocks walk-score
     × (t.extractions ≤ most)
 
@@ -57,7 +58,7 @@ decreases-loop most rows₀ holders₀ order₀ vacant₀ visits₀ kept₀ x s 
 abbrev Input : tie.Start invariant-loop decreases-loop → Type 0
 Input s =
     let a = s.args in
-    Running a.x a.values.now a.kinds.now a.terms.now a.heights.now a.starts.now a.biases.now
+    Running a.x a.values.now (record { kinds = a.kinds.now; terms = a.terms.now; heights = a.heights.now; starts = a.starts.now; biases = a.biases.now })
 
 abbrev input : (s : tie.Start invariant-loop decreases-loop) → Input s
 input s = s.requires.1.1.1.1.1.1
@@ -161,7 +162,7 @@ more c q = c.if-blocks_of-blocks.true (c.before.blocks_of.ensures ∙ q)
 
 -- what the turn needs for an input
 abbrev turning : (c : tie.Then-blocks_of-blocks invariant-loop decreases-loop) (r : Input (began c.before.before.before.before)) → let a = (began c.before.before.before.before).args in let l = c.before.before.before.before.loop-t in
-    Turning a.x a.s a.arrays a.kinds.now a.terms.now a.heights.now a.starts.now a.biases.now (memory l.rows l.holders l.numbers l.bytes)
+    Turning a.x a.s a.arrays (record { kinds = a.kinds.now; terms = a.terms.now; heights = a.heights.now; starts = a.starts.now; biases = a.biases.now }) (memory l.rows l.holders l.numbers l.bytes)
     l.order l.vacant l.visits l.kept l.t l.e l.walk_path l.walk_blocks l.walk_score
 turning c r =
     let s = began c.before.before.before.before in

@@ -22,7 +22,7 @@ use Rattle.reading.proofs.run.run_with.Tie as tie
 abbrev Input : tie.Start → Type 0
 Input s =
     let a = s.args in
-    Running a.x a.values.now a.kinds.now a.terms.now a.heights.now a.starts.now a.biases.now
+    Running a.x a.values.now (record { kinds = a.kinds.now; terms = a.terms.now; heights = a.heights.now; starts = a.starts.now; biases = a.biases.now })
 
 abbrev input : (s : tie.Start) → Input s
 input s = s.requires.1.1.1.1.1
@@ -74,7 +74,7 @@ root c =
 cast-note : tie.Need-overflow_cast-t
 cast-note c = search rules
 
-note-requires : tie.Need-note-requires
+note-requires : tie.Need-note_of_parts-requires
 note-requires c κs =
     let g = stopped c.before.before.before.before.before.before.before.before.before.before.before.before.before.before.before (input (began c.before.before.before.before.before.before.before.before.before.before.before.before.before.before.before)) in
     let l = stop-left (input (began c.before.before.before.before.before.before.before.before.before.before.before.before.before.before.before)) g in
@@ -97,7 +97,7 @@ before-requires c κs = tt
 abbrev made : tie.After-before-2 → tie.After-extractions-stage
 made c = c.before.before.before.before.before.before.before.before.before.before.before.before.before.before.before.before.before.before.before.before.before
 
-block-at-requires : tie.Need-block_at-last-requires
+block-at-requires : tie.Need-block_at_of_parts-last-requires
 block-at-requires c κs =
     let s = began (made c) in
     let f = table_fits (input s) c.before-2.result (omega (arith, c.before-2.ensures, (run-blocks (input s)).0)) in
@@ -105,11 +105,11 @@ block-at-requires c κs =
     ((k.0, k.1, k.2, f.0), (f.1, f.2))
 
 -- what the end needs for an input
-abbrev last-hand : (c : tie.After-block_at-last) (r : Input (began (made c.before))) → let x = made c.before in let a = (began x).args in let t = x.extractions-stage.result.tally in
+abbrev last-hand : (c : tie.After-block_at_of_parts-last) (r : Input (began (made c.before))) → let x = made c.before in let a = (began x).args in let t = x.extractions-stage.result.tally in
     Ending a.x.m a.s.paths a.arrays (left x) x.extractions-stage.result.entry (queue_of x.extractions-stage.new.order t.queued)
-    (queue_of x.extractions-stage.new.vacant (a.s.paths - (t.queued + 1))) c.block_at-last.result
+    (queue_of x.extractions-stage.new.vacant (a.s.paths - (t.queued + 1))) c.block_at_of_parts-last.result
 last-hand c r =
-    stop-ending r (stopped (made c.before) r) (fewer (made c.before)) (root (made c.before)) (began (made c.before)).requires.1.0.alive c.block_at-last.result c.before.before-2.result c.before.before-2.ensures c.block_at-last.ensures
+    stop-ending r (stopped (made c.before) r) (fewer (made c.before)) (root (made c.before)) (began (made c.before)).requires.1.0.alive c.block_at_of_parts-last.result c.before.before-2.result c.before.before-2.ensures (λ B ok t h. c.block_at_of_parts-last.ensures B (began (made c.before)).args.kinds.now (began (made c.before)).args.terms.now ok t h)
 
 cast-finish : tie.Need-overflow_cast-x-2
 cast-finish c = record { fits = omega (arith, run-deep (input (began (made c.before.before.before.before.before)))) }
@@ -124,10 +124,10 @@ finish-requires c κs =
     )
 
 -- the end's last call, and the extractions
-abbrev last-read : tie.After-finish → tie.After-block_at-last
+abbrev last-read : tie.After-finish → tie.After-block_at_of_parts-last
 last-read c = c.before.before.before.before.before
 
-abbrev noted : tie.After-finish → tie.After-note
+abbrev noted : tie.After-finish → tie.After-note_of_parts
 noted c = (last-read c).before.before.before.before.before.before
 
 abbrev ran : tie.After-finish → tie.After-extractions-stage
@@ -161,7 +161,7 @@ returns c r =
     let s = began x in
     let n = noted c.before.before.before.before in
     let w = stop-walks r (stopped x r) (fewer x) s.requires.1.1.1.1.0
-    (record { path-set = n.note.ensures.0; blocks-set = n.note.ensures.1; score-set = n.note.ensures.2 }) in (
+    (record { path-set = n.note_of_parts.ensures.0; blocks-set = n.note_of_parts.ensures.1; score-set = n.note_of_parts.ensures.2 }) in (
       stop-ran r (stopped x r) (fewer x) c.before.before.before.before.finish.result c.before.before.before.before.finish.new.bytes (c.before.before.before.before.finish.ensures _ _ (last-hand u r)),
       w.path-is,
       w.blocks_is,

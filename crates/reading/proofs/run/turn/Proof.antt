@@ -26,7 +26,7 @@ use Rattle.reading.proofs.run.turn.Tie as tie
 abbrev Turn : tie.Start → Type 0
 Turn s =
     let a = s.args in
-    Turning a.x a.s a.arrays a.kinds.now a.terms.now a.heights.now a.starts.now a.biases.now (memory a.rows.now a.holders.now a.numbers.now a.bytes.now)
+    Turning a.x a.s a.arrays (record { kinds = a.kinds.now; terms = a.terms.now; heights = a.heights.now; starts = a.starts.now; biases = a.biases.now }) (memory a.rows.now a.holders.now a.numbers.now a.bytes.now)
     a.order.now a.vacant.now a.visits.now a.kept.now a.t a.e a.walk_path.now a.walk_blocks.now a.walk_score.now
 
 abbrev own : (s : tie.Start) → Turn s
@@ -40,12 +40,12 @@ going s r = turning-going r s.requires.1.0.alive s.requires.0.3
 
 limits : (s : tie.Start) → let t = s.args.t in
     (t.extractions < 16385) × (t.next < 32768) × (t.crowded < 65536) × (t.outrun < 16777216) × ((b : ℕ) → get_or s.args.visits.now b 0 < 65536)
-limits s = going-limits (going s (own s)) (own s).input.tables.booked.valid s.requires.1.0.visits
+limits s = going-limits (going s (own s)) (own s).input.in_tables.booked.valid s.requires.1.0.visits
 
 cast-note : tie.Need-overflow_cast-t
 cast-note c = search rules
 
-note-requires : tie.Need-note-requires
+note-requires : tie.Need-note_of_parts-requires
 note-requires c κs =
     let l = run-left (own c.before.before.before.before.before.before.before).input (going c.before.before.before.before.before.before.before (own c.before.before.before.before.before.before.before)) in
     let w = c.before.before.before.before.before.before.before.requires.1.1.1.0 in
@@ -65,7 +65,7 @@ before-requires c κs = tt
 abbrev began : tie.After-before-2 → tie.Start
 began c = c.before.before.before.before.before.before.before.before.before.before.before.before.before
 
-block-at-requires : tie.Need-block_at-last-requires
+block-at-requires : tie.Need-block_at_of_parts-last-requires
 block-at-requires c κs =
     let s = began c in
     let l = run-within (own s).input (going s (own s)) (turning-more (own s)) in
@@ -73,7 +73,7 @@ block-at-requires c κs =
     let k = s.requires.1.1.0 in
     ((k.0, k.1, k.2, f.0), (f.1, f.2))
 
-block-at-requires-2 : tie.Need-block_at-at-requires
+block-at-requires-2 : tie.Need-block_at_of_parts-at-requires
 block-at-requires-2 c κs =
     let s = began c.before in
     let l = run-within (own s).input (going s (own s)) (turning-more (own s)) in
@@ -84,13 +84,14 @@ block-at-requires-2 c κs =
 -- ---- the extraction
 
 -- what it needs
-abbrev extracting : (c : tie.After-block_at-at) (r : Turn (began c.before.before)) → let a = (began c.before.before).args in
+abbrev extracting : (c : tie.After-block_at_of_parts-at) (r : Turn (began c.before.before)) → let a = (began c.before.before).args in
     Extracting a.x.m a.s.visits a.s.paths a.arrays a.t.extractions a.t.next (memory a.rows.now a.holders.now a.numbers.now a.bytes.now) a.e
-    (queue_of a.order.now a.t.queued) (queue_of a.vacant.now (a.s.paths - (a.t.queued + 1))) a.kinds.now a.terms.now c.before.block_at-last.result c.block_at-at.result
+    (queue_of a.order.now a.t.queued) (queue_of a.vacant.now (a.s.paths - (a.t.queued + 1))) a.kinds.now a.terms.now c.before.block_at_of_parts-last.result c.block_at_of_parts-at.result
     a.kept.now a.visits.now
 extracting c r =
-    run-extracting r.input (going (began c.before.before) r) r.root c.before.block_at-last.result c.block_at-at.result c.before.before.before-2.result c.before.before.before.blocks_of-b.result
-    c.before.before.before.blocks_of-b.ensures c.before.before.before-2.ensures (turning-more r) c.before.block_at-last.ensures c.block_at-at.ensures
+    run-extracting r.input (going (began c.before.before) r) r.root c.before.block_at_of_parts-last.result c.block_at_of_parts-at.result c.before.before.before-2.result c.before.before.before.blocks_of-b.result
+    c.before.before.before.blocks_of-b.ensures c.before.before.before-2.ensures (turning-more r) (λ B ok t h. c.before.block_at_of_parts-last.ensures B (began c.before.before).args.kinds.now (began c.before.before).args.terms.now ok t h)
+    (λ B ok t h. c.block_at_of_parts-at.ensures B (began c.before.before).args.kinds.now (began c.before.before).args.terms.now ok t h)
 
 cast-extract : tie.Need-overflow_cast-x
 cast-extract c = search rules
@@ -105,7 +106,7 @@ extract-requires c κs =
     )
 
 -- once the path was extracted: where both blocks were read, and where the turn began
-abbrev read : tie.After-extract-after → tie.After-block_at-at
+abbrev read : tie.After-extract-after → tie.After-block_at_of_parts-at
 read c = c.before.before.before.before.before.before.before.before.before.before.before.before.before
 
 abbrev start : tie.After-extract-after → tie.Start
@@ -138,7 +139,7 @@ element-copy-out-next c =
 -- ---- the end
 
 -- where the walk was noted
-abbrev noted : tie.After-extract-after → tie.After-note
+abbrev noted : tie.After-extract-after → tie.After-note_of_parts
 noted c = (read c).before.before.before.before.before.before.before
 
 same_length : tie.Need-shape_of-rows
@@ -182,7 +183,7 @@ returns c =
             (run-turn r.input (going s r) s.requires.1.0.alive s.requires.1.0.paths (found s r) (turning-more r) (counted c.before.before.before.before.before.before.before.before.before.before.before.extract-after.result)
             (memory l.rows l.holders l.numbers l.bytes) l.order l.vacant l.visits l.kept
             (made.0, made.1, made.2, made.3, made.4, made.5, made.6) (omega (arith, o.1.0.0)) r.room
-            (record { path-set = n.note.ensures.0; blocks-set = n.note.ensures.1; score-set = n.note.ensures.2 }))
+            (record { path-set = n.note_of_parts.ensures.0; blocks-set = n.note_of_parts.ensures.1; score-set = n.note_of_parts.ensures.2 }))
             (rising-less l.order c.before.before.before.before.before.before.before.before.before.before.before.extract-after.result.queued _ o.1.1.1 (omega arith)) (s.args.t.extractions + 1) (omega (arith, o.1.0.0)) (λ k. absurd (omega (arith, o.1.0.0))),
       ),
     )

@@ -3,7 +3,7 @@ use Prim.Native.Nat.{ℕ}
 use native.Mathlib.Omega.{arith}
 use lib.ListN.{length-replicate}
 use Rattle.laws.proofs.Lists.{get_d-zeros}
-use Rattle.reading.proofs.run.run.Goals as goal
+use Rattle.reading.proofs.run.run_of_parts.Goals as goal
 
 pub run_with-requires : goal.run_with-requires
 run_with-requires c = record { rows = (omega (arith, length-replicate {A = ℕ} 512 0), get_d-zeros 512, omega (arith, length-replicate {A = ℕ} 128 0)); ranged = c.requires.ranged; heights_len = c.requires.heights_len; room = (c.requires.room.0, c.requires.room.1, omega arith, c.requires.ranged.paths); blocks_in_bounds = c.requires.blocks_in_bounds; running = c.requires.running }
