@@ -18,13 +18,12 @@ use codebook::Tables;
 use heights::Layout;
 use order::entries::{blocks_of, entry, number_of, slot_of};
 use order::moves::insert;
-use outer::Scratch;
+use outer::{Candidate, Scratch};
 use settings::Settings;
 use standing::Memory;
 use standing::row::{RowCells, cells_of, put};
 use steps::copies::copy;
 use steps::{Queue, Tally};
-use words::kept::keep;
 use words::{Block, nearest_words, score};
 
 // Step 2 for the path of entry e, taken at a moment of the reader's run; the empty path has no copy. The numbers that the order's entries hold before it and not after are those that the reader's
@@ -38,7 +37,7 @@ fn second(
     t: Tally,
     e: u64,
     last: Block,
-    kept: &mut [u32],
+    kept: &mut [Option<Candidate>],
     scratch: &mut Scratch,
 ) -> Tally
     requires lent { Lent layout.m s.paths layout.arrays (contents memory.old) × Cells s.paths kept.old }
@@ -78,7 +77,7 @@ fn third(
     e: u64,
     last: Block,
     at: Block,
-    kept: &mut [u32],
+    kept: &mut [Option<Candidate>],
     scratch: &mut Scratch,
 )
     requires lent { Lent layout.m paths layout.arrays (contents memory.old) × (queued + 1 ≤ paths) × Cells paths kept.old }
@@ -115,8 +114,7 @@ fn third(
         slot,
     );
     insert(order, queued, d);
-    let next = found.second;
-    keep(kept, slot, next);
+    kept[slot] = Some(found.second);
 }
 
 // Steps 2 to 4 for the path of entry e, which is taken at a moment of the reader's run and no longer queued.
@@ -131,7 +129,7 @@ pub fn extract(
     e: u64,
     last: Block,
     at: Block,
-    kept: &mut [u32],
+    kept: &mut [Option<Candidate>],
     scratch: &mut Scratch,
 ) -> Tally
     requires lent { Lent layout.m s.paths layout.arrays (contents memory.old) × Cells s.paths kept.old }

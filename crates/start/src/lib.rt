@@ -76,27 +76,6 @@ pub fn block_at(tables: &Tables, b: usize) -> Block
     }
 }
 
-// Block b of the book.
-pub fn block_at_of_parts(
-    heights: &[u8; 512],
-    starts: &[u16; 512],
-    biases: &[i32; 512],
-    b: usize,
-) -> Block
-    requires heights_len { (length heights.now ≡ 512) × (length starts.now ≡ 512) × (length biases.now ≡ 512) × (b < 512) }
-    requires b_bound { (get_or heights.now b 0 ≤ 5) × (get_or starts.now b 0 + 2 ^ get_or heights.now b 0 ≤ 512) }
-    ensures { (B : Book) (kinds terms : List ℕ) → Valid B → BlocksIn B (record { kinds = kinds; terms = terms; heights = heights.now; starts = starts.now; biases = biases.now }) → b < length B.blocks → BlockIs B b result }
-{
-    let start = starts[b] as usize;
-    let height = heights[b] as usize;
-    Block {
-        start,
-        height,
-        bias: biases[b],
-        place: twos(start + power(height)),
-    }
-}
-
 // Writes an extraction's entry of the walk.
 pub fn note(walk: &mut Walk, at: usize, e: u64)
     requires { (at < length walk.old.path.now) × (at < length walk.old.blocks.now) × (at < length walk.old.score.now) × (e < 36028797018963968) }
@@ -108,22 +87,4 @@ pub fn note(walk: &mut Walk, at: usize, e: u64)
     walk.path[at] = number_of(e) as i32;
     walk.blocks[at] = blocks_of(e) as i32;
     walk.score[at] = score_of(e);
-}
-
-// Writes an extraction's entry of the walk.
-pub fn note_of_parts(
-    walk_path: &mut [i32],
-    walk_blocks: &mut [i32],
-    walk_score: &mut [i32],
-    at: usize,
-    e: u64,
-)
-    requires { (at < length walk_path.old) × (at < length walk_blocks.old) × (at < length walk_score.old) × (e < 36028797018963968) }
-    ensures { (walk_path.new ≡ set walk_path.old at (pos (key_at e).number))
-        × (walk_blocks.new ≡ set walk_blocks.old at (pos (key_at e).blocks))
-        × (walk_score.new ≡ set walk_score.old at (key_at e).score) }
-{
-    walk_path[at] = number_of(e) as i32;
-    walk_blocks[at] = blocks_of(e) as i32;
-    walk_score[at] = score_of(e);
 }
