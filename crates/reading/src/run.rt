@@ -24,7 +24,7 @@ use heights::Layout;
 use machine::{Counts, Walk};
 use numerals::power;
 use order::entries::{blocks_of, entry, slot_of};
-use outer::Scratch;
+use outer::{Candidate, Scratch};
 use settings::Settings;
 use standing::Memory;
 use standing::row::{cells_of, id_of};
@@ -67,7 +67,7 @@ fn turn(
     memory: &mut Memory,
     queue: &mut Queue,
     visits: &mut [u32; 512],
-    kept: &mut [u32],
+    kept: &mut [Option<Candidate>],
     x: Shape,
     s: Settings,
     arrays: usize,
@@ -121,7 +121,7 @@ pub fn extractions(
     memory: &mut Memory,
     queue: &mut Queue,
     visits: &mut [u32; 512],
-    kept: &mut [u32],
+    kept: &mut [Option<Candidate>],
     x: Shape,
     s: Settings,
     arrays: usize,
@@ -185,7 +185,7 @@ pub fn extractions(
 // The run with these tables of the paths' rows, which hold zeros, and of the words kept, which hold anything.
 fn run_with(
     rows: &mut [u32],
-    kept: &mut [u32],
+    kept: &mut [Option<Candidate>],
     x: Shape,
     s: Settings,
     arrays: usize,
@@ -269,13 +269,13 @@ pub fn run(
     let arrays = s.paths as usize;
     if arrays <= 32 {
         let mut rows = [0u32; 512];
-        let mut kept = [0u32; 128];
+        let mut kept: [Option<Candidate>; 32] = [None; 32];
         return run_with(
             &mut rows, &mut kept, x, s, arrays, values, tables, numbers, bytes, walk,
         );
     }
     let mut rows = [0u32; 4096];
-    let mut kept = [0u32; 1024];
+    let mut kept: [Option<Candidate>; 256] = [None; 256];
     run_with(
         &mut rows, &mut kept, x, s, arrays, values, tables, numbers, bytes, walk,
     )
