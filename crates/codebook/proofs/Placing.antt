@@ -16,7 +16,8 @@ use Rattle.codebook.specs.declared.Progress.{Progress}
 use Rattle.codebook.specs.declared.Command.TheVariants.{Block as NextBlock}
 use Rattle.codebook.specs.Book.{Kind, free, frozen, tied, Block, free_count, start_of}
 use Rattle.codebook.specs.Loading.{Loading, total, next}
-use Rattle.codebook.specs.Tables.{Tables, kind_codes}
+use Rattle.codebook.specs.declared.Tables.{Tables}
+use Rattle.codebook.specs.Tables.{kind_codes}
 use Rattle.codebook.specs.Progress.{HoldsLoaded, tables, free_codes}
 use Rattle.codebook.proofs.Codes.{codes-length, codes-part}
 use Rattle.codebook.proofs.Blocks.{start-append, start-last}

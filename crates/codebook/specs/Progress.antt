@@ -1,34 +1,33 @@
 -- What the loader's own functions promise to each other: what is read at a place of a book, when the loader's numbers and tables stand for
 -- what is loaded so far, and what a command comes to. Assumes nothing.
-use Rattle.std.specs.Prelude.{◌≡◌, Bool, cond, true, false, ◌&&◌, ◌||◌, List, [], ◌∷◌, ◌++◌, map, ℕ, zero, suc, ◌+◌, ◌-◌, ◌^◌, ◌%◌, ◌<◌, ◌≤◌, length, get_or, take, drop, ℤ, nat_abs, T, leb, eqb}
+use Rattle.std.specs.Prelude.{◌≡◌, Bool, cond, true, false, ◌&&◌, ◌||◌, List, [], ◌∷◌, ◌++◌, map, ℕ, zero, suc, ◌+◌, ◌-◌, ◌^◌, ◌%◌, ◌<◌, ◌≤◌, length, get_or, take, drop, ℤ, nat_abs, T, leb, eqb, Option as Maybe, Some, None, Result, Ok, Err}
 use Rattle.std.proofs.Math.Option.{Option, none, some}
 use Rattle.laws.specs.Lists.{tab, over}
 use Rattle.codebook.specs.declared.Refusal.{Refusal}
 use Rattle.codebook.specs.declared.Refusal.TheVariants.{Truncated, Misplaced}
-use Rattle.codebook.specs.declared.Outcome.TheVariants.{Done}
 use Rattle.codebook.specs.declared.Shape.{Shape}
 use Rattle.codebook.specs.declared.Command.{Command}
 use Rattle.codebook.specs.declared.Command.TheVariants.{Length, Free, Zero, Tie, Term, Block as NextBlock, End}
-use Rattle.codebook.specs.declared.Read.{Read}
-use Rattle.codebook.specs.declared.Read.TheVariants.{Found, Unlisted}
+use Rattle.codebook.specs.declared.Found.{Found}
 use Rattle.codebook.specs.declared.Progress.{Progress}
 use Rattle.codebook.specs.declared.Step.{Step}
-use Rattle.codebook.specs.declared.Step.TheVariants.{Next, End as Ended, Refused}
+use Rattle.codebook.specs.declared.Tables.{Tables}
+use Rattle.codebook.specs.declared.Step.TheVariants.{Next, End as Ended}
 use Rattle.codebook.specs.Refusals.{unless}
 use Rattle.codebook.specs.Book.{Kind, free, frozen, tied, Block, free_count, tied_count, start_of}
 use Rattle.codebook.specs.Loading.{Loading, total, last_terms, listed, width, command, placed, fault, next}
-use Rattle.codebook.specs.Tables.{Tables, kind_codes, tie_set}
+use Rattle.codebook.specs.Tables.{kind_codes, tie_set}
 
 -- ---- a command is read
 
--- the command at a place within the book
-unfoldable pub read_at : List ℕ → ℕ → Read
+-- the listed command at a place within the book
+unfoldable pub read_at : List ℕ → ℕ → Maybe Found
 read_at bytes at =
     let byte = get_or bytes at 0 in
     let after = drop (at + 1) bytes in
-    let whole = Found (command byte (take (width byte) after)) (at + 1 + width byte) true in
-    let cut = Found (command byte []) (at + 1) false in
-    cond (listed byte) (cond (leb (width byte) (length after)) whole cut) Unlisted
+    let whole : Found = record { command = command byte (take (width byte) after); next = at + 1 + width byte; whole = true } in
+    let cut : Found = record { command = command byte []; next = at + 1; whole = false } in
+    cond (listed byte) (Some (cond (leb (width byte) (length after)) whole cut)) None
 
 -- a command's byte
 unfoldable pub byte_of : Command → ℕ
@@ -98,23 +97,23 @@ pub record HoldsLoaded (p : Progress) (t old : Tables) (s : Loading) : Type 0 wh
 
 -- the shape of a book that is loaded
 unfoldable pub shape_at : Progress → Shape
-shape_at p = record { outcome = Done; m = p.m; n = p.n; k = p.free; blocks = p.blocks }
+shape_at p = record { m = p.m; n = p.n; k = p.free; blocks = p.blocks }
 
 -- ---- what a command comes to
 
 -- a step where nothing is refused: the end or not, with numbers that have the property P
-unfoldable pub Goes : Bool → (Progress → Type 0) → Step → Type 0
-Goes true P x = (q : Progress) × (x ≡ Ended q) × P q
-Goes false P x = (q : Progress) × (x ≡ Next q) × P q
+unfoldable pub Goes : Bool → (Progress → Type 0) → Result Step Refusal → Type 0
+Goes true P x = (q : Progress) × (x ≡ Ok (Ended q)) × P q
+Goes false P x = (q : Progress) × (x ≡ Ok (Next q)) × P q
 
 -- a step: the refusal, where there is one, and then K
-unfoldable pub Judged : Option Refusal → Bool → Type 0 → (Progress → Type 0) → Step → Type 0
+unfoldable pub Judged : Option Refusal → Bool → Type 0 → (Progress → Type 0) → Result Step Refusal → Type 0
 Judged none end K P x = Goes end P x
-Judged (some r) end K P x = (x ≡ Refused r) × K
+Judged (some r) end K P x = (x ≡ Err r) × K
 
 -- A function's promise: at the numbers p, the command c and its operands, whole or cut, are judged, and the tables t become u, the same where it is
 -- refused; whatever is loaded so far, and whatever the tables first held.
-abbrev pub Obeys : Progress → Command → Bool → Tables → Tables → Step → Type 0
+abbrev pub Obeys : Progress → Command → Bool → Tables → Tables → Result Step Refusal → Type 0
 Obeys p c whole t u x =
     (old : Tables) (s : Loading) → HoldsLoaded p t old s → Judged (verdict s c whole) (is_end c) (u ≡ t) (λ q. HoldsLoaded q u old (next s c)) x
 

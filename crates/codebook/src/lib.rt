@@ -3,8 +3,11 @@
 
 #![tactic(auto)]
 
+ghost use Rattle.std.specs.Prelude.{◌≡◌};
+ghost use Rattle.codebook.specs.Tables.{empty};
+
 // Why a call is refused: document 01, "Refusal table".
-#[derive(Clone, Copy)]
+#[derive(Clone, Copy, Debug, PartialEq, Eq)]
 pub enum Refusal {
     // 1, short: the book ends in a command, or where one is due.
     Truncated,
@@ -31,14 +34,10 @@ pub enum Refusal {
 }
 
 // Whether a call did what it is for.
-#[derive(Clone, Copy)]
-pub enum Outcome {
-    Done,
-    Refused(Refusal),
-}
+pub type Outcome = Result<(), Refusal>;
 
 // A command of a code book with its operands: document 01, "The code book".
-#[derive(Clone, Copy)]
+#[derive(Clone, Copy, Debug, PartialEq, Eq)]
 pub enum Command {
     // 10: the length is 2^m.
     Length(u32),
@@ -54,10 +53,9 @@ pub enum Command {
     End,
 }
 
-// What loading answers: m, the length n = 2^m, the number of free indices k, the number of blocks V; zeros where it is refused.
-#[derive(Clone, Copy)]
+// A loaded book's m, its length n = 2^m, its number of free indices k and its number of blocks V.
+#[derive(Clone, Copy, Debug, PartialEq, Eq)]
 pub struct Shape {
-    pub outcome: Outcome,
     pub m: u32,
     pub n: u32,
     pub k: u32,
@@ -75,18 +73,33 @@ pub struct Tables {
     pub biases: [i32; 512],
 }
 
-// What stands at a place of a code book.
-#[derive(Clone, Copy)]
-pub enum Read {
-    // A listed command, the place after it, and whether its operands are whole: where the book ends in them, they are read as 0.
-    Found(Command, usize, bool),
-    // A byte that is not listed.
-    Unlisted,
+impl Tables {
+    // Tables that nothing is loaded into yet.
+    pub fn empty() -> Tables
+        ensures { result ≡ empty }
+    {
+        Tables {
+            kinds: [0; 512],
+            terms: [0; 512],
+            heights: [0; 512],
+            starts: [0; 512],
+            biases: [0; 512],
+        }
+    }
+}
+
+// A listed command that is found at a place of a code book, the place after it, and whether its operands are whole: where the book ends in
+// them, they are read as 0.
+#[derive(Clone, Copy, Debug, PartialEq, Eq)]
+pub struct Found {
+    pub command: Command,
+    pub next: usize,
+    pub whole: bool,
 }
 
 // How far a code book is loaded: m and n, 0 before the length; the indices filled, the ties among them, and whether the last command was a
 // tie or a term; the blocks, the indices in them, and the free ones of these.
-#[derive(Clone, Copy)]
+#[derive(Clone, Copy, Debug, PartialEq, Eq)]
 pub struct Progress {
     pub m: u32,
     pub n: u32,
@@ -98,15 +111,14 @@ pub struct Progress {
     pub covered: u32,
 }
 
-// What one command comes to.
-#[derive(Clone, Copy)]
+// What one command that is not refused comes to.
+#[derive(Clone, Copy, Debug, PartialEq, Eq)]
 pub enum Step {
     Next(Progress),
     // The end command.
     End(Progress),
-    Refused(Refusal),
 }
 
 mod numbers;
 
-pub use numbers::{outcome_number, refusal_number};
+pub use numbers::outcome_number;

@@ -6,7 +6,7 @@ ghost use Rattle.std.specs.Prelude.{◌≡◌, [], ◌+◌, ◌<◌, ◌≤◌, 
 ghost use Rattle.codebook.specs.Loading.{listed, width, signed, command};
 ghost use Rattle.codebook.specs.Progress.{read_at};
 
-use codebook::{Command, Read};
+use codebook::{Command, Found};
 use numerals::{four, one, two};
 
 // A number of 32 bits as two's complement.
@@ -84,19 +84,29 @@ fn bare_command(byte: u8) -> Command
     }
 }
 
-// What stands at a place within the book.
-pub fn read_command(book: &[u8], at: usize) -> Read
+// The listed command at a place within the book.
+pub fn read_command(book: &[u8], at: usize) -> Option<Found>
     requires { at < length book.now }
     ensures { result ≡ read_at book.now at }
 {
     let byte = book[at];
     if !is_listed(byte) {
-        return Read::Unlisted;
+        return None;
     }
     let start = at + 1;
     let size = width_of(byte);
     if book.len() - start < size {
-        return Read::Found(bare_command(byte), start, false);
+        let command = bare_command(byte);
+        return Some(Found {
+            command,
+            next: start,
+            whole: false,
+        });
     }
-    Read::Found(command_at(byte, book, start), start + size, true)
+    let command = command_at(byte, book, start);
+    Some(Found {
+        command,
+        next: start + size,
+        whole: true,
+    })
 }

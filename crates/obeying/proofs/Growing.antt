@@ -19,7 +19,8 @@ use Rattle.codebook.specs.declared.Progress.{Progress}
 use Rattle.codebook.specs.declared.Command.TheVariants.{Length, Tie, Term}
 use Rattle.codebook.specs.Book.{Kind, free, tied, free_count, tied_count, start_of}
 use Rattle.codebook.specs.Loading.{Loading, total, last_terms, member, grown, next}
-use Rattle.codebook.specs.Tables.{Tables, kind_codes, tie_set}
+use Rattle.codebook.specs.declared.Tables.{Tables}
+use Rattle.codebook.specs.Tables.{kind_codes, tie_set}
 use Rattle.codebook.specs.Progress.{CountsLoaded, HoldsLoaded, with_indices, Extends, kind_of}
 use Rattle.codebook.proofs.Codes.{codes-length, codes-append, codes-run, codes-tie, set-append, set-run, set_below, set-tie, tied-run, bit_in, member-last, kinds-last, last_some, last-tie, last_set, tied-tie}
 use Rattle.codebook.proofs.Indices.{tied-append}

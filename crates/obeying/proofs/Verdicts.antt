@@ -18,26 +18,27 @@ use Rattle.codebook.specs.declared.Refusal.TheVariants.{Truncated, Misplaced, Ou
 use Rattle.codebook.specs.declared.Command.{Command}
 use Rattle.codebook.specs.declared.Command.TheVariants.{Length, Free, Zero, Tie, Term, Block as NextBlock, End}
 use Rattle.codebook.specs.declared.Progress.{Progress}
-use Rattle.codebook.specs.declared.Step.TheVariants.{Next, End as Ended, Refused}
+use Rattle.std.specs.Prelude.{Ok, Err}
+use Rattle.codebook.specs.declared.Step.TheVariants.{Next, End as Ended}
 use Rattle.codebook.specs.Refusals.{unless}
 use Rattle.codebook.specs.Book.{free_count}
 use Rattle.codebook.specs.Loading.{Loading, total, last_terms, member, placed, fault, grown, next}
-use Rattle.codebook.specs.Tables.{Tables}
+use Rattle.codebook.specs.declared.Tables.{Tables}
 use Rattle.codebook.specs.Progress.{byte_of, is_end, verdict, CountsLoaded, Goes, Judged, run_command, block_fits, kind_of}
 use Rattle.codebook.specs.contracts.Command.{the_type}
 
 -- ---- steps
 
 -- a refusal leaves the tables
-pub refuse : (t : Tables) (o : Option Refusal) (end : Bool) (P : Progress → Type 0) (r : Refusal) → o ≡ some r → Judged o end (t ≡ t) P (Refused r)
+pub refuse : (t : Tables) (o : Option Refusal) (end : Bool) (P : Progress → Type 0) (r : Refusal) → o ≡ some r → Judged o end (t ≡ t) P (Err r)
 unfolding Judged
 refuse t o end P r e = rw e (refl, refl)
 
-pub proceed : (K : Type 0) (o : Option Refusal) (P : Progress → Type 0) (q : Progress) → o ≡ none → P q → Judged o false K P (Next q)
+pub proceed : (K : Type 0) (o : Option Refusal) (P : Progress → Type 0) (q : Progress) → o ≡ none → P q → Judged o false K P (Ok (Next q))
 unfolding Judged Goes
 proceed K o P q e h = rw e (q, refl, h)
 
-pub ends : (K : Type 0) (o : Option Refusal) (P : Progress → Type 0) (q : Progress) → o ≡ none → P q → Judged o true K P (Ended q)
+pub ends : (K : Type 0) (o : Option Refusal) (P : Progress → Type 0) (q : Progress) → o ≡ none → P q → Judged o true K P (Ok (Ended q))
 unfolding Judged Goes
 ends K o P q e h = rw e (q, refl, h)
 

@@ -17,7 +17,7 @@ returns-then-book-start c =
     let e = c.if-not-is_listed.false in
     let a = c.args in
     let cut = lt-leb (width (get_or a.book.now a.at 0)) (length (drop (a.at + 1) a.book.now)) (simp length-drop (omega arith)) in
-    rw (← c.is_listed.ensures, e, cut, c.bare_command.ensures)
+    rw (← c.is_listed.ensures, e, cut, c.bare_command-command.ensures)
 
 pub returns : goal.returns
 unfolding read_at
@@ -25,4 +25,4 @@ returns c =
     let e = c.if-not-is_listed.false in
     let a = c.args in
     let whole = le-leb (width (get_or a.book.now a.at 0)) (length (drop (a.at + 1) a.book.now)) (simp length-drop (omega arith)) in
-    rw (← c.is_listed.ensures, e, whole, c.command_at.ensures, c.width_of-size.ensures)
+    rw (← c.is_listed.ensures, e, whole, c.command_at-command.ensures, c.width_of-size.ensures)

@@ -7,24 +7,24 @@ use borrow.Author.Rules.{rules}
 use Rattle.codebook.specs.declared.Refusal.TheVariants.{Truncated, Misplaced, OutOfRange}
 use Rattle.codebook.specs.declared.Command.TheVariants.{Length}
 use Rattle.codebook.specs.Loading.{fault}
-use Rattle.codebook.specs.Progress.{byte_of, is_end, with_indices}
+use Rattle.codebook.specs.Progress.{byte_of, is_end}
 use Rattle.obeying.proofs.Verdicts.{refuse, proceed, operands-cut, operands-whole, verdict-misplaced, begin-misplaced, length-stands, length-low, length-fits}
 use Rattle.obeying.proofs.Growing.{begin-holds}
 use Rattle.obeying.proofs.begin.Goals as goal
 
 pub returns-in_default : goal.returns-in_default
-returns-in_default c t n old s h =
+returns-in_default c n old s h =
     let a = c.args in
     refuse _ _ _ _ Misplaced (verdict-misplaced s a.c a.whole (begin-misplaced a.p s h.counts c.requires a.c (search rules) n))
 
 pub returns-then-not-whole : goal.returns-then-not-whole
-returns-then-not-whole c t n old s h =
+returns-then-not-whole c n old s h =
     let m = c.in-Length.m in
     let a = c.args in
     rw c.in-Length.is (refuse _ _ _ _ Truncated (length-stands a.p s h.counts a.whole c.requires m ∙ operands-cut a.whole _ c.if-not-whole.true))
 
 pub returns-then-m-lt2 : goal.returns-then-m-lt2
-returns-then-m-lt2 c t n old s h =
+returns-then-m-lt2 c n old s h =
     let m = c.in-Length.m in
     let a = c.args in
     let whole = operands-whole a.whole (fault s (Length m)) c.if-not-whole.false in
@@ -37,11 +37,11 @@ clear-requires c =
 
 pub returns : goal.returns
 unfolding is_end byte_of
-returns c t n old s h =
+returns c n old s h =
     let m = c.in-Length.m in
     let a = c.args in
     let low = c.if-m-lt2.false in
     let power = c.word_power-n.ensures in
     let whole = operands-whole a.whole (fault s (Length m)) c.if-not-whole.false in
     rw c.in-Length.is (proceed _ _ _ _ (length-stands a.p s h.counts a.whole c.requires m ∙ whole ∙ length-fits a.p s h.counts m low (omega arith))
-    (rw power (begin-holds a.p (with_indices t t.kinds a.terms.now) old s h m _ c.requires low (omega arith) (rw power at c.clear.ensures))))
+    (rw power (begin-holds a.p a.tables.now old s h m _ c.requires low (omega arith) (rw power at c.clear.ensures))))

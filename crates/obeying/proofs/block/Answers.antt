@@ -11,18 +11,18 @@ use Rattle.obeying.proofs.Verdicts.{refuse, operands-cut, operands-whole, verdic
 use Rattle.obeying.proofs.block.Goals as goal
 
 pub returns-in_default : goal.returns-in_default
-returns-in_default c terms n old s h =
+returns-in_default c n old s h =
     let a = c.args in
     refuse _ _ _ _ Misplaced (verdict-misplaced s a.c a.whole (block-misplaced a.p s h.counts c.requires.filled_value.0 c.requires.filled_value.1 a.c (search rules) n))
 
 pub returns-then-not-whole : goal.returns-then-not-whole
-returns-then-not-whole c terms n old s h =
+returns-then-not-whole c n old s h =
     let a = c.args in
     let stands = block-stands a.p s h.counts a.whole c.requires.filled_value.0 c.requires.filled_value.1 c.in-Block.j c.in-Block.bias in
     rw c.in-Block.is (refuse _ _ _ _ Truncated (stands ∙ operands-cut a.whole _ c.if-not-whole.true))
 
 pub returns-then-not-fits : goal.returns-then-not-fits
-returns-then-not-fits c terms n old s h =
+returns-then-not-fits c n old s h =
     let a = c.args in
     let j = c.in-Block.j in
     let bias = c.in-Block.bias in
@@ -35,7 +35,7 @@ pub place_block-requires : goal.place_block-requires
 place_block-requires c = record { safe = c.requires.safe; filled_value = c.requires.filled_value; bias_value = sym c.fits.ensures ∙ c.if-not-fits.false }
 
 pub returns : goal.returns
-returns c terms n old s h =
+returns c n old s h =
     let a = c.args in
     let back = to_z-of_z w32 c.in-Block.bias (search rules) in
-    rw (c.in-Block.is, c.if-not-whole.false) (rw back at (c.place_block.ensures terms old s h))
+    rw (c.in-Block.is, c.if-not-whole.false) (rw back at (c.place_block.ensures old s h))

@@ -4,29 +4,29 @@ use native.Mathlib.Omega.{arith}
 use borrow.Author.Rules.{rules}
 use Rattle.codebook.specs.declared.Refusal.TheVariants.{Misplaced}
 use Rattle.codebook.specs.Loading.{next}
-use Rattle.codebook.specs.Progress.{byte_of, is_end, tables}
+use Rattle.codebook.specs.Progress.{byte_of, is_end}
 use Rattle.obeying.proofs.Verdicts.{refuse, ends, verdict-misplaced, not-term, end-misplaced, end-stands}
 use Rattle.obeying.proofs.obey.Goals as goal
 
 pub returns-in-Term : goal.returns-in-Term
 returns-in-Term c old s h =
     let a = c.args in
-    rw c.in-Term.is (c.term.ensures (tables a.kinds.now a.terms.now a.heights.now a.starts.now a.biases.now) old s h)
+    rw c.in-Term.is (c.term.ensures old s h)
 
 pub returns-then-p-eq0 : goal.returns-then-p-eq0
 returns-then-p-eq0 c old s h =
     let a = c.args in
-    c.begin.ensures (tables a.kinds.now a.terms.now a.heights.now a.starts.now a.biases.now) (not-term a.c (search rules)) old s h
+    c.begin.ensures (not-term a.c (search rules)) old s h
 
 pub returns-then-p : goal.returns-then-p
 returns-then-p c old s h =
     let a = c.args in
-    c.index.ensures (tables a.kinds.now a.terms.now a.heights.now a.starts.now a.biases.now) (not-term a.c (search rules)) old s h
+    c.index.ensures (not-term a.c (search rules)) old s h
 
 pub returns-then-p-2 : goal.returns-then-p-2
 returns-then-p-2 c old s h =
     let a = c.args in
-    c.block.ensures a.terms.now (not-term a.c (search rules)) old s h
+    c.block.ensures (not-term a.c (search rules)) old s h
 
 pub returns-in_default-c : goal.returns-in_default-c
 returns-in_default-c c old s h =

@@ -11,7 +11,7 @@ use borrow.Author.Tests.{le-leb, lt-leb}
 use Rattle.codebook.specs.declared.Refusal.TheVariants.{TooManyFree}
 use Rattle.codebook.specs.Refusals.{unless}
 use Rattle.codebook.specs.Book.{free_count}
-use Rattle.codebook.specs.Progress.{byte_of, is_end, tables}
+use Rattle.codebook.specs.Progress.{byte_of, is_end}
 use Rattle.obeying.proofs.Verdicts.{refuse, proceed, block-stands, block_fit, fits-facts}
 use Rattle.codebook.proofs.Placing.{block-free, block-holds}
 use Rattle.obeying.proofs.place_block.Goals as goal
@@ -28,17 +28,17 @@ count_free-free-requires c =
 
 pub returns-then-free-gt8 : goal.returns-then-free-gt8
 unfolding unless
-returns-then-free-gt8 c terms old s h =
+returns-then-free-gt8 c old s h =
     let a = c.args in
-    let table = tables a.kinds.now terms a.heights.now a.starts.now a.biases.now in
+    let table = a.tables.now in
     let fit = block_fit a.p s h.counts a.j a.bias c.requires.bias_value in
     let stands = block-stands a.p s h.counts true c.requires.filled_value.0 c.requires.filled_value.1 a.j a.bias in
     let room = (fits-facts a.p.covered a.p.n a.j a.bias c.requires.bias_value).1 in
     let count = block-free a.p table old s h a.j a.bias _ c.requires.filled_value.0 room (rw c.word_power-length.ensures at c.count_free-free.ensures) in
     refuse _ _ _ _ TooManyFree (stands ∙ fit ∙ rw (lt-leb (free_count (take (2 ^ a.j) (drop s.covered s.kinds))) 8 (rw count at c.if-free-gt8.true)))
 
-pub overflow_cast-heights : goal.overflow_cast-heights
-overflow_cast-heights c =
+pub overflow_cast-tables : goal.overflow_cast-tables
+overflow_cast-tables c =
     let p = c.args.p in
     omega (arith, fits-facts p.covered p.n c.args.j c.args.bias c.requires.bias_value)
 
@@ -49,9 +49,9 @@ overflow_add-q-2 c =
 
 pub returns : goal.returns
 unfolding unless is_end byte_of
-returns c terms old s h =
+returns c old s h =
     let a = c.args in
-    let table = tables a.kinds.now terms a.heights.now a.starts.now a.biases.now in
+    let table = a.tables.now in
     let fit = block_fit a.p s h.counts a.j a.bias c.requires.bias_value in
     let stands = block-stands a.p s h.counts true c.requires.filled_value.0 c.requires.filled_value.1 a.j a.bias in
     let room = (fits-facts a.p.covered a.p.n a.j a.bias c.requires.bias_value).1 in
