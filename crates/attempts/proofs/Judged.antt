@@ -28,6 +28,7 @@ use Rattle.codebook.specs.Book.{Kind, free_count}
 use Rattle.codebook.proofs.Placing.{free-le}
 use Rattle.settings.specs.declared.Settings.{Settings}
 use Rattle.settings.specs.Settings.{Ranged}
+use Rattle.codec.specs.declared.Status.TheVariants.{Passed}
 use Rattle.codec.specs.declared.HookRecord.{HookRecord}
 use Rattle.codec.specs.Code.{free_bits, read_data}
 use Rattle.codec.specs.Record.{no_record, read_record}
@@ -37,7 +38,7 @@ use Rattle.machine.specs.declared.Reads.{Reads}
 use Rattle.machine.specs.declared.Reads.TheVariants.{Data, Record}
 use Rattle.machine.specs.declared.Counts.{Counts}
 use Rattle.queue.specs.Queue.{Step, Final, End, found, Run}
-use Rattle.machine.specs.Calls.{Lent, numbers_needed, bytes_needed, holds, first_failed, final_in, verdict, verdicts, is_read, record_tests, within, outcome_of, record_or, hook_of, counts_of, walked, after_run, ran_call}
+use Rattle.machine.specs.Calls.{Lent, numbers_needed, bytes_needed, holds, first_failed, final_in, verdict, verdicts, is_read, record_tests, within, outcome_of, record_or, hook_of, counts_of, no_counts, walked, after_run, ran_call}
 use Rattle.runs.specs.Runs.{Exact}
 use Rattle.reader.specs.Reader as R
 use Rattle.reader.proofs.Agree.{valid-agree, reader-exact}
@@ -158,6 +159,16 @@ unfolding RecordIn holds
 record-in Data x t ds e h = tt
 record-in Record x t ds e h = (e ∙ eqb→eq x.k 32 t, h)
 
+-- ---- what is answered by default
+
+pub default-record : (h : HookRecord) → (h.plant ≡ 0) × ((h.carcass ≡ 0) × ((h.side ≡ 0) × (h.status ≡ Passed))) → h ≡ no_record
+unfolding no_record
+default-record h d = λ i. record { plant = d.0 i; carcass = d.1.0 i; side = d.1.1.0 i; status = d.1.1.1 i }
+
+pub default-counts : (x : Counts) → (x.extractions ≡ 0) × ((x.crowded ≡ 0) × ((x.outrun ≡ 0) × (x.discrepancy ≡ 0))) → x ≡ no_counts
+unfolding no_counts
+default-counts x d = λ i. record { extractions = d.0 i; crowded = d.1.0 i; outrun = d.1.1.0 i; discrepancy = d.1.1.1 i }
+
 -- ---- the verdict
 
 -- an answer tells what was refused, or that nothing was, and the record
@@ -238,14 +249,13 @@ module _ (reads : Reads) (x : Shape) (s : Settings) (l : Lent) (run : Run Final)
     ran-done e p = let o = ap outcome_of (sym e) in λ i. record { outcome = o i; counts = counted i; hook = p i }
 
     pub ran-refused : {r : Refusal} → against ≡ some r → record { outcome = Err r; counts = counts; hook = no_record } ≡ (ran_call reads x s l run).answer
-    unfolding ran_call outcome_of
+    unfolding ran_call outcome_of hook_of
     ran-refused {r} e =
         let o = ap outcome_of (sym e) in
         let h = none-read reads ∙ ap (λ (v : Option Refusal). hook_of reads v (final_in run.end)) (sym e) in
         λ i. record { outcome = o i; counts = counted i; hook = h i }
       where
         none-read : (t : Reads) → no_record ≡ hook_of t (some r) (final_in run.end)
-        unfolding hook_of
         none-read Data = refl
         none-read Record = refl
 

@@ -1,4 +1,5 @@
 pub mod Judged
 pub mod Cleared
 pub mod Readied
+pub mod Decided
 pub mod Whole

@@ -1,5 +1,5 @@
 -- What loading and the tests give the run of a call: a loaded book stands in its tables, with its shape, and values that pass their test fit it. Assumes nothing.
-use mathlib.Core.Path.{◌≡◌, refl, sym, ap, ◌∙◌}
+use mathlib.Core.Path.{◌≡◌, refl, sym, ap, ap₂, ◌∙◌, subst}
 use mathlib.Core.List.{List, [], ◌∷◌, map}
 use mathlib.Core.Option.{Option, none, some}
 use Prim.Native.Nat.{ℕ, ◌^◌, ◌≤◌}
@@ -20,13 +20,19 @@ use Rattle.codebook.specs.Book.{Book, Block, block_at, start_of}
 use Rattle.codebook.specs.Loading.{Load, load, refused, loaded, book_shape, shape_of}
 use Rattle.codebook.specs.Tables.{tables_of, overlaid, loaded_up_to, Filled}
 use Rattle.codebook.proofs.Loaded.{loaded-valid}
-use Rattle.coding.proofs.Told.{load-tabled}
+use Rattle.coding.proofs.Told.{shape-refused, load-tabled}
 use Rattle.settings.specs.declared.Settings.{Settings}
+use Rattle.codec.specs.Record.{no_record}
 use Rattle.machine.specs.declared.Manner.{Manner}
-use Rattle.machine.specs.Calls.{Input, Lent, lengths_of, first_failed, values_ok, tests_before, barred}
+use Rattle.machine.specs.declared.Counts.{Counts}
+use Rattle.machine.specs.declared.HookDecoded.{HookDecoded}
+use Rattle.machine.specs.Calls.{Input, Lent, Called, lengths_of, first_failed, values_ok, tests_before, barred, no_counts, refused_as, refused_call, ran_call, call_by}
+use Rattle.machine.proofs.Unbarred.{Free, nothing-bars}
+use Rattle.machine.proofs.Called.{call-refused, call-barred, call-ran}
 use Rattle.checks.specs.Checks.{admitted_as}
 use Rattle.reading.specs.Running.{InTables}
 use Rattle.extraction.proofs.Counts.{blocks-few}
+use Rattle.attempts.specs.Reading.{reader_run}
 use Rattle.attempts.specs.Attempt.{Ready}
 
 -- ---- the book that is loaded
@@ -100,11 +106,6 @@ unfolding admitted_as
 admitted-bad none s r e = let z : ◌≡◌ {A = ℕ} 0 1 = cc in absurd (omega arith)
 admitted-bad (some q) s r e = cc
 
--- by the shape that is the book's own
-pub barred-is : (k : Manner) (c : Input) (l : Lent) (x : Shape) (h : Has c.book x) → first_failed (tests_before k x c.settings (lengths_of c l) c.values) ≡ barred k h.is c l
-unfolding barred
-barred-is k c l x h = ap (λ (y : Shape). first_failed (tests_before k y c.settings (lengths_of c l) c.values)) h.shape
-
 -- ---- all that the run needs
 
 abbrev pub ready : (book : List ℕ) (ys : List ℤ) (x : Shape) (h : Has book x) (old new : Tables) → Filled (load book) (loaded_up_to book) old new
@@ -117,3 +118,54 @@ ready book ys x h old new f fits good =
       fits = fits;
       range = values-within ys good;
     }
+
+-- ---- what the call comes to
+
+-- where no run is made
+pub refused-bare : (r : Refusal) (x : Counts) → x ≡ no_counts → record { outcome = Err r; counts = x; hook = no_record } ≡ refused_as r
+unfolding refused_as
+refused-bare r x e = ap (λ (y : Counts). record { outcome = Err r; counts = y; hook = no_record }) e
+
+module _ (k : Manner) (c : Input) (l : Lent) where
+  abbrev call : Called HookDecoded
+  call = call_by reader_run k c l
+
+  abbrev refusal : Refusal → Type 0
+  refusal r = (refused_as r ≡ call.answer) × (l ≡ call.lent)
+
+  refusing : (r : Refusal) → call ≡ refused_call r l → refusal r
+  unfolding refused_call
+  refusing r e = (sym (ap (λ (w : Called HookDecoded). w.answer) e), sym (ap (λ (w : Called HookDecoded). w.lent) e))
+
+  -- loading refuses
+  pub not-loaded : (r : Refusal) → Err r ≡ shape_of (load c.book) → refusal r
+  not-loaded r e = refusing r (call-refused reader_run k c l r (shape-refused c.book r e))
+
+  -- a loaded book: its shape is its own, and the tests are of it
+  module _ (x : Shape) (e : Ok x ≡ shape_of (load c.book)) where
+    abbrev pub has : Has c.book x
+    has = shape_has c.book x e
+
+    abbrev barring : Option Refusal
+    barring = first_failed (tests_before k x c.settings (lengths_of c l) c.values)
+
+    barred-is : barring ≡ barred k has.is c l
+    unfolding barred
+    barred-is = ap (λ (y : Shape). first_failed (tests_before k y c.settings (lengths_of c l) c.values)) has.shape
+
+    -- a test refuses
+    pub not-admitted : (r : Refusal) → Err r ≡ admitted_as barring c.settings → refusal r
+    not-admitted r a = refusing r (call-barred reader_run k c l has.is r has.loads (sym barred-is ∙ admitted-bad barring c.settings r a))
+
+    -- none does: the settings are those asked, and the run has what it needs
+    module _ (s : Settings) (a : Ok s ≡ admitted_as barring c.settings) where
+      pub free : Free k x s (lengths_of c l) c.values
+      free =
+          let g = admitted-good barring c.settings s a in
+          subst (λ (z : Settings). Free k x z (lengths_of c l) c.values) (sym g.1) (nothing-bars k x c.settings (lengths_of c l) c.values g.0)
+
+      pub ran : ran_call k.reads x s l (reader_run has.is s c.values l) ≡ call
+      ran =
+          let g = admitted-good barring c.settings s a in
+          ap₂ (λ (y : Shape) (z : Settings). ran_call k.reads y z l (reader_run has.is z c.values l)) has.shape g.1
+          ∙ sym (call-ran reader_run k c l has.is has.loads (sym barred-is ∙ g.0))

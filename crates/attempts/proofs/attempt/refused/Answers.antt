@@ -1,9 +1,10 @@
--- `attempts::attempt::refused` meets its contract: by its fields. Assumes nothing.
-use mathlib.Core.Path.{refl}
-use Rattle.codec.specs.Record.{no_record}
-use Rattle.machine.specs.Calls.{no_counts, refused_as}
+-- `attempts::attempt::refused` meets its contract: the record by default is that of zeros. Assumes nothing.
+use Rattle.machine.specs.declared.HookDecoded.{HookDecoded}
+use mathlib.Core.Path.{ap}
+use Rattle.std.specs.Prelude.{Err}
+use Rattle.codec.specs.declared.HookRecord.{HookRecord}
+use Rattle.attempts.proofs.Judged.{default-record}
 use Rattle.attempts.proofs.attempt.refused.Goals as goal
 
 pub returns : goal.returns
-unfolding refused_as no_counts no_record
-returns c = refl
+returns c = ap (λ (h : HookRecord). record { outcome = Err c.args.r; counts = c.args.counts; hook = h }) (default-record c.default.result c.default.ensures)
