@@ -16,6 +16,7 @@ use passes::least_two::key;
 use passes::pass::find_two;
 use short::bytes::search_bytes;
 use short::flips::{pair_checked, pair_free};
+use tables::Directions;
 use tables::messages::walk;
 
 // The least bound above the key of a cost and a number.
@@ -43,7 +44,8 @@ pub fn nearest_pair(
         × ((w : Word) → nearest B values.now x b ≡ some w
         → result.second ≡ candidate_of B (next_after w B values.now x b)) }
 {
-    let directions = walk(tables, start, power(j as usize), parities);
+    let mut directions = Directions::new();
+    walk(tables, start, power(j as usize), parities, &mut directions);
     match values.as_array::<8>() {
         Some(octet) if directions.free >= 8 => pair_free(octet, &directions),
         Some(octet) if directions.free == 7 && tables.kinds[start] != 0 => pair_checked(
@@ -71,7 +73,8 @@ pub fn next_after(
         → Bits x → parities ≡ parity_set B x → own.cost ≡ cost → own.number ≡ number
         → Nexts B values.now x b (next_after own B values.now x b) result }
 {
-    let directions = walk(tables, start, power(j as usize), parities);
+    let mut directions = Directions::new();
+    walk(tables, start, power(j as usize), parities, &mut directions);
     let bound = after(cost, number);
     match values.as_array::<8>() {
         Some(octet) if directions.free >= 8 => {

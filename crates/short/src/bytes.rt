@@ -64,7 +64,7 @@ fn least_byte(halves: &[u32; 256], side: usize, bound: u32) -> u32
     let low = &halves[..side];
     let least = least_key(low, 0);
     let mut best = u32::MAX;
-    for add in &halves[side..side + side] {
+    for add in &halves[16..16 + side] {
         best = least_row(low, *add, least, bound).min(best);
     }
     best

@@ -17,6 +17,17 @@ pub struct Directions {
     pub ghost few: { free ≤ 8 },
 }
 
+impl Directions {
+    // No directions yet.
+    pub fn new() -> Self {
+        Directions {
+            words: [0; 9],
+            sets: [0; 9],
+            free: 0,
+        }
+    }
+}
+
 // A table of the costs of half bytes, in so many runs of 16.
 #[derive(Clone, Copy)]
 pub struct HalfBytes<'a> {

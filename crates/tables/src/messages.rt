@@ -32,14 +32,14 @@ pub fn where_set(x: u32, bit: u32) -> u32
     x
 }
 
-// Bit t of each entry's own set, where it is 1, adds the row to the word and the ties to the set.
-fn follow(directions: &mut Directions, t: u32, row: u32, ties: u32)
-    requires { t < 32 }
-    ensures { (directions.new.free ≡ directions.old.free) × ((k : ℕ) → k < directions.old.free + 1 →
+// Bit t of each of the first `count` entries' own set, where it is 1, adds the row to the word and the ties to the set.
+fn follow(directions: &mut Directions, count: usize, t: u32, row: u32, ties: u32)
+    requires { (count ≤ 9) × (t < 32) }
+    ensures { (directions.new.free ≡ directions.old.free) × ((k : ℕ) → k < count →
         (get_or directions.new.words k 0 ≡ bit_xor (get_or directions.old.words k 0) (row * (get_or directions.old.sets k 0 / 2 ^ t % 2)))
         × (get_or directions.new.sets k 0 ≡ bit_xor (get_or directions.old.sets k 0) (ties * (get_or directions.old.sets k 0 / 2 ^ t % 2)))) }
 {
-    for k in 0..directions.free + 1 {
+    for k in 0..count {
         let set = directions.sets[k];
         let bit = (set >> t) % 2;
         directions.words[k] = directions.words[k] ^ where_set(row, bit);
@@ -47,44 +47,45 @@ fn follow(directions: &mut Directions, t: u32, row: u32, ties: u32)
     }
 }
 
-// The directions one index later, by its code.
-fn advance(directions: &mut Directions, code: u8, row: u32, ties: u32)
-    requires { (grown code (2 ^ directions.old.free) ≤ 256) × (code < 34) }
-    ensures { (2 ^ directions.new.free ≡ grown code (2 ^ directions.old.free))
-        × ((e : ℕ → Entry) → Spans directions.old.words directions.old.sets directions.old.free e
-        → Spans directions.new.words directions.new.sets directions.new.free (later code row ties e)) }
+// The directions one index later, by its code, and their number: it is passed on its own, so that it does not wait for a store at each index.
+fn advance(directions: &mut Directions, free: usize, code: u8, row: u32, ties: u32) -> usize
+    requires { (grown code (2 ^ free) ≤ 256) × (code < 34) }
+    ensures { (2 ^ result ≡ grown code (2 ^ free))
+        × ((e : ℕ → Entry) → Spans directions.old.words directions.old.sets free e
+        → Spans directions.new.words directions.new.sets result (later code row ties e)) }
 {
     if code == 0 {
-        directions.free += 1;
-        directions.words[directions.free] = row;
-        directions.sets[directions.free] = ties;
-    } else if code > 1 {
-        follow(directions, wide(code - 2), row, ties);
+        let next = free + 1;
+        directions.words[next] = row;
+        directions.sets[next] = ties;
+        return next;
     }
+    if code > 1 {
+        follow(directions, free + 1, wide(code - 2), row, ties);
+    }
+    free
 }
 
 // The directions of the n indices from `start` on, after the given parities.
-pub fn walk(tables: &Tables, start: usize, n: usize, parities: u32) -> Directions
+pub fn walk(tables: &Tables, start: usize, n: usize, parities: u32, directions: &mut Directions)
     requires { Walkable tables.now.kinds start n }
-    ensures { (2 ^ result.free ≡ settings tables.now.kinds start n)
-        × Spans result.words result.sets result.free (entry tables.now.kinds tables.now.terms start parities n) }
+    ensures { (2 ^ directions.new.free ≡ settings tables.now.kinds start n)
+        × Spans directions.new.words directions.new.sets directions.new.free (entry tables.now.kinds tables.now.terms start parities n) }
 {
     let matrix = rows();
-    let mut directions = Directions {
-        words: [0; 9],
-        sets: [0; 9],
-        free: 0,
-    };
+    directions.words[0] = 0;
     directions.sets[0] = parities;
+    let mut free = 0;
     for i in 0..n {
-        advance(
-            &mut directions,
+        free = advance(
+            directions,
+            free,
             tables.kinds[start + i],
             matrix[i],
             tables.terms[start + i],
         );
     }
-    directions
+    directions.free = free;
 }
 
 // The first `count` entries once more after themselves, with the mask.

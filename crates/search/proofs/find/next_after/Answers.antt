@@ -16,7 +16,7 @@ use Rattle.search.proofs.find.next_after.Goals as goal
 pub search_bytes-first-requires : goal.search_bytes-first-requires
 search_bytes-first-requires c =
     let s = c.requires.searchable in
-    let d = c.walk-directions.result in
+    let d = c.walk.new.directions in
     (omega (arith, d.few, c.if-directions-ge8.true), subst (All (Within 1048064)) (sym c.in-Some.ensures.cases.same) s.small)
 
 pub find_two-two-requires : goal.find_two-two-requires
@@ -29,8 +29,8 @@ returns-in-Some c =
     let a = c.args in
     let t = a.tables.now in
     let s = c.requires.searchable in
-    let w = c.walk-directions in
-    let d = w.result in
+    let w = c.walk in
+    let d = w.new.directions in
     let chunk = c.in-Some.ensures.cases in
     let q : c.power.result ≡ 8 = c.power.ensures ∙ sym s.count ∙ chunk.long in
     let f : d.free ≡ 8 = omega (arith, d.few, c.if-directions-ge8.true) in
@@ -54,16 +54,16 @@ returns-in_default c =
     let a = c.args in
     let t = a.tables.now in
     let s = c.requires.searchable in
-    let w = c.walk-directions in
+    let w = c.walk in
     let n = c.power.result in
     let bound = c.after-bound.result in
     let short : n ≤ 32 = omega (arith, c.power.ensures, s.walk.short) in
     let two = c.find_two-two in
     let r = two.ensures (entry t.kinds t.terms a.start a.parities n) w.ensures.1 (entry-word t.kinds t.terms a.start a.parities n short) in
-    let first = r.0 ∙ found_among t.kinds t.terms a.start a.parities a.j n (2 ^ w.result.free) a.values.now c.power.ensures w.ensures.0 bound in
+    let first = r.0 ∙ found_among t.kinds t.terms a.start a.parities a.j n (2 ^ w.new.directions.free) a.values.now c.power.ensures w.ensures.0 bound in
     let next : Next = record { first = two.result.first; second = two.result.second; known = true } in
     record {
       fact = λ B b x own o h e p m.
           next-found t.kinds t.terms a.start a.parities a.j a.values.now s.count B b x o h e own a.cost a.number bound next p m c.after-bound.ensures c.ranges.number.fits first
-          (λ k. after-passed t.kinds t.terms a.start a.parities a.j n (2 ^ w.result.free) a.values.now c.power.ensures w.ensures.0 bound two.result.first two.result.second r.0 r.1);
+          (λ k. after-passed t.kinds t.terms a.start a.parities a.j n (2 ^ w.new.directions.free) a.values.now c.power.ensures w.ensures.0 bound two.result.first two.result.second r.0 r.1);
     }

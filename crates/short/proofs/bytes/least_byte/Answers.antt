@@ -21,11 +21,11 @@ module _ (t : List ℕ) (side : ℕ) (e : side ≡ 16) (l : length t ≡ 256) wh
   low-at i h = get_or-take side t i 0 (omega arith)
 
   -- the high ones
-  high-length : length (part side (side + side - side) t) ≡ 16
-  high-length = part_length side (side + side - side) t (omega arith) ∙ omega arith
+  high-length : length (part 16 (16 + side - 16) t) ≡ 16
+  high-length = part_length 16 (16 + side - 16) t (omega arith) ∙ omega arith
 
-  high-at : (i : ℕ) → i < 16 → get_or (part side (side + side - side) t) i 0 ≡ get_or t (16 + i) 0
-  high-at i h = part_at side (side + side - side) t 0 i (omega arith) ∙ ap (λ k. get_or t (k + i) 0) e
+  high-at : (i : ℕ) → i < 16 → get_or (part 16 (16 + side - 16) t) i 0 ≡ get_or t (16 + i) 0
+  high-at i h = part_at 16 (16 + side - 16) t 0 i (omega arith)
 
 pub least_row-requires : goal.least_row-requires
 unfolding part
@@ -54,7 +54,7 @@ loop-add-preserved c =
     let e = c.requires.0 in
     let next : 16 * h + 16 ≡ 16 * (h + 1) = omega arith in
     let i : h < 16 = omega (arith, c.loop-add-test.true, high-length t a.side e c.told-halves) in
-    let row : (w : ℕ) → w < 16 → get_or (take a.side t) w 0 + get_or (part a.side (a.side + a.side - a.side) t) h 0 ≡ byte_key t (16 * h + w) =
+    let row : (w : ℕ) → w < 16 → get_or (take a.side t) w 0 + get_or (part 16 (16 + a.side - 16) t) h 0 ≡ byte_key t (16 * h + w) =
     λ w l. ap₂ ◌+◌ (low-at t a.side e c.told-halves w l) (high-at t a.side e c.told-halves h i) ∙ row-key t h w l in
     c.min-best.ensures
     ∙ ap₂ min (c.least_row.ensures ∙ key-same _ (λ w. byte_key t (16 * h + w)) a.bound 16 row) x.invariant

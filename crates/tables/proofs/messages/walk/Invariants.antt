@@ -6,5 +6,4 @@ use Rattle.tables.proofs.messages.walk.Given as goal
 
 abbrev pub invariant-loop-i : goal.invariant-loop-i
 invariant-loop-i l =
-    let (words, (sets, (free, _))) = l.directions in
-    (2 ^ free ≡ settings l.tables.kinds l.start l.i) × Spans words sets free (entry l.tables.kinds l.tables.terms l.start l.parities l.i)
+    (2 ^ l.free ≡ settings l.tables.kinds l.start l.i) × Spans l.directions.words l.directions.sets l.free (entry l.tables.kinds l.tables.terms l.start l.parities l.i)
