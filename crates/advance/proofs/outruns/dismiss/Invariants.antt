@@ -1,5 +1,4 @@
 -- The loop's invariant in outruns.dismiss: the paths of the first entries are passed, and those of them with b blocks or fewer are gone.
-use mathlib.Core.Path.{◌≡◌}
 use Prim.Native.Nat.{ℕ, ◌+◌, ◌-◌, ◌≤◌}
 use Rattle.order.specs.Entries.{queue_of}
 use Rattle.sharing.specs.Sharing.{Held}

@@ -16,7 +16,7 @@ use Rattle.steps.specs.Steps.{committed, Moving}
 use Rattle.steps.proofs.Commits.{own-viewed, commit-seen}
 use Rattle.advance.proofs.Onward.{away, reached, next-heights, first-viewed, first-seen, later-own, later-heights, committed-turning, turned-upper, down-seen, reached-claimable, claimed-stands, Gone}
 use Rattle.advance.proofs.values.calculate.Goals as goal
-use Rattle.advance.proofs.values.calculate.Goals.{then-at-eq0, else-at-eq0}
+use Rattle.advance.proofs.values.calculate.Goals.{Joined-at-eq0, then-at-eq0, else-at-eq0}
 
 -- the slot of a path in hand has a row, and so it has in rows of that length
 hand-row : {m D N : ℕ} {x : Memory} {e : ℕ} {es vs : List ℕ} {last at : Block} → Lent m D N x → Moving m D N x e es vs last at →
@@ -112,15 +112,13 @@ go_down-requires-else-at-eq0 c =
           };
     }
 
--- an array for the block's word
-pub claim-requires : goal.claim-requires
+-- where the ways join, the path is at its next block
+gone : (c : Joined-at-eq0) → let a = c.args in
+    Gone a.layout.m a.paths a.layout.arrays a.e c.slot_of-slot.result a.last a.at (contents a.memory.now) (contents c.if-at-eq0.memory)
 unfolding memory
-claim-requires c =
-    let a = c.args in
+gone c =
     let l = c.requires.lent in
-    let h = c.requires.by_index.2 in
     let r = c.slot_of-slot.ensures.0 in
-    let gone : Gone a.layout.m a.paths a.layout.arrays a.e c.slot_of-slot.result a.last a.at (contents a.memory.now) (contents c.if-at-eq0.memory) =
     elim c.if-at-eq0.branch [
       | then-at-eq0 w ↦ rw w.memory-is (gone-first r w.if-at-eq0.true l.enough w.go_down.ensures.has_arrays_2 w.go_down.ensures.step_seen)
       | else-at-eq0 w ↦
@@ -132,10 +130,18 @@ claim-requires c =
           rw w.memory-is
           (gone-later y (contents w.turn_over.new.memory) r n (λ es vs h. commit-seen h.hand l.enough r h.valid (later-own h r n) y _ w.cells_of-word.ensures.word f.step_seen)
           f.has_arrays_2.1 g.step_seen g.has_arrays_2.1 d.step_seen d.has_arrays_2)
-    ] in
+    ]
+
+-- an array for the block's word
+pub claim-requires : goal.claim-requires
+unfolding memory
+claim-requires c =
+    let h = c.requires.by_index.2 in
+    let r = c.slot_of-slot.ensures.0 in
+    let g = gone (goal.at.claim-requires c).Joined-at-eq0 in
     record {
-      has_arrays = (gone.has, hand-row l h r gone.only.size, (next-heights h r).1);
-      viewed = record { others = away h.hand; view = reached h.hand; seen = gone.seen h; met = reached-claimable h r };
+      has_arrays = (g.has, hand-row c.requires.lent h r g.only.size, (next-heights h r).1);
+      viewed = record { others = away h.hand; view = reached h.hand; seen = g.seen h; met = reached-claimable h r };
     }
 
 pub returns-clause-lent_2 : goal.returns-clause-lent_2
@@ -143,45 +149,17 @@ unfolding memory
 returns-clause-lent_2 c =
     let a = c.args in
     let l = c.requires.lent in
-    let r = c.slot_of-slot.ensures.0 in
     let f = c.claim in
-    let gone : Gone a.layout.m a.paths a.layout.arrays a.e c.slot_of-slot.result a.last a.at (contents a.memory.now) (contents c.if-at-eq0.memory) =
-    elim c.if-at-eq0.branch [
-      | then-at-eq0 w ↦ rw w.memory-is (gone-first r w.if-at-eq0.true l.enough w.go_down.ensures.has_arrays_2 w.go_down.ensures.step_seen)
-      | else-at-eq0 w ↦
-          let n = w.if-at-eq0.false in
-          let f = w.commit.ensures in
-          let g = w.turn_over.ensures in
-          let d = w.go_down-else-at-eq0.ensures in
-          let y = contents w.commit.new.memory in
-          rw w.memory-is
-          (gone-later y (contents w.turn_over.new.memory) r n (λ es vs h. commit-seen h.hand l.enough r h.valid (later-own h r n) y _ w.cells_of-word.ensures.word f.step_seen)
-          f.has_arrays_2.1 g.step_seen g.has_arrays_2.1 d.step_seen d.has_arrays_2)
-    ] in
-    let only = ids-on a.memory.now.rows.now c.if-at-eq0.memory.rows.now gone.only f.ensures.has_arrays_2.1 in (
+    let g = gone (goal.at.returns-clause-lent_2 c).Joined-at-eq0 in
+    let only = ids-on a.memory.now.rows.now c.if-at-eq0.memory.rows.now g.only f.ensures.has_arrays_2.1 in (
       record { few = l.few; rows = omega (arith, l.rows, only.size); has = f.ensures.has_arrays_2.0; enough = l.enough },
-      subst (λ (k : ℕ). IdsOnly a.layout.m k a.memory.now.rows.now f.new.memory.rows.now) r only,
+      subst (λ (k : ℕ). IdsOnly a.layout.m k a.memory.now.rows.now f.new.memory.rows.now) c.slot_of-slot.ensures.0 only,
     )
 
 pub returns-clause-by_index_2 : goal.returns-clause-by_index_2
 unfolding memory
-returns-clause-by_index_2 c =
-    let a = c.args in
-    let l = c.requires.lent in
-    let r = c.slot_of-slot.ensures.0 in
-    let f = c.claim in
-    let gone : Gone a.layout.m a.paths a.layout.arrays a.e c.slot_of-slot.result a.last a.at (contents a.memory.now) (contents c.if-at-eq0.memory) =
-    elim c.if-at-eq0.branch [
-      | then-at-eq0 w ↦ rw w.memory-is (gone-first r w.if-at-eq0.true l.enough w.go_down.ensures.has_arrays_2 w.go_down.ensures.step_seen)
-      | else-at-eq0 w ↦
-          let n = w.if-at-eq0.false in
-          let f = w.commit.ensures in
-          let g = w.turn_over.ensures in
-          let d = w.go_down-else-at-eq0.ensures in
-          let y = contents w.commit.new.memory in
-          rw w.memory-is
-          (gone-later y (contents w.turn_over.new.memory) r n (λ es vs h. commit-seen h.hand l.enough r h.valid (later-own h r n) y _ w.cells_of-word.ensures.word f.step_seen)
-          f.has_arrays_2.1 g.step_seen g.has_arrays_2.1 d.step_seen d.has_arrays_2)
-    ] in
-    let only = ids-on a.memory.now.rows.now c.if-at-eq0.memory.rows.now gone.only f.ensures.has_arrays_2.1 in
-    λ es vs h. claimed-stands h r _ _ l.has.deep (gone.seen h) f.ensures.step_seen only
+returns-clause-by_index_2 c = λ es vs h.
+    let f = c.claim.ensures in
+    let g = gone (goal.at.returns-clause-by_index_2 c).Joined-at-eq0 in
+    claimed-stands h c.slot_of-slot.ensures.0 _ _ c.requires.lent.has.deep (g.seen h) f.step_seen
+    (ids-on c.args.memory.now.rows.now c.if-at-eq0.memory.rows.now g.only f.has_arrays_2.1)
