@@ -14,7 +14,7 @@ use Rattle.reader.specs.Moments.{RunMoment, copy_at, moved_at, queued_at}
 use Rattle.reader.proofs.Fit.{fit-copied}
 use Rattle.reader.proofs.Found.{MoveFound}
 use Rattle.reader.proofs.During.{during-fit, during-move}
-use Rattle.order.specs.Entries.{key_at}
+use Rattle.order.specs.Entries.{key_at, queue_of}
 use Rattle.standing.specs.Seen.{Memory}
 use Rattle.standing.specs.Standing.{Stands}
 use Rattle.standing.proofs.Taken.{taken-blocks}
@@ -103,6 +103,10 @@ module _ {m L D N k n : ℕ} {x : Memory} {e : ℕ} {es vs kinds terms : List �
         let k = move h.book h.arrays h.taken h.rest in
         Stands h.book D N z qs' ws k.arrays (insert (key_of h.book) k.path h.rest)
         × Kepts h.book k.arrays words qs' (insert (key_of h.book) k.path h.rest)
+
+    -- the queue is one longer
+    pub extract-moved : (z : Memory) (order words : List ℕ) (queued : ℕ) → MovedTo z (queue_of order (suc queued)) words → MovedTo z (queue_of order (queued + 1)) words
+    extract-moved z order words queued = subst (λ (i : ℕ). MovedTo z (queue_of order i) words) (omega arith)
 
     module _ {z : Memory} {qs' : List ℕ} (words : List ℕ) (moved : MovedTo z qs' words) where
       abbrev third : Moved

@@ -83,6 +83,13 @@ pub record Searchable (numbers : List ℤ) (at : ℕ) (kinds : List ℕ) (start 
   pub within : at + 2 ^ j ≤ length numbers
   pub small : All (Within 1048064) (part at (2 ^ j) numbers)
 
+-- the same of the block's values alone
+pub record SearchableValues (values : List ℤ) (kinds : List ℕ) (start j : ℕ) : Type 0 where
+  pub low : j ≤ 5
+  pub walk : Walkable kinds start (2 ^ j)
+  pub count : length values ≡ 2 ^ j
+  pub small : All (Within 1048064) values
+
 -- ---- costs
 
 -- the cost of the word with this number at these values

@@ -29,6 +29,7 @@ use Rattle.steps.specs.declared.Tally.{Tally}
 use Rattle.extraction.proofs.Counts.{blocks-few}
 use Rattle.extraction.proofs.Extracts.{visit-length}
 use Rattle.reading.specs.Before.{Before}
+use Rattle.reading.specs.Running.{Running}
 use Rattle.reading.specs.Turning.{Turning}
 use Rattle.reading.proofs.Visits.{Alike}
 use Rattle.reading.proofs.Going.{moment_of, Going}
@@ -143,6 +144,26 @@ module _ {B : Book} {L D N : ℕ} {A : Arrays} {most : ℕ} {x : Memory} {order 
       }
 
 -- ---- on the tables
+
+-- a run of an input, before an extraction of a path that has a next block
+abbrev pub before-turning : {shape : Shape} {s : Settings} {N : ℕ} {values : List ℤ} {tables : Tables} {A : Arrays} {x : Memory} {order vacant visits kept : List ℕ} {t : Tally} {e : ℕ}
+    {path₀ blocks₀ score₀ path blocks score : List ℤ} (c : Running shape values tables) → A.vals shape.m 1 ≡ values →
+    (most_extractions s.visits shape.blocks ≤ length path₀) × (most_extractions s.visits shape.blocks ≤ length blocks₀) × (most_extractions s.visits shape.blocks ≤ length score₀) →
+    Before c.book s.visits s.paths N A t.extractions x order vacant visits kept t e path₀ blocks₀ score₀ path blocks score → ((key_at e).blocks ≡ shape.blocks → ⊥) →
+    Turning shape s N tables x order vacant visits kept t e path blocks score
+before-turning {values = values} {A = A} {path₀ = path₀} {blocks₀ = blocks₀} {score₀ = score₀} c root room g more =
+    record {
+      values = values;
+      input = c;
+      arrays = A;
+      root = root;
+      path₀ = path₀;
+      blocks₀ = blocks₀;
+      score₀ = score₀;
+      room = room;
+      at = g;
+      more = λ q. more (taken-blocks g.stands ∙ q ∙ c.blocks);
+    }
 
 module _ {shape : Shape} {s : Settings} {N : ℕ} {tables : Tables} {x : Memory} {order vacant visits kept : List ℕ} {t : Tally} {e : ℕ} {path blocks score : List ℤ}
     (c : Turning shape s N tables x order vacant visits kept t e path blocks score) where

@@ -5,7 +5,7 @@ use mathlib.Core.List.{List, [], ◌∷◌, ◌++◌, map, map-append}
 use mathlib.Core.Option.{some}
 use Prim.Native.Nat.{ℕ, suc, ◌+◌, ◌-◌, ◌^◌, ◌≤◌, ◌<◌}
 use native.Mathlib.Omega.{arith}
-use lib.IntN.{ℤ}
+use lib.IntN.{ℤ, pos}
 use lib.ListN.{length, length-map}
 use borrow.Author.Tests.{eq-eqb}
 use Rattle.laws.specs.Lists.{sum}
@@ -40,7 +40,7 @@ use Rattle.reading.specs.declared.Ran.{Ran}
 use Rattle.reading.specs.Before.{Before}
 use Rattle.reading.specs.Ending.{Ending}
 use Rattle.reading.specs.Running.{Running, RanIs}
-use Rattle.reading.proofs.Walks.{Walks, Noted, walks_next, sum-next}
+use Rattle.reading.proofs.Walks.{walked-length, Walks, Noted, walks_next, sum-next}
 use Rattle.reading.proofs.Going.{crowded_count, outrun_count}
 use Rattle.reading.proofs.Turns.{ReadAt, run-blocks, input-moment}
 
@@ -87,6 +87,18 @@ module _ {shape : Shape} {values : List ℤ} {tables : Tables} (c : Running shap
   -- extractions still to come
   pub stop-left : t.extractions < most_extractions L shape.blocks
   stop-left = omega (arith, g.few, ap (most_extractions L) c.blocks)
+
+  -- the walk is as large as it was
+  pub stop-room :
+      (most_extractions L shape.blocks ≤ length path₀) × (most_extractions L shape.blocks ≤ length blocks₀) × (most_extractions L shape.blocks ≤ length score₀) →
+      (most_extractions L shape.blocks ≤ length path) × (most_extractions L shape.blocks ≤ length blocks) × (most_extractions L shape.blocks ≤ length score)
+  stop-room room =
+      let done : List Step = map (step_at c.book L D) g.moment.made in
+      let n : length done ≡ t.extractions = length-map g.moment.made (step_at c.book L D) ∙ sym g.moment.extractions in (
+        omega (arith, room.0, stop-left, ap length g.path-is, walked-length (λ (y : Step). pos y.path) done path₀),
+        omega (arith, room.1, stop-left, ap length g.blocks_is, walked-length (λ (y : Step). pos y.blocks) done blocks₀),
+        omega (arith, room.2, stop-left, ap length g.score-is, walked-length (λ (y : Step). y.score) done score₀),
+      )
 
   module _ (more : t.extractions < most) where
     all : g.here.path.blocks ≡ length c.book.blocks
@@ -159,12 +171,12 @@ module _ {shape : Shape} {values : List ℤ} {tables : Tables} (c : Running shap
           score-long = omega (arith, long.2, stop-left);
         }) (record { path-is = g.path-is; blocks_is = g.blocks_is; score-is = g.score-is }) noted)
 
-    -- what the run answers
+    -- what the run answers, whose sums stand in the lent bytes
     pub stop-ran : (r : Ran) (bytes : List ℕ) →
         (r.counts ≡ record { extractions = t.extractions + 1; crowded = t.crowded; outrun = t.outrun; discrepancy = g.here.path.spent + g.here.path.cost })
-        × Id N r.id × (part (spot shape.m r.id shape.m) (2 ^ shape.m) bytes ≡ sums_of (committed stop-hand) shape.m) → RanIs shape.m N whole r bytes
+        × Id N r.id × (part (spot shape.m r.id shape.m) (2 ^ shape.m) bytes ≡ sums_of (committed stop-hand) shape.m) → {lent : List ℕ} → lent ≡ bytes → RanIs shape.m N whole r lent
     unfolding R.final_at counts_of
-    stop-ran r bytes w =
+    stop-ran r bytes w same =
         let B : Book = c.book in
         let p : Path = g.here.path in
         let word : List ℕ = sums_of (R.commit B (ids_of g.here.state.queue) p p.blocks (view_of g.here.state.arrays p)) B.m in
@@ -178,5 +190,5 @@ module _ {shape : Shape} {values : List ℤ} {tables : Tables} (c : Running shap
           counts = w.0 ∙ (λ i. record { extractions = extractions i; crowded = crowded i; outrun = outrun i; discrepancy = p.spent + p.cost });
           id = w.1;
           word =
-              w.2 ∙ ap (sums_of (R.commit B (ids_of g.here.state.queue) p p.blocks (view_of g.here.state.arrays p))) (sym c.deep);
+              ap (part (spot shape.m r.id shape.m) (2 ^ shape.m)) same ∙ w.2 ∙ ap (sums_of (R.commit B (ids_of g.here.state.queue) p p.blocks (view_of g.here.state.arrays p))) (sym c.deep);
         }

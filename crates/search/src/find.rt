@@ -6,10 +6,11 @@ ghost use Rattle.std.proofs.Math.Option.{some};
 ghost use Rattle.polar.specs.Layers.{part};
 ghost use Rattle.codebook.specs.Book.{Book};
 ghost use Rattle.codec.specs.Ties.{Parities};
-ghost use Rattle.outer.specs.Search.{key_of, found, found_pair, Scratch, Searchable};
+ghost use Rattle.outer.specs.Search.{key_of, found, found_pair, Scratch, Searchable, SearchableValues};
 ghost use Rattle.outer.specs.Words.{Word, nearest, next_after};
 ghost use Rattle.outer.specs.Blocks.{parity_set, Bits, BlockTabled, candidate_of, Nexts};
 
+use codebook::Tables;
 use numerals::power;
 use outer::{Next, Pair};
 use passes::least_two::key;
@@ -104,9 +105,72 @@ fn search_pair(
     find_two(numbers, at, n, 0, &steps, &ties, free, words, sums)
 }
 
+// The nearest word of a block by its values, and the next after it, by one search: of all settings of its free bits, after the given parities, the least
+// cost, equals by the smaller number.
+pub fn nearest_pair(
+    values: &[i32],
+    tables: &Tables,
+    start: usize,
+    j: u32,
+    parities: u32,
+    scratch: &mut outer::Scratch,
+) -> Pair
+    requires searchable { SearchableValues values.now tables.now.kinds start j }
+    ensures first_value { (B : Book) (b : ℕ) (x : Parities) → BlockTabled B b tables.now.kinds tables.now.terms start j
+        → Bits x → parities ≡ parity_set B x
+        → (result.first ≡ candidate_of B (nearest B values.now x b))
+        × ((w : Word) → nearest B values.now x b ≡ some w
+        → result.second ≡ candidate_of B (next_after w B values.now x b)) }
+{
+    nearest_pair_of_parts(
+        values,
+        0,
+        &tables.kinds,
+        &tables.terms,
+        start,
+        j,
+        parities,
+        &mut scratch.words,
+        &mut scratch.sums,
+    )
+}
+
+// The next word of a block by its values, after the one with this cost and number and, where that is known too, the next after it.
+pub fn next_after(
+    values: &[i32],
+    tables: &Tables,
+    start: usize,
+    j: u32,
+    parities: u32,
+    cost: u32,
+    number: u32,
+    scratch: &mut outer::Scratch,
+) -> Next
+    requires searchable { SearchableValues values.now tables.now.kinds start j }
+    requires cost_bound { cost < 4294967295 }
+    ensures fact { (B : Book) (b : ℕ) (x : Parities) (own : Word) → BlockTabled B b tables.now.kinds tables.now.terms start j
+        → Bits x → parities ≡ parity_set B x → own.cost ≡ cost → own.number ≡ number
+        → Nexts B values.now x b (next_after own B values.now x b) result }
+{
+    next_after_of_parts(
+        values,
+        0,
+        &tables.kinds,
+        &tables.terms,
+        start,
+        j,
+        parities,
+        cost,
+        number,
+        &mut scratch.words,
+        &mut scratch.sets,
+        &mut scratch.sums,
+    )
+}
+
 // The nearest word of a block, and the next after it, by one search: of all settings of its free bits, after the given parities, the least cost, equals
 // by the smaller number. The tables are scratch.
-pub fn nearest_pair(
+fn nearest_pair_of_parts(
     numbers: &[i32],
     at: usize,
     kinds: &[u8; 512],
@@ -130,7 +194,7 @@ pub fn nearest_pair(
 }
 
 // The next word of a block after the one with this cost and number and, where that is known too, the next after it.
-pub fn next_after(
+fn next_after_of_parts(
     numbers: &[i32],
     at: usize,
     kinds: &[u8; 512],

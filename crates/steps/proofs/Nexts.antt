@@ -21,7 +21,7 @@ use Rattle.outer.specs.declared.Candidate.{Candidate}
 use Rattle.outer.specs.declared.Next.{Next}
 use Rattle.outer.specs.Search.{Searchable}
 use Rattle.outer.specs.Words.{Word, next_after}
-use Rattle.outer.specs.Blocks.{BlockTabled, candidate_of, Nexts}
+use Rattle.outer.specs.Blocks.{Bits, BlockTabled, candidate_of, Nexts}
 use Rattle.outer.proofs.Entries.{block-low, block-walkable}
 use Rattle.reader.specs.Arrays.{vals_of}
 use Rattle.reader.specs.Paths.{Path, key_of, own_word, view_of}
@@ -73,7 +73,7 @@ module _ {m D N : ℕ} {x : Memory} {e : ℕ} {es vs kinds terms : List ℕ} {la
 
   -- ---- what the search needs
 
-  pub copy-tabled : BlockTabled book b kinds terms last.start last.height
+  copy-tabled : BlockTabled book b kinds terms last.start last.height
   copy-tabled =
       let o = c.own.block in
       record { valid = c.booked.valid; inside = o.within; tabled = c.booked.tabled; first = o.start; height = o.height }
@@ -129,13 +129,15 @@ module _ {m D N : ℕ} {x : Memory} {e : ℕ} {es vs kinds terms : List ℕ} {la
   Answers found vs = Nexts book vs path.earlier b (next_after (own_word book path b) book vs path.earlier b) found
 
   pub copy-found : {found : Next} →
+      ((B : Book) (k : ℕ) (p : Path) → BlockTabled B k kinds terms last.start last.height → Bits p.earlier → Row B x.rows (slot_at e) p → p.blocks ≡ suc k →
       (let vs = part (spot m (id_at x.rows (slot_at e) last.height) last.height) (2 ^ last.height) x.numbers in
-      Keeps kept (slot_at e) (candidate_of book (next_after (own_word book path b) book vs path.earlier b)) → Answers found vs) →
+      let after = next_after (own_word B p k) B vs p.earlier k in
+      Keeps kept (slot_at e) (candidate_of B after) → Nexts B vs p.earlier k after found)) →
       Answers found seen
   unfolding Paired
   copy-found {found} q =
       let Found : List ℤ → Type 0 = λ vs. Keeps kept (slot_at e) (candidate_of book (next_after (own_word book path b) book vs path.earlier b)) → Answers found vs in
-      subst Found values-are q (c.known.0.next b c.own.blocks)
+      subst Found values-are (q book b path copy-tabled c.own.fit.earlier row c.own.blocks) (c.known.0.next b c.own.blocks)
 
   -- ---- the words kept, of the paths queued
 

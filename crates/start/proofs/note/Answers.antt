@@ -7,7 +7,6 @@ use lib.ListN.{set}
 use mir.Syntax.{w32}
 use mir.Val.{SFits}
 use mir.Facts.{to_z-of_z}
-use borrow.Author.Rules.{rules}
 use Rattle.laws.proofs.Signed.{abs-fits}
 use Rattle.order.specs.Entries.{key_at}
 use Rattle.start.proofs.note.Goals as goal

@@ -17,7 +17,7 @@ pub returns-then-kept-slot-ne0 : goal.returns-then-kept-slot-ne0
 unfolding Keeps
 returns-then-kept-slot-ne0 c = let l = c.args.kept.now in
     let f = c.slot_of-slot.ensures.0 in
-    let some : 0 < kept_cell l c.slot_of-slot.result 0 = omega (arith, c.if-kept-slot-ne0.true, first_cell l c.slot_of-slot.result) in record { scratch_2 = c.requires.scratch.0; nexts = λ B b p o bits row q k. record { first = c.recall-first.ensures ∙ ap (kept_at l) f ∙ k (subst (λ (i : ℕ). 0 < kept_cell l i 0) f some); second = λ known. absurd (false≢true known) } }
+    let some : 0 < kept_cell l c.slot_of-slot.result 0 = omega (arith, c.if-kept-slot-ne0.true, first_cell l c.slot_of-slot.result) in record { nexts = λ B b p o bits row q k. record { first = c.recall-first.ensures ∙ ap (kept_at l) f ∙ k (subst (λ (i : ℕ). 0 < kept_cell l i 0) f some); second = λ known. absurd (false≢true known) } }
 
 pub next_word-requires : goal.next_word-requires
 next_word-requires c = let f = c.slot_of-slot.ensures in
@@ -25,9 +25,9 @@ next_word-requires c = let f = c.slot_of-slot.ensures in
     record {
       has_row = rw f.0 (p.0, p.1, p.2, p.3);
       searchable = rw f.0 c.requires.searchable;
-      scratch = rw f.0 c.requires.scratch;
+      cost = rw f.0 c.requires.cost;
     }
 
 pub returns : goal.returns
 returns c = let f = c.slot_of-slot.ensures.0 in
-    record { scratch_2 = c.next_word.ensures.scratch_2; nexts = λ B b p o bits row q k. rw f at (c.next_word.ensures.fact B b p o bits (rw f row) q) }
+    record { nexts = λ B b p o bits row q k. rw f at (c.next_word.ensures.fact B b p o bits (rw f row) q) }

@@ -7,7 +7,7 @@ use native.Mathlib.Omega.{arith}
 use lib.ListN.{length}
 use Rattle.reader.specs.Arrays.{descend, by_p}
 use Rattle.order.specs.Entries.{slot_at}
-use Rattle.standing.specs.Seen.{Memory, memory, Enough, HasArrays, Lent, Seen, StepSeen, IdsOnly}
+use Rattle.standing.specs.Seen.{Memory, memory, contents, Enough, HasArrays, Lent, Seen, StepSeen, IdsOnly}
 use Rattle.standing.proofs.Sizes.{slot-low}
 use Rattle.views.specs.Steps.{Upper, Turning}
 use Rattle.views.proofs.Seeing.{ids-on}
@@ -120,51 +120,68 @@ claim-requires c =
     let l = c.requires.lent in
     let h = c.requires.by_index.2 in
     let r = c.slot_of-slot.ensures.0 in
-    let gone : Gone a.m a.paths a.arrays a.e c.slot_of-slot.result a.last a.at (memory a.rows.now a.holders.now a.numbers.now a.bytes.now)
-    (memory c.if-at-eq0.rows c.if-at-eq0.holders c.if-at-eq0.numbers c.if-at-eq0.bytes) =
+    let gone : Gone a.layout.m a.paths a.layout.arrays a.e c.slot_of-slot.result a.last a.at (contents a.memory.now) (contents c.if-at-eq0.memory) =
     elim c.if-at-eq0.branch [
-      | then-at-eq0 w ↦ rw (w.rows-is, w.holders-is, w.numbers-is, w.bytes-is) (gone-first r w.if-at-eq0.true l.enough w.go_down.ensures.has_arrays_2 w.go_down.ensures.step_seen)
+      | then-at-eq0 w ↦ rw w.memory-is (gone-first r w.if-at-eq0.true l.enough w.go_down.ensures.has_arrays_2 w.go_down.ensures.step_seen)
       | else-at-eq0 w ↦
           let n = w.if-at-eq0.false in
           let f = w.commit.ensures in
           let g = w.turn_over.ensures in
           let d = w.go_down-else-at-eq0.ensures in
-          let y = memory w.commit.new.rows w.commit.new.holders a.numbers.now w.commit.new.bytes in
-          let z = memory w.turn_over.new.rows w.turn_over.new.holders w.turn_over.new.numbers w.commit.new.bytes in
-          rw (w.rows-is, w.holders-is, w.numbers-is, w.bytes-is)
-          (gone-later y z r n (λ es vs h. commit-seen h.hand l.enough r h.valid (later-own h r n) y _ w.word_of-word.ensures f.step_seen) f.has_arrays_2.1 g.step_seen g.has_arrays_2.1 d.step_seen d.has_arrays_2)
+          let y = contents w.commit.new.memory in
+          rw w.memory-is
+          (gone-later y (contents w.turn_over.new.memory) r n (λ es vs h. commit-seen h.hand l.enough r h.valid (later-own h r n) y _ w.word_of-word.ensures f.step_seen)
+          f.has_arrays_2.1 g.step_seen g.has_arrays_2.1 d.step_seen d.has_arrays_2)
     ] in
     record {
       has_arrays = (gone.has, hand-row l h r gone.only.size, (next-heights h r).1);
       viewed = record { others = away h.hand; view = reached h.hand; seen = gone.seen h; met = reached-claimable h r };
     }
 
-pub returns : goal.returns
+pub returns-clause-lent_2 : goal.returns-clause-lent_2
 unfolding memory
-returns c =
+returns-clause-lent_2 c =
     let a = c.args in
     let l = c.requires.lent in
     let r = c.slot_of-slot.ensures.0 in
     let f = c.claim in
-    let gone : Gone a.m a.paths a.arrays a.e c.slot_of-slot.result a.last a.at (memory a.rows.now a.holders.now a.numbers.now a.bytes.now)
-    (memory c.if-at-eq0.rows c.if-at-eq0.holders c.if-at-eq0.numbers c.if-at-eq0.bytes) =
+    let gone : Gone a.layout.m a.paths a.layout.arrays a.e c.slot_of-slot.result a.last a.at (contents a.memory.now) (contents c.if-at-eq0.memory) =
     elim c.if-at-eq0.branch [
-      | then-at-eq0 w ↦ rw (w.rows-is, w.holders-is, w.numbers-is, w.bytes-is) (gone-first r w.if-at-eq0.true l.enough w.go_down.ensures.has_arrays_2 w.go_down.ensures.step_seen)
+      | then-at-eq0 w ↦ rw w.memory-is (gone-first r w.if-at-eq0.true l.enough w.go_down.ensures.has_arrays_2 w.go_down.ensures.step_seen)
       | else-at-eq0 w ↦
           let n = w.if-at-eq0.false in
           let f = w.commit.ensures in
           let g = w.turn_over.ensures in
           let d = w.go_down-else-at-eq0.ensures in
-          let y = memory w.commit.new.rows w.commit.new.holders a.numbers.now w.commit.new.bytes in
-          let z = memory w.turn_over.new.rows w.turn_over.new.holders w.turn_over.new.numbers w.commit.new.bytes in
-          rw (w.rows-is, w.holders-is, w.numbers-is, w.bytes-is)
-          (gone-later y z r n (λ es vs h. commit-seen h.hand l.enough r h.valid (later-own h r n) y _ w.word_of-word.ensures f.step_seen) f.has_arrays_2.1 g.step_seen g.has_arrays_2.1 d.step_seen d.has_arrays_2)
+          let y = contents w.commit.new.memory in
+          rw w.memory-is
+          (gone-later y (contents w.turn_over.new.memory) r n (λ es vs h. commit-seen h.hand l.enough r h.valid (later-own h r n) y _ w.word_of-word.ensures f.step_seen)
+          f.has_arrays_2.1 g.step_seen g.has_arrays_2.1 d.step_seen d.has_arrays_2)
     ] in
-    let only = ids-on a.rows.now c.if-at-eq0.rows gone.only f.ensures.has_arrays_2.1 in
-    record {
-      lent_2 = (
-        record { few = l.few; rows = omega (arith, l.rows, only.size); has = f.ensures.has_arrays_2.0; enough = l.enough },
-        subst (λ (k : ℕ). IdsOnly a.m k a.rows.now f.new.rows) r only,
-      );
-      by_index_2 = λ es vs h. claimed-stands h r _ _ l.has.deep (gone.seen h) f.ensures.step_seen only;
-    }
+    let only = ids-on a.memory.now.rows.now c.if-at-eq0.memory.rows.now gone.only f.ensures.has_arrays_2.1 in (
+      record { few = l.few; rows = omega (arith, l.rows, only.size); has = f.ensures.has_arrays_2.0; enough = l.enough },
+      subst (λ (k : ℕ). IdsOnly a.layout.m k a.memory.now.rows.now f.new.memory.rows.now) r only,
+    )
+
+pub returns-clause-by_index_2 : goal.returns-clause-by_index_2
+unfolding memory
+returns-clause-by_index_2 c =
+    let a = c.args in
+    let l = c.requires.lent in
+    let r = c.slot_of-slot.ensures.0 in
+    let f = c.claim in
+    let gone : Gone a.layout.m a.paths a.layout.arrays a.e c.slot_of-slot.result a.last a.at (contents a.memory.now) (contents c.if-at-eq0.memory) =
+    elim c.if-at-eq0.branch [
+      | then-at-eq0 w ↦ rw w.memory-is (gone-first r w.if-at-eq0.true l.enough w.go_down.ensures.has_arrays_2 w.go_down.ensures.step_seen)
+      | else-at-eq0 w ↦
+          let n = w.if-at-eq0.false in
+          let f = w.commit.ensures in
+          let g = w.turn_over.ensures in
+          let d = w.go_down-else-at-eq0.ensures in
+          let y = contents w.commit.new.memory in
+          rw w.memory-is
+          (gone-later y (contents w.turn_over.new.memory) r n (λ es vs h. commit-seen h.hand l.enough r h.valid (later-own h r n) y _ w.word_of-word.ensures f.step_seen)
+          f.has_arrays_2.1 g.step_seen g.has_arrays_2.1 d.step_seen d.has_arrays_2)
+    ] in
+    let only = ids-on a.memory.now.rows.now c.if-at-eq0.memory.rows.now gone.only f.ensures.has_arrays_2.1 in
+    λ es vs h. claimed-stands h r _ _ l.has.deep (gone.seen h) f.ensures.step_seen only

@@ -1,22 +1,18 @@
--- `search::find::nearest_pair` meets its contract: the first of all words, and the first after it. Assumes nothing.
-use mathlib.Core.Path.{ap, ◌∙◌}
-use Prim.Native.Nat.{◌^◌}
-use Rattle.polar.specs.Layers.{part}
-use Rattle.polar.proofs.Writes.{part_length}
-use Rattle.outer.specs.declared.Pair.{Pair}
-use Rattle.outer.specs.Search.{found_pair}
-use Rattle.outer.proofs.Nearest.{found-nearest, found-second}
+-- `search::find::nearest_pair` meets its contract: the values are all of the numbers. Assumes nothing.
+use mathlib.Core.Path.{◌≡◌, subst}
+use mathlib.Core.List.{List}
+use mathlib.Core.Option.{some}
+use Prim.Native.Nat.{ℕ, ◌^◌}
+use lib.IntN.{ℤ}
+use Rattle.outer.specs.Words.{Word, nearest, next_after}
+use Rattle.outer.specs.Blocks.{candidate_of}
+use Rattle.outer.proofs.Values.{whole, searchable-whole}
 use Rattle.search.proofs.find.nearest_pair.Goals as goal
 
+pub nearest_pair_of_parts-requires-clause-searchable : goal.nearest_pair_of_parts-requires-clause-searchable
+nearest_pair_of_parts-requires-clause-searchable c = searchable-whole c.args.values.now c.args.tables.now.kinds c.args.start c.args.j c.requires.searchable
+
 pub returns : goal.returns
-unfolding found_pair
-returns c = let a = c.args in
-    let l = part a.at (2 ^ a.j) a.numbers.now in
-    let size = part_length a.at (2 ^ a.j) a.numbers.now c.requires.searchable.within in record {
-      words_len_2 = c.search_pair.ensures.words_len_2;
-      first_value = λ B b x o h e.
-          let q = c.search_pair.ensures.value ∙ ap (λ p. found_pair a.kinds.now a.terms.now a.start p (2 ^ a.j) l) e in (
-            ap (λ (y : Pair). y.first) q ∙ found-nearest B b a.kinds.now a.terms.now a.start a.j o x h l size,
-            λ w z. ap (λ (y : Pair). y.second) q ∙ found-second B b a.kinds.now a.terms.now a.start a.j o x h l size w z,
-          );
-    }
+returns c = let r = c.nearest_pair_of_parts in record {
+  first_value = λ B b x o h e. subst (λ (vs : List ℤ). (r.result.first ≡ candidate_of B (nearest B vs x b)) × ((w : Word) → nearest B vs x b ≡ some w → r.result.second ≡ candidate_of B (next_after w B vs x b))) (whole c.args.values.now (2 ^ c.args.j) c.requires.searchable.count) (r.ensures.first_value B b x o h e);
+}
