@@ -1,5 +1,4 @@
 -- `attempts::attempt::refused` meets its contract: the record by default is that of zeros. Assumes nothing.
-use Rattle.machine.specs.declared.HookDecoded.{HookDecoded}
 use mathlib.Core.Path.{ap}
 use Rattle.std.specs.Prelude.{Err}
 use Rattle.codec.specs.declared.HookRecord.{HookRecord}
