@@ -9,7 +9,7 @@ mod command;
 
 ghost use Rattle.std.specs.Prelude.{◌+◌, ◌≤◌, ◌<◌, length};
 
-use codebook::{Outcome, Refusal, refusal_number};
+use codebook::{Refusal, Shape};
 use command::{print_command, width};
 use loading::load;
 use text::{print_number, print_words};
@@ -17,51 +17,19 @@ use text::{print_number, print_words};
 // Standard input's descriptor.
 const STDIN_FILENO: i32 = 0;
 
-// What the book up to a command's end comes to.
-#[derive(Clone, Copy)]
-enum Verdict {
-    Good,
-    Last,
-    Faulty,
-}
-
-// The loader's word on these bytes.
-fn judged(book: &[u8]) -> Verdict {
-    let x = load(book);
-    let outcome = x.outcome;
-    match outcome {
-        Outcome::Done => Verdict::Last,
-        Outcome::Refused(r) => match r {
-            Refusal::Truncated => Verdict::Good,
-            _ => Verdict::Faulty,
-        },
-    }
-}
-
 // Where the command at a place ends, or the book.
 fn end_of(book: &[u8], at: usize) -> usize
     requires { at < length book.now }
     ensures { (at < result) × (result ≤ at + 6) × (result ≤ length book.now) }
 {
-    let w = width(book[at]);
-    if book.len() - at < w {
-        return book.len();
-    }
-    at + w
+    at + width(book[at]).min(book.len() - at)
 }
 
 // Whether the book up to the end of the command at a place is refused only because it ends there.
 fn good(book: &[u8], at: usize, next: usize) -> bool
     requires { (at < next) × (next ≤ length book.now) }
 {
-    if next - at < width(book[at]) {
-        return false;
-    }
-    let j = judged(&book[..next]);
-    match j {
-        Verdict::Good => true,
-        _ => false,
-    }
+    next - at >= width(book[at]) && load(&book[..next]) == Err(Refusal::Truncated)
 }
 
 // Prints the commands up to the last or the first faulty one: its place, or the book's end.
@@ -71,7 +39,7 @@ fn list(book: &[u8]) -> usize
     let mut at = 0;
     while at < book.len() {
         let next = end_of(book, at);
-        print_command(book, at, next);
+        print_command(at, &book[at..next]);
         if !good(book, at, next) {
             return at;
         }
@@ -98,37 +66,38 @@ fn fault(book: &[u8], at: usize) -> usize {
         return book.len();
     }
     let next = end_of(book, at);
-    let j = judged(&book[..next]);
-    match j {
-        Verdict::Last => next,
-        _ => at,
+    if load(&book[..next]).is_ok() {
+        next
+    } else {
+        at
     }
 }
 
-fn print_shape(n: u32, k: u32, blocks: u32) {
+fn print_shape(x: Shape) {
     print_words(b"n ");
-    print_number(n as u64);
+    print_number(x.n as u64);
     print_words(b", k ");
-    print_number(k as u64);
+    print_number(x.k as u64);
     print_words(b", V ");
-    print_number(blocks as u64);
+    print_number(x.blocks as u64);
+    print_words(b"\n");
+}
+
+// The refusal of a book whose commands end, or one of them is faulty, at a place.
+fn print_refusal(r: Refusal, book: &[u8], at: usize) {
+    print_words(b"refused ");
+    print_number(u32::from(r) as u64);
+    print_word(r);
+    print_words(b" at byte ");
+    print_number(fault(book, at) as u64);
     print_words(b"\n");
 }
 
 fn show(book: &[u8]) {
     let at = list(book);
-    let x = load(book);
-    let outcome = x.outcome;
-    match outcome {
-        Outcome::Done => print_shape(x.n, x.k, x.blocks),
-        Outcome::Refused(r) => {
-            print_words(b"refused ");
-            print_number(refusal_number(r) as u64);
-            print_word(r);
-            print_words(b" at byte ");
-            print_number(fault(book, at) as u64);
-            print_words(b"\n");
-        }
+    match load(book) {
+        Ok(x) => print_shape(x),
+        Err(r) => print_refusal(r, book, at),
     }
 }
 

@@ -1,78 +1,30 @@
 // Replays recorded load cases: reads a stream of operations on standard input (reference/README.md has its format), and prints for each case what
-// the load call answers. The output is held to what the independent reference printed. Relies on loading::load and numerals::two.
+// the load call answers. The output is held to what the independent reference printed. Relies on loading::load, numerals::two and crate text.
 
 #![tactic(auto)]
 
-ghost use Rattle.std.specs.Prelude.{◌+◌, ◌<◌, ◌≤◌, length};
+ghost use Rattle.std.specs.Prelude.{◌≤◌, length};
 
-use codebook::Shape;
+use codebook::{Refusal, Shape};
 use numerals::two;
+use text::{print_number, print_words};
 
 // Standard input's descriptor.
 const STDIN_FILENO: i32 = 0;
 
-// Standard output's descriptor.
-const STDOUT_FILENO: i32 = 1;
-
-fn print_field(n: u64) {
-    io::write_all(STDOUT_FILENO, b" ");
-    io::print_decimal(STDOUT_FILENO, n);
-}
-
-// N load A n k V
-fn print_case(case: u64, x: Shape) {
-    let outcome = x.outcome;
-    io::print_decimal(STDOUT_FILENO, case);
-    io::write_all(STDOUT_FILENO, b" load");
-    print_field(codebook::outcome_number(outcome) as u64);
-    print_field(x.n as u64);
-    print_field(x.k as u64);
-    print_field(x.blocks as u64);
-    io::write_all(STDOUT_FILENO, b"\n");
-}
-
-// The book from a place of the stream on, as much of it as there is: the place after it.
-fn copy_book(s: &[u8], from: usize, count: usize, book: &mut [u8]) -> usize
-    requires { (from ≤ length s.now) × (count < 65536) }
-    ensures { (from ≤ result) × (result ≤ length s.now) }
-{
-    let mut i = 0;
-    while i < count {
-        if s.len() - from <= i {
-            return s.len();
-        }
-        if book.len() <= i {
-            return s.len();
-        }
-        book[i] = s[from + i];
-        i += 1;
+// N load A n k V, the last three 0 after a refusal
+fn print_case(case: u64, loaded: Result<Shape, Refusal>) {
+    let fields = match loaded {
+        Ok(x) => [0, x.n, x.k, x.blocks],
+        Err(r) => [u32::from(r), 0, 0, 0],
+    };
+    print_number(case);
+    print_words(b" load");
+    for field in fields {
+        print_words(b" ");
+        print_number(field as u64);
     }
-    from + count
-}
-
-// One byte of the book changed.
-fn patch(book: &mut [u8], at: usize, value: u8) {
-    if book.len() <= at {
-        return;
-    }
-    book[at] = value;
-}
-
-// A new book, or one byte of it changed: the place after the operation, and the end of the stream after any other.
-fn change(s: &[u8], at: usize, book: &mut [u8]) -> usize
-    requires { at + 3 < length s.now }
-    ensures { (at < result) × (result ≤ length s.now) }
-{
-    let op = s[at];
-    let field = two(s, at + 1) as usize;
-    if op == 1 {
-        return copy_book(s, at + 3, field, book);
-    }
-    if op == 2 {
-        patch(book, field, s[at + 3]);
-        return at + 4;
-    }
-    s.len()
+    print_words(b"\n");
 }
 
 // The case of the book's first bytes.
@@ -82,17 +34,42 @@ fn load_case(case: u64, book: &[u8], count: usize) {
     }
 }
 
-// The operations of the stream, one after another.
-fn replay(s: &[u8], book: &mut [u8]) {
+// The first `count` bytes, as many as there are and fit, at the start of the book: their number.
+fn copy_book(bytes: &[u8], count: usize, book: &mut [u8]) -> usize
+    ensures { (result ≤ count) × (result ≤ length bytes.now) }
+{
+    let n = count.min(bytes.len()).min(book.len());
+    book[..n].copy_from_slice(&bytes[..n]);
+    n
+}
+
+// The operations of the stream, one after another: a new book, one byte of it changed, or a case. It ends where a book is cut off or does not fit, and
+// at any other operation.
+fn replay(stream: &[u8], book: &mut [u8]) {
     let mut case: u64 = 0;
-    let mut at: usize = 0;
-    while 3 < s.len() - at {
-        if s[at] == 3 {
-            case += 1;
-            load_case(case, book, two(s, at + 1) as usize);
-            at += 3;
-        } else {
-            at = change(s, at, book);
+    let mut rest = stream;
+    while 3 < rest.len() {
+        let field = two(rest, 1) as usize;
+        match rest[0] {
+            1 => {
+                let bytes = &rest[3..];
+                if copy_book(bytes, field, book) < field {
+                    return;
+                }
+                rest = &bytes[field..];
+            }
+            2 => {
+                if let Some(byte) = book.get_mut(field) {
+                    *byte = rest[3];
+                }
+                rest = &rest[4..];
+            }
+            3 => {
+                case += 1;
+                load_case(case, book, field);
+                rest = &rest[3..];
+            }
+            _ => return,
         }
     }
 }

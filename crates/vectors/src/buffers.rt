@@ -1,95 +1,76 @@
-// Buffers: the part that a case uses, what it holds before the call, and its checksum after (reference/README.md, "Recorded cases").
-// Relies on stream.rt and numerals::wide.
+// Buffers: those that the decoding calls are lent parts of, what a part holds before a call, and its checksum after (reference/README.md, "Recorded cases").
+// Relies on no other file.
 ghost use Rattle.std.specs.Prelude.{◌<◌};
 
-use crate::stream::least;
-use numerals::wide;
+// The workspace and the walk.
+#[derive(Drop)]
+pub struct Buffers {
+    pub numbers: [i32; 270344],
+    pub bytes: [u8; 262152],
+    pub path: [i32; 16385],
+    pub blocks: [i32; 16385],
+    pub score: [i32; 16385],
+}
 
 // The start of a buffer: `count` entries, or all that there are.
-pub fn lend_bytes(buffer: &mut [u8], count: usize) -> &mut [u8] {
-    let n = least(count, buffer.len());
-    &mut buffer[0..n]
+pub fn lend<T>(buffer: &mut [T], count: usize) -> &mut [T] {
+    let n = count.min(buffer.len());
+    &mut buffer[..n]
 }
 
-pub fn lend_numbers(buffer: &mut [i32], count: usize) -> &mut [i32] {
-    let n = least(count, buffer.len());
-    &mut buffer[0..n]
+// What an entry holds before a call.
+pub trait Garbage {
+    fn garbage(index: usize) -> Self;
 }
 
-pub fn lend_values(buffer: &mut [i16], count: usize) -> &mut [i16] {
-    let n = least(count, buffer.len());
-    &mut buffer[0..n]
-}
-
-fn wider(x: i16) -> i32 {
-    x as i32
-}
-
-fn garbage_byte(i: usize) -> u8 {
-    ((37 * (i % 256) + 101) % 256) as u8
-}
-
-fn garbage_number(i: usize) -> i32 {
-    ((7919 * (i % 65521) + 104729) % 65521) as i32 - 30000
-}
-
-pub fn fill_bytes(buffer: &mut [u8]) {
-    let mut i: usize = 0;
-    while i < buffer.len() {
-        buffer[i] = garbage_byte(i);
-        i += 1;
+impl Garbage for u8 {
+    fn garbage(index: usize) -> u8 {
+        ((37 * (index % 256) + 101) % 256) as u8
     }
 }
 
-pub fn fill_numbers(buffer: &mut [i32]) {
-    let mut i: usize = 0;
-    while i < buffer.len() {
-        buffer[i] = garbage_number(i);
-        i += 1;
+impl Garbage for i32 {
+    fn garbage(index: usize) -> i32 {
+        ((7919 * (index % 65521) + 104729) % 65521) as i32 - 30000
     }
 }
 
-// A number of 32 bits, a negative one plus 2^32.
-pub fn unsigned(x: i32) -> u64
-    ensures { result < 4294967296 }
-{
-    (x as i64 + 4294967296) as u64 % 4294967296
+pub fn fill<T: Garbage + Drop>(buffer: &mut [T]) {
+    for (i, entry) in buffer.iter_mut().enumerate() {
+        *entry = T::garbage(i);
+    }
 }
 
-// The checksum with one entry more.
-fn added(sum: u64, entry: u64) -> u64
-    requires { sum < 65521 }
+// The number of 32 bits that an entry counts as: a negative one plus 2^32.
+pub trait Counted {
+    fn counted(&self) -> u32;
+}
+
+impl Counted for u8 {
+    fn counted(&self) -> u32 {
+        *self as u32
+    }
+}
+
+impl Counted for i16 {
+    fn counted(&self) -> u32 {
+        (*self as i32).cast_unsigned()
+    }
+}
+
+impl Counted for i32 {
+    fn counted(&self) -> u32 {
+        self.cast_unsigned()
+    }
+}
+
+// The checksum of a buffer.
+pub fn sum<T: Counted>(buffer: &[T]) -> u64
     ensures { result < 65521 }
 {
-    (31 * sum + entry % 65521) % 65521
-}
-
-pub fn sum_bytes(buffer: &[u8]) -> u64 {
     let mut sum: u64 = 0;
-    let mut i: usize = 0;
-    while i < buffer.len() {
-        sum = added(sum, wide(buffer[i]) as u64);
-        i += 1;
-    }
-    sum
-}
-
-pub fn sum_numbers(buffer: &[i32]) -> u64 {
-    let mut sum: u64 = 0;
-    let mut i: usize = 0;
-    while i < buffer.len() {
-        sum = added(sum, unsigned(buffer[i]));
-        i += 1;
-    }
-    sum
-}
-
-pub fn sum_values(values: &[i16]) -> u64 {
-    let mut sum: u64 = 0;
-    let mut i: usize = 0;
-    while i < values.len() {
-        sum = added(sum, unsigned(wider(values[i])));
-        i += 1;
+    for entry in buffer {
+        sum = (31 * sum + entry.counted() as u64 % 65521) % 65521;
     }
     sum
 }

@@ -1,4 +1,5 @@
 // Lines of the output. A line begins with its case and a name; each field comes after one space. Relies on the crate text.
+use codebook::{Outcome, outcome_number};
 use text::print_words;
 
 // The start of a line: the case, and the name with a space before it.
@@ -21,12 +22,17 @@ pub fn print_signed(x: i32) {
     text::print_signed(x);
 }
 
+// What a call answers, as its number.
+pub fn print_outcome(outcome: Outcome) {
+    print_number(outcome_number(outcome) as u64);
+}
+
 // Bits as digits: "-" after a refusal, and where there are none.
-pub fn print_bits(answer: u32, bits: &[u8]) {
+pub fn print_bits(outcome: Outcome, bits: &[u8]) {
     print_words(b" ");
-    if answer != 0 || bits.len() == 0 {
+    if outcome.is_err() || bits.is_empty() {
         print_words(b"-");
-        return;
+    } else {
+        text::print_bits(bits);
     }
-    text::print_bits(bits);
 }

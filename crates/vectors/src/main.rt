@@ -12,13 +12,12 @@ mod lines;
 mod records;
 mod stream;
 
-ghost use Rattle.std.specs.Prelude.{◌≡◌, length};
-
-use crate::buffers::lend_bytes;
+use crate::buffers::{Buffers, lend};
 use crate::codewords::{encode_case, read_case, test_case};
 use crate::decoding::decode_case;
 use crate::records::{make_case, record_case};
-use crate::stream::{least, next, next_operation};
+use crate::stream::{Operation, next, next_operation};
+use machine::Reads;
 use numerals::two;
 
 // A new book: its length.
@@ -26,7 +25,7 @@ fn new_book(book: &mut [u8]) -> usize {
     let mut fields = [0u8; 2];
     next(&mut fields);
     let count = two(&fields, 0) as usize;
-    next(lend_bytes(book, count));
+    next(lend(book, count));
     count
 }
 
@@ -34,105 +33,52 @@ fn new_book(book: &mut [u8]) -> usize {
 fn patch(book: &mut [u8]) {
     let mut fields = [0u8; 3];
     next(&mut fields);
-    let at = two(&fields, 0) as usize;
-    if at < book.len() {
-        book[at] = fields[2];
+    if let Some(byte) = book.get_mut(two(&fields, 0) as usize) {
+        *byte = fields[2];
     }
 }
 
-// A case of a call that decodes nothing.
-fn small_case(op: u8, case: u64, book: &[u8]) {
-    match op {
-        4 => encode_case(case, book),
-        5 => test_case(case, book),
-        6 => read_case(case, book),
-        7 => make_case(case, book),
-        8 => record_case(case, book),
+// A case of a book.
+fn any_case(operation: Operation, case: u64, book: &[u8], buffers: &mut Buffers) {
+    match operation {
+        Operation::Encode => encode_case(case, book),
+        Operation::Test => test_case(case, book),
+        Operation::ReadData => read_case(case, book),
+        Operation::MakeRecord => make_case(case, book),
+        Operation::ReadRecord => record_case(case, book),
+        Operation::Decode => decode_case(case, Reads::Data, book, buffers),
+        Operation::DecodeHook => decode_case(case, Reads::Record, book, buffers),
         _ => {}
     }
 }
 
-// A case of the book's first bytes.
-fn any_case(
-    op: u8,
-    case: u64,
-    room: &[u8],
-    count: usize,
-    numbers: &mut [i32],
-    bytes: &mut [u8],
-    path: &mut [i32],
-    blocks: &mut [i32],
-    score: &mut [i32],
-) {
-    let n = least(count, room.len());
-    let book = &room[0..n];
-    if op == 9 || op == 10 {
-        decode_case(case, op == 10, book, numbers, bytes, path, blocks, score);
-    } else {
-        small_case(op, case, book);
-    }
-}
-
-// The operations of the stream, up to 100,000.
-fn replay(
-    book: &mut [u8],
-    numbers: &mut [i32],
-    bytes: &mut [u8],
-    path: &mut [i32],
-    blocks: &mut [i32],
-    score: &mut [i32],
-) {
+// The operations of the stream, up to 100,000. The book is the first bytes of its room.
+fn replay(room: &mut [u8], buffers: &mut Buffers) {
     let mut count: usize = 0;
     let mut case: u64 = 0;
-    let mut i: usize = 0;
-    while i < 100000 {
-        i += 1;
-        let op = next_operation();
-        if op == 0 {
+    for _turn in 0..100000u64 {
+        let Some(operation) = next_operation() else {
             return;
-        }
-        if op == 1 {
-            count = new_book(book);
-        } else if op == 2 {
-            patch(book);
-        } else {
-            case += 1;
-            any_case(op, case, book, count, numbers, bytes, path, blocks, score);
+        };
+        match operation {
+            Operation::Book => count = new_book(room),
+            Operation::Patch => patch(room),
+            _ => {
+                case += 1;
+                any_case(operation, case, lend(room, count), buffers);
+            }
         }
     }
-}
-
-fn numbers_buffer() -> [i32; 270344]
-    ensures { 270344 ≡ length result }
-{
-    [0; 270344]
-}
-
-fn bytes_buffer() -> [u8; 262152]
-    ensures { 262152 ≡ length result }
-{
-    [0; 262152]
-}
-
-fn walk_buffer() -> [i32; 16385]
-    ensures { 16385 ≡ length result }
-{
-    [0; 16385]
 }
 
 fn main() {
-    let mut book = [0u8; 8000];
-    let mut numbers = numbers_buffer();
-    let mut bytes = bytes_buffer();
-    let mut path = walk_buffer();
-    let mut blocks = walk_buffer();
-    let mut score = walk_buffer();
-    replay(
-        &mut book,
-        &mut numbers,
-        &mut bytes,
-        &mut path,
-        &mut blocks,
-        &mut score,
-    );
+    let mut room = [0u8; 8000];
+    let mut buffers = Buffers {
+        numbers: [0; 270344],
+        bytes: [0; 262152],
+        path: [0; 16385],
+        blocks: [0; 16385],
+        score: [0; 16385],
+    };
+    replay(&mut room, &mut buffers);
 }

@@ -1,17 +1,23 @@
-// The recorded stream on standard input: bytes, numbers and soft values. All numbers are big-endian. What lies past the stream's end is not
-// read, so that a buffer keeps its zeros there. Relies on the crates io and numerals.
-ghost use Rattle.std.specs.Prelude.{◌<◌, ◌≤◌};
-
-use numerals::two;
+// The recorded stream on standard input: operations, bytes and soft values. All numbers are big-endian. What lies past the stream's end is not
+// read, so that a buffer keeps its zeros there. Relies on the crate io.
 
 // Standard input's descriptor.
 const STDIN_FILENO: i32 = 0;
 
-// The lesser of two.
-pub fn least(a: usize, b: usize) -> usize
-    ensures { result ≤ b }
-{
-    if a < b { a } else { b }
+// What an operation of the stream is for: a new book, one byte of it changed, or a case of a call.
+#[derive(Clone, Copy, PartialEq, Eq)]
+pub enum Operation {
+    Book,
+    Patch,
+    Encode,
+    Test,
+    ReadData,
+    MakeRecord,
+    ReadRecord,
+    Decode,
+    DecodeHook,
+    // A case that is not replayed here, as of a load.
+    Other,
 }
 
 // The next bytes, as many as the buffer has.
@@ -19,30 +25,30 @@ pub fn next(buffer: &mut [u8]) {
     io::read_full(STDIN_FILENO, buffer);
 }
 
-// The next operation: 0 at the end.
-pub fn next_operation() -> u8 {
-    let mut byte = [0u8; 1];
-    next(&mut byte);
-    byte[0]
-}
-
-// A number of 16 bits as two's complement.
-fn signed(x: u32) -> i16
-    requires { x < 65536 }
-{
-    if x < 32768 {
-        return x as i16;
+// The next operation, if the stream does not end.
+pub fn next_operation() -> Option<Operation> {
+    let mut code = [0u8; 1];
+    next(&mut code);
+    match code[0] {
+        0 => None,
+        1 => Some(Operation::Book),
+        2 => Some(Operation::Patch),
+        4 => Some(Operation::Encode),
+        5 => Some(Operation::Test),
+        6 => Some(Operation::ReadData),
+        7 => Some(Operation::MakeRecord),
+        8 => Some(Operation::ReadRecord),
+        9 => Some(Operation::Decode),
+        10 => Some(Operation::DecodeHook),
+        _ => Some(Operation::Other),
     }
-    (x as i32 - 65536) as i16
 }
 
 // The next soft values, as many as the slice has.
 pub fn next_values(values: &mut [i16]) {
-    let mut i: usize = 0;
-    while i < values.len() {
+    for value in values.iter_mut() {
         let mut bytes = [0u8; 2];
         next(&mut bytes);
-        values[i] = signed(two(&bytes, 0));
-        i += 1;
+        *value = i16::from_be_bytes(bytes);
     }
 }

@@ -3,7 +3,7 @@
 
 #![tactic(auto)]
 
-ghost use Rattle.std.specs.Prelude.{◌+◌, ◌<◌, ◌≤◌, length};
+ghost use Rattle.std.specs.Prelude.{◌≤◌, length};
 
 use listing::list;
 use numerals::four;
@@ -12,60 +12,22 @@ use text::{print_number, print_words};
 // Standard input's descriptor.
 const STDIN_FILENO: i32 = 0;
 
-// Four bytes of the stream as a number.
-fn field_at(s: &[u8], at: usize) -> usize
-    requires { at + 4 ≤ length s.now }
+// The first `count` bytes, as many as there are and fit, at the start of the input: their number.
+fn copy_input(bytes: &[u8], count: usize, input: &mut [u8]) -> usize
+    ensures { (result ≤ length bytes.now) × (result ≤ length input.old) }
 {
-    four(s, at) as usize
-}
-
-// Where the stream stands, and how long the current input is.
-#[derive(Clone, Copy)]
-struct Place {
-    at: usize,
-    size: usize,
-}
-
-// The bytes of the stream from a place on, as many as there are and fit, at the start of the input: their number.
-fn copy_input(s: &[u8], from: usize, count: usize, input: &mut [u8]) -> usize
-    requires { from ≤ length s.now }
-    ensures { (from + result ≤ length s.now) × (result ≤ length input.old) }
-{
-    let mut i = 0;
-    while i < count {
-        if s.len() - from <= i {
-            return i;
-        }
-        if input.len() <= i {
-            return i;
-        }
-        input[i] = s[from + i];
-        i += 1;
-    }
-    i
-}
-
-// One byte of the input changed.
-fn patch(input: &mut [u8], at: usize, value: u8) {
-    if at < input.len() {
-        input[at] = value;
-    }
+    let n = count.min(bytes.len()).min(input.len());
+    input[..n].copy_from_slice(&bytes[..n]);
+    n
 }
 
 // So many bytes of a value after the input, as many as fit: the whole length.
 fn pad(input: &mut [u8], size: usize, count: usize, value: u8) -> usize
     requires { size ≤ length input.old }
-    ensures { (size ≤ result) × (result ≤ length input.old) }
 {
-    let mut i = 0;
-    while i < count {
-        if input.len() - size <= i {
-            return input.len();
-        }
-        input[size + i] = value;
-        i += 1;
-    }
-    size + i
+    let end = size + count.min(input.len() - size);
+    input[size..end].fill(value);
+    end
 }
 
 // A case: its number, and the listing of the input's first bytes.
@@ -78,46 +40,37 @@ fn print_case(case: u64, input: &[u8], count: usize) {
     }
 }
 
-// A new input, or one byte of it changed: the place after the operation, and the end of the stream after any other.
-fn change(s: &[u8], at: usize, size: usize, input: &mut [u8]) -> Place
-    requires { (at + 5 < length s.now) × (size ≤ length input.old) }
-    ensures { (at < result.at) × (result.at ≤ length s.now) × (result.size ≤ length input.old) }
-{
-    let op = s[at];
-    let field = field_at(s, at + 1);
-    if op == 1 {
-        let count = copy_input(s, at + 5, field, input);
-        return Place {
-            at: at + 5 + count,
-            size: count,
-        };
-    }
-    if op == 2 {
-        patch(input, field, s[at + 5]);
-        return Place { at: at + 6, size };
-    }
-    Place { at: s.len(), size }
-}
-
-// The operations of the stream, one after another.
-fn replay(s: &[u8], input: &mut [u8]) {
+// The operations of the stream, one after another: a new input, one byte of it changed, or a case, of the input's first bytes or of the padded input. It
+// ends at any other operation.
+fn replay(stream: &[u8], input: &mut [u8]) {
     let mut case: u64 = 0;
-    let mut p = Place { at: 0, size: 0 };
-    while 5 < s.len() - p.at {
-        let at = p.at;
-        let size = p.size;
-        let op = s[at];
-        if op == 3 {
-            case += 1;
-            print_case(case, input, field_at(s, at + 1));
-            p = Place { at: at + 5, size };
-        } else if op == 4 {
-            case += 1;
-            let whole = pad(input, size, field_at(s, at + 1), s[at + 5]);
-            print_case(case, input, whole);
-            p = Place { at: at + 6, size };
-        } else {
-            p = change(s, at, size, input);
+    let mut size = 0;
+    let mut rest = stream;
+    while 5 < rest.len() {
+        let field = four(rest, 1) as usize;
+        match rest[0] {
+            1 => {
+                size = copy_input(&rest[5..], field, input);
+                rest = &rest[5 + size..];
+            }
+            2 => {
+                if let Some(byte) = input.get_mut(field) {
+                    *byte = rest[5];
+                }
+                rest = &rest[6..];
+            }
+            3 => {
+                case += 1;
+                print_case(case, input, field);
+                rest = &rest[5..];
+            }
+            4 => {
+                case += 1;
+                let whole = pad(input, size, field, rest[5]);
+                print_case(case, input, whole);
+                rest = &rest[6..];
+            }
+            _ => return,
         }
     }
 }

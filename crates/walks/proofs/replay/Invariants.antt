@@ -1,13 +1,10 @@
--- The loop invariants of replay, and what falls at each turn.
-use mathlib.Core.Path.{◌≡◌}
-use Prim.Native.Nat.{◌≤◌, ◌-◌}
-use native.Mathlib.Omega.{arith}
+-- The loop of replay: each operation takes five bytes or more of the stream, and the input fits its buffer.
+use Prim.Native.Nat.{◌+◌, ◌≤◌}
 use lib.ListN.{length}
-use borrow.Author.Rules.{rules}
 use Rattle.walks.proofs.replay.Given as goal
 
-abbrev pub invariant-loop-p : goal.invariant-loop-p
-invariant-loop-p l = (l.p.at ≤ length l.s) × (l.p.size ≤ length l.input) × (l.case ≤ l.p.at) × (length l.input ≡ length l.initial.input)
+abbrev pub invariant-loop-rest : goal.invariant-loop-rest
+invariant-loop-rest l = (l.case + length l.rest ≤ length l.stream) × (l.size ≤ length l.input)
 
-abbrev pub decreases-loop-p : goal.decreases-loop-p
-decreases-loop-p l = length l.s - l.p.at
+abbrev pub decreases-loop-rest : goal.decreases-loop-rest
+decreases-loop-rest l = length l.rest

@@ -3,4 +3,4 @@ use Rattle.listing.proofs.Printed.{free-within}
 use Rattle.listing.proofs.decoding.shape.Goals as goal
 
 pub returns : goal.returns
-returns c = free-within _ _ c.load.ensures.value
+returns c = rw c.load.ensures.value (free-within c.args.book.now)

@@ -1,9 +1,0 @@
--- The loop invariants of lines.print_walk, and what falls at each turn.
-use Prim.Native.Nat.{◌≤◌, ◌-◌}
-use Rattle.listing.proofs.lines.print_walk.Given as goal
-
-abbrev pub invariant-loop-i : goal.invariant-loop-i
-invariant-loop-i l = l.i ≤ l.count
-
-abbrev pub decreases-loop-i : goal.decreases-loop-i
-decreases-loop-i l = l.count - l.i
