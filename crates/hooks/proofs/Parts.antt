@@ -8,7 +8,6 @@ use native.Mathlib.Omega.{arith}
 use lib.ListN.{length, get_or, take, drop, set}
 use lib.Seq.{drop-cons, take-suc, take-suc-set, take_at, drop_at, length-take-le}
 use borrow.Rule.Slice.PartMut.{mid_of, put_mid}
-use mathlib.Core.Option.{Option, none, some}
 use borrow.Author.Tests.{eq-eqb, ne_eqb}
 use Rattle.std.specs.Prelude.{Ok, Err}
 use Rattle.laws.specs.Lists.{All}
@@ -17,8 +16,9 @@ use Rattle.polar.specs.Bits.{Bit, to_bits, from_bits}
 use Rattle.codebook.specs.declared.Refusal.TheVariants.{Unreadable}
 use Rattle.codec.specs.declared.Status.{Status}
 use Rattle.codec.specs.declared.UnknownStatus.{UnknownStatus}
-use Rattle.codec.specs.Record.{status_of, known_status, status_given, field_at, record_with, read_record}
+use Rattle.codec.specs.Record.{status_given, field_at, record_with, read_record}
 use Rattle.codec.specs.Calls.{record_read}
+use Rattle.codec.proofs.Record.{status-none, status-some}
 use Rattle.polar.proofs.Bits.{to_bits-length}
 
 -- ---- a field's bits
@@ -68,30 +68,15 @@ pub part_bits : (ds : List ℕ) (i w : ℕ) → All Bit ds → All Bit (take w (
 part_bits ds i w h = all_take Bit w (drop i ds) (all_drop Bit i ds h)
 
 module _ (ds : List ℕ) (n : ℕ) (e : n ≡ field_at ds 27 3) where
-  -- by the status that the number has, or has not
-  unknown : (o : Option Status) {u : UnknownStatus} → Err u ≡ known_status n o → Err Unreadable ≡ record_read (record_with ds o)
-  unfolding known_status record_with record_read
-  unknown none q = refl
-  unknown (some s) q = cc
-
-  known : (o : Option Status) {s : Status} → Ok s ≡ known_status n o → o ≡ some s
-  unfolding known_status
-  known none q = cc
-  known (some t) q = cc
-
   pub no-status : {u : UnknownStatus} → Err u ≡ status_given n → Err Unreadable ≡ record_read (read_record ds)
-  unfolding status_given read_record
-  no-status q = rw (← e) (unknown (status_of n) q)
+  unfolding read_record record_with record_read
+  no-status q = rw (← e, status-none n q) refl
 
   module _ (s : Status) (q : Ok s ≡ status_given n) where
-    of_status : record_with ds (some s) ≡ read_record ds
-    unfolding status_given read_record
-    of_status = rw (← e) (ap (record_with ds) (sym (known (status_of n) q)))
-
     pub not-spare : (field_at ds 30 2 ≡ 0 → ⊥) → Err Unreadable ≡ record_read (read_record ds)
-    unfolding record_with record_read
-    not-spare f = rw (ne_eqb (field_at ds 30 2) 0 f) at (ap record_read of_status)
+    unfolding read_record record_with record_read
+    not-spare f = rw (← e, status-some n q, ne_eqb (field_at ds 30 2) 0 f) refl
 
     pub read : field_at ds 30 2 ≡ 0 → Ok (record { plant = field_at ds 0 6; carcass = field_at ds 6 20; side = field_at ds 26 1; status = s }) ≡ record_read (read_record ds)
-    unfolding record_with record_read
-    read f = rw (eq-eqb (field_at ds 30 2) 0 f) at (ap record_read of_status)
+    unfolding read_record record_with record_read
+    read f = rw (← e, status-some n q, eq-eqb (field_at ds 30 2) 0 f) refl
