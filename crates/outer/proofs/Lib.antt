@@ -8,3 +8,4 @@ pub mod Entries
 pub mod Sums
 pub mod Least
 pub mod Nearest
+pub mod Values

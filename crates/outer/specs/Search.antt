@@ -83,6 +83,13 @@ pub record Searchable (numbers : List ℤ) (at : ℕ) (kinds : List ℕ) (start 
   pub within : at + 2 ^ j ≤ length numbers
   pub small : All (Within 1048064) (part at (2 ^ j) numbers)
 
+-- the same of the block's values alone
+pub record SearchableValues (values : List ℤ) (kinds : List ℕ) (start j : ℕ) : Type 0 where
+  pub low : j ≤ 5
+  pub walk : Walkable kinds start (2 ^ j)
+  pub count : length values ≡ 2 ^ j
+  pub small : All (Within 1048064) values
+
 -- ---- costs
 
 -- the cost of the word with this number at these values
@@ -109,7 +116,7 @@ pub record Costs (t : List ℕ) (runs : ℕ) (vs : List ℤ) : Type 0 where
   pub at : (p v : ℕ) → p < runs → v < 16 → get_or t (16 * p + v) 0 ≡ cost_of v (part (4 * p) 4 vs)
 
 -- no entry of its runs is above 4 magnitudes
-unfoldable pub Small : List ℕ → ℕ → Type 0
+abbrev pub Small : List ℕ → ℕ → Type 0
 Small t runs = (k : ℕ) → k < 16 * runs → get_or t k 0 ≤ 4192256
 
 -- ---- the least key
