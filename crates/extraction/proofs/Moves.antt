@@ -18,6 +18,7 @@ use Rattle.outer.specs.Words.{Word, nearest, next_after}
 use Rattle.outer.specs.Blocks.{parity_set, Bits, BlockTabled, candidate_of}
 use Rattle.outer.proofs.Entries.{block-low, block-walkable}
 use Rattle.reader.specs.Arrays.{Arrays, View, vals_of}
+use Rattle.codec.specs.Ties.{Parities}
 use Rattle.reader.specs.Paths.{Path, score_of, key_of, last_word, ids_of}
 use Rattle.reader.specs.Reader.{next_view, move_with, move}
 use Rattle.reader.specs.Fit.{FitFor}
@@ -33,6 +34,7 @@ use Rattle.standing.specs.Standing.{cell, spent_at, cost_at, parities_at, Row, S
 use Rattle.standing.proofs.Taken.{taken-row, taken-key, taken-blocks}
 use Rattle.standing.proofs.Places.{stands-insert}
 use Rattle.standing.proofs.Written.{stands-put}
+use Rattle.words.specs.Kept.{Table}
 use Rattle.words.specs.declared.Block.{Block}
 use Rattle.extraction.specs.Extraction.{Thirding}
 use Rattle.extraction.proofs.Counts.{blocks-few}
@@ -43,7 +45,7 @@ unfolding FitFor
 fit-parities B A p zero f = f.parities
 fit-parities B A p (suc b) f = f.parities
 
-module _ {m D N : ℕ} {x : Memory} {e : ℕ} {es vs kinds terms : List ℕ} {last at : Block} {kept : List ℕ} (c : Thirding m D N x e es vs kinds terms last at kept) where
+module _ {m D N : ℕ} {x : Memory} {e : ℕ} {es vs kinds terms : List ℕ} {last at : Block} {kept : Table} (c : Thirding m D N x e es vs kinds terms last at kept) where
   abbrev book : Book
   book = c.moving.hand.book
 
@@ -155,13 +157,24 @@ module _ {m D N : ℕ} {x : Memory} {e : ℕ} {es vs kinds terms : List ℕ} {la
     -- ---- the words found
 
     -- the next after the nearest
-    pub third-second : {second : Candidate} →
+    third-second : {second : Candidate} →
         (let ws = part (spot m (id_at y.rows (slot_at e) at.height) at.height) (2 ^ at.height) y.numbers in
         (w : Word) → nearest book ws path.parities path.blocks ≡ some w → second ≡ candidate_of book (next_after w book ws path.parities path.blocks)) →
         second ≡ candidate_of book (next_after c.word book (vals_of view height) path.parities path.blocks)
     third-second {second} h =
         subst (λ ws. (w : Word) → nearest book ws path.parities path.blocks ≡ some w → second ≡ candidate_of book (next_after w book ws path.parities path.blocks))
         values-are h c.word c.found
+
+    -- both words of a search in slot s, the path's
+    pub third-words : {s : ℕ} → s ≡ slot_at e → {first second : Candidate} →
+        ((B : Book) (b : ℕ) (set : Parities) → BlockTabled B b kinds terms at.start at.height → Bits set → cell y.rows s parities_at ≡ parity_set B set →
+        let ws = part (spot m (id_at y.rows s at.height) at.height) (2 ^ at.height) y.numbers in
+        (first ≡ candidate_of B (nearest B ws set b)) × ((w : Word) → nearest B ws set b ≡ some w → second ≡ candidate_of B (next_after w B ws set b))) →
+        (first ≡ candidate_of book (nearest book (part (spot m (id_at y.rows (slot_at e) at.height) at.height) (2 ^ at.height) y.numbers) path.parities path.blocks))
+        × (second ≡ candidate_of book (next_after c.word book (vals_of view height) path.parities path.blocks))
+    third-words q f =
+        let both = rw q at (f book path.blocks path.parities third-tabled third-parities (rw q third-set)) in
+        (both.0, third-second both.1)
 
     module _ {found : Candidate}
         (is : found ≡ candidate_of book (nearest book (part (spot m (id_at y.rows (slot_at e) at.height) at.height) (2 ^ at.height) y.numbers) path.parities path.blocks)) where

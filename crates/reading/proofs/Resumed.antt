@@ -8,6 +8,7 @@ use lib.IntN.{ℤ}
 use lib.ListN.{length, length-replicate}
 use Rattle.laws.specs.Lists.{All}
 use Rattle.codebook.specs.declared.Shape.{Shape}
+use Rattle.codebook.specs.declared.Tables.{Tables}
 use Rattle.codebook.specs.Book.{Book}
 use Rattle.codebook.specs.Limits.{Valid}
 use Rattle.queue.specs.Run.{on, Trace, after, trace, most_extractions}
@@ -27,7 +28,9 @@ use Rattle.standing.proofs.Taken.{taken-blocks}
 use Rattle.steps.specs.declared.Tally.{Tally}
 use Rattle.extraction.proofs.Counts.{blocks-few}
 use Rattle.extraction.proofs.Extracts.{visit-length}
+use Rattle.words.specs.Kept.{Table}
 use Rattle.reading.specs.Before.{Before}
+use Rattle.reading.specs.Running.{Running}
 use Rattle.reading.specs.Turning.{Turning}
 use Rattle.reading.proofs.Visits.{Alike}
 use Rattle.reading.proofs.Going.{moment_of, Going}
@@ -54,7 +57,7 @@ module _ (B : Book) (L D : ℕ) where
 
 -- ---- the run under way
 
-module _ {B : Book} {L D N : ℕ} {A : Arrays} {most : ℕ} {x : Memory} {order vacant visits kept : List ℕ} {t : Tally} {e : ℕ} {path₀ blocks₀ score₀ path blocks score : List ℤ}
+module _ {B : Book} {L D N : ℕ} {A : Arrays} {most : ℕ} {x : Memory} {order vacant visits : List ℕ} {kept : Table} {t : Tally} {e : ℕ} {path₀ blocks₀ score₀ path blocks score : List ℤ}
     (g : Before B L D N A most x order vacant visits kept t e path₀ blocks₀ score₀ path blocks score) where
   pub left : LeftOf (R.next_at B L D) (most_extractions L (length B.blocks)) (R.trace_of B L D A) g.moment.made g.here g.moment.later
   unfolding moments_of R.trace_of
@@ -143,12 +146,32 @@ module _ {B : Book} {L D N : ℕ} {A : Arrays} {most : ℕ} {x : Memory} {order 
 
 -- ---- on the tables
 
-module _ {shape : Shape} {s : Settings} {N : ℕ} {kinds terms heights starts : List ℕ} {biases : List ℤ} {x : Memory} {order vacant visits kept : List ℕ} {t : Tally} {e : ℕ} {path blocks score : List ℤ}
-    (c : Turning shape s N kinds terms heights starts biases x order vacant visits kept t e path blocks score) where
+-- a run of an input, before an extraction of a path that has a next block
+abbrev pub before-turning : {shape : Shape} {s : Settings} {N : ℕ} {values : List ℤ} {tables : Tables} {A : Arrays} {x : Memory} {order vacant visits : List ℕ} {kept : Table} {t : Tally} {e : ℕ}
+    {path₀ blocks₀ score₀ path blocks score : List ℤ} (c : Running shape values tables) → A.vals shape.m 1 ≡ values →
+    (most_extractions s.visits shape.blocks ≤ length path₀) × (most_extractions s.visits shape.blocks ≤ length blocks₀) × (most_extractions s.visits shape.blocks ≤ length score₀) →
+    Before c.book s.visits s.paths N A t.extractions x order vacant visits kept t e path₀ blocks₀ score₀ path blocks score → ((key_at e).blocks ≡ shape.blocks → ⊥) →
+    Turning shape s N tables x order vacant visits kept t e path blocks score
+before-turning {values = values} {A = A} {path₀ = path₀} {blocks₀ = blocks₀} {score₀ = score₀} c root room g more =
+    record {
+      values = values;
+      input = c;
+      arrays = A;
+      root = root;
+      path₀ = path₀;
+      blocks₀ = blocks₀;
+      score₀ = score₀;
+      room = room;
+      at = g;
+      more = λ q. more (taken-blocks g.stands ∙ q ∙ c.blocks);
+    }
+
+module _ {shape : Shape} {s : Settings} {N : ℕ} {tables : Tables} {x : Memory} {order vacant visits : List ℕ} {kept : Table} {t : Tally} {e : ℕ} {path blocks score : List ℤ}
+    (c : Turning shape s N tables x order vacant visits kept t e path blocks score) where
   abbrev pub turning-going : 2 ≤ s.paths → length visits ≡ 512 →
       Going c.input.book c.values s.visits s.paths N c.arrays x order vacant visits kept t e c.path₀ c.blocks₀ c.score₀ path blocks score
   turning-going two long =
-      let ok = c.input.tables.booked.valid in
+      let ok = c.input.in_tables.booked.valid in
       before-going c.at c.values ok (during-reached ok (input-moment c.input c.root c.at.moment) two) long
 
   -- the path in hand has not all blocks

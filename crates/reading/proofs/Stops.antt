@@ -5,7 +5,7 @@ use mathlib.Core.List.{List, [], ◌∷◌, ◌++◌, map, map-append}
 use mathlib.Core.Option.{some}
 use Prim.Native.Nat.{ℕ, suc, ◌+◌, ◌-◌, ◌^◌, ◌≤◌, ◌<◌}
 use native.Mathlib.Omega.{arith}
-use lib.IntN.{ℤ}
+use lib.IntN.{ℤ, pos}
 use lib.ListN.{length, length-map}
 use borrow.Author.Tests.{eq-eqb}
 use Rattle.laws.specs.Lists.{sum}
@@ -13,6 +13,7 @@ use Rattle.laws.proofs.Lists.{length-snoc}
 use Rattle.laws.specs.Pairs.{Paired}
 use Rattle.polar.specs.Layers.{part}
 use Rattle.codebook.specs.declared.Shape.{Shape}
+use Rattle.codebook.specs.declared.Tables.{Tables}
 use Rattle.codebook.specs.Book.{Book}
 use Rattle.codebook.specs.Limits.{Valid}
 use Rattle.codec.specs.Code.{read_data}
@@ -35,11 +36,12 @@ use Rattle.standing.proofs.Taken.{taken-key}
 use Rattle.words.specs.declared.Block.{Block}
 use Rattle.steps.specs.declared.Tally.{Tally}
 use Rattle.steps.specs.Steps.{BlockIs, committed}
+use Rattle.words.specs.Kept.{Table}
 use Rattle.reading.specs.declared.Ran.{Ran}
 use Rattle.reading.specs.Before.{Before}
 use Rattle.reading.specs.Ending.{Ending}
 use Rattle.reading.specs.Running.{Running, RanIs}
-use Rattle.reading.proofs.Walks.{Walks, Noted, walks_next, sum-next}
+use Rattle.reading.proofs.Walks.{walked-length, Walks, Noted, walks_next, sum-next}
 use Rattle.reading.proofs.Going.{crowded_count, outrun_count}
 use Rattle.reading.proofs.Turns.{ReadAt, run-blocks, input-moment}
 
@@ -68,11 +70,11 @@ module _ (B : Book) (L D : ℕ) where
 
 -- ---- the end of a run on its tables
 
-module _ {shape : Shape} {values : List ℤ} {kinds terms heights starts : List ℕ} {biases : List ℤ} (c : Running shape values kinds terms heights starts biases)
-    {L D N : ℕ} {A : Arrays} {most : ℕ} {x : Memory} {order vacant visits kept : List ℕ} {t : Tally} {e : ℕ} {path₀ blocks₀ score₀ path blocks score : List ℤ}
+module _ {shape : Shape} {values : List ℤ} {tables : Tables} (c : Running shape values tables)
+    {L D N : ℕ} {A : Arrays} {most : ℕ} {x : Memory} {order vacant visits : List ℕ} {kept : Table} {t : Tally} {e : ℕ} {path₀ blocks₀ score₀ path blocks score : List ℤ}
     (g : Before c.book L D N A most x order vacant visits kept t e path₀ blocks₀ score₀ path blocks score) where
   abbrev ok : Valid c.book
-  ok = c.tables.booked.valid
+  ok = c.in_tables.booked.valid
 
   -- the path in hand
   abbrev pub stop-hand : InHand shape.m D N x e (queue_of order t.queued) (queue_of vacant (D - (t.queued + 1)))
@@ -86,6 +88,18 @@ module _ {shape : Shape} {values : List ℤ} {kinds terms heights starts : List 
   -- extractions still to come
   pub stop-left : t.extractions < most_extractions L shape.blocks
   stop-left = omega (arith, g.few, ap (most_extractions L) c.blocks)
+
+  -- the walk is as large as it was
+  pub stop-room :
+      (most_extractions L shape.blocks ≤ length path₀) × (most_extractions L shape.blocks ≤ length blocks₀) × (most_extractions L shape.blocks ≤ length score₀) →
+      (most_extractions L shape.blocks ≤ length path) × (most_extractions L shape.blocks ≤ length blocks) × (most_extractions L shape.blocks ≤ length score)
+  stop-room room =
+      let done : List Step = map (step_at c.book L D) g.moment.made in
+      let n : length done ≡ t.extractions = length-map g.moment.made (step_at c.book L D) ∙ sym g.moment.extractions in (
+        omega (arith, room.0, stop-left, ap length g.path-is, walked-length (λ (y : Step). pos y.path) done path₀),
+        omega (arith, room.1, stop-left, ap length g.blocks_is, walked-length (λ (y : Step). pos y.blocks) done blocks₀),
+        omega (arith, room.2, stop-left, ap length g.score-is, walked-length (λ (y : Step). y.score) done score₀),
+      )
 
   module _ (more : t.extractions < most) where
     all : g.here.path.blocks ≡ length c.book.blocks
@@ -126,7 +140,7 @@ module _ {shape : Shape} {values : List ℤ} {kinds terms heights starts : List 
     unfolding FitFor
     last_fit root two = subst (FitFor c.book g.here.state.arrays g.here.path) last-index (during-fit ok (input-moment c root g.moment) two)
 
-    abbrev pub stop-ending : A.vals shape.m 1 ≡ values → 2 ≤ D → (last : Block) (i : ℕ) → i ≡ shape.blocks - 1 → ReadAt heights starts biases i last →
+    abbrev pub stop-ending : A.vals shape.m 1 ≡ values → 2 ≤ D → (last : Block) (i : ℕ) → i ≡ shape.blocks - 1 → ReadAt tables i last →
         Ending shape.m D N x e (queue_of order t.queued) (queue_of vacant (D - (t.queued + 1))) last
     stop-ending root two last i q l =
         record {
@@ -137,7 +151,7 @@ module _ {shape : Shape} {values : List ℤ} {kinds terms heights starts : List 
               record {
                 blocks = last-index;
                 block =
-                    subst (λ n. BlockIs c.book n last) q (l c.book kinds terms ok c.tables (omega (arith, (run-blocks c).0, c.blocks)));
+                    subst (λ n. BlockIs c.book n last) q (l c.book ok c.in_tables.blocks (omega (arith, (run-blocks c).0, c.blocks)));
                 fit = last_fit root two;
               };
           whole = omega (arith, (run-blocks c).0, c.blocks);
@@ -158,12 +172,12 @@ module _ {shape : Shape} {values : List ℤ} {kinds terms heights starts : List 
           score-long = omega (arith, long.2, stop-left);
         }) (record { path-is = g.path-is; blocks_is = g.blocks_is; score-is = g.score-is }) noted)
 
-    -- what the run answers
+    -- what the run answers, whose sums stand in the lent bytes
     pub stop-ran : (r : Ran) (bytes : List ℕ) →
         (r.counts ≡ record { extractions = t.extractions + 1; crowded = t.crowded; outrun = t.outrun; discrepancy = g.here.path.spent + g.here.path.cost })
-        × Id N r.id × (part (spot shape.m r.id shape.m) (2 ^ shape.m) bytes ≡ sums_of (committed stop-hand) shape.m) → RanIs shape.m N whole r bytes
+        × Id N r.id × (part (spot shape.m r.id shape.m) (2 ^ shape.m) bytes ≡ sums_of (committed stop-hand) shape.m) → {lent : List ℕ} → lent ≡ bytes → RanIs shape.m N whole r lent
     unfolding R.final_at counts_of
-    stop-ran r bytes w =
+    stop-ran r bytes w same =
         let B : Book = c.book in
         let p : Path = g.here.path in
         let word : List ℕ = sums_of (R.commit B (ids_of g.here.state.queue) p p.blocks (view_of g.here.state.arrays p)) B.m in
@@ -177,5 +191,5 @@ module _ {shape : Shape} {values : List ℤ} {kinds terms heights starts : List 
           counts = w.0 ∙ (λ i. record { extractions = extractions i; crowded = crowded i; outrun = outrun i; discrepancy = p.spent + p.cost });
           id = w.1;
           word =
-              w.2 ∙ ap (sums_of (R.commit B (ids_of g.here.state.queue) p p.blocks (view_of g.here.state.arrays p))) (sym c.deep);
+              ap (part (spot shape.m r.id shape.m) (2 ^ shape.m)) same ∙ w.2 ∙ ap (sums_of (R.commit B (ids_of g.here.state.queue) p p.blocks (view_of g.here.state.arrays p))) (sym c.deep);
         }

@@ -8,6 +8,7 @@ use lib.IntN.{ℤ, pos}
 use lib.ListN.{length, get_or, set, replicate}
 use lib.Pow.{pow_mono}
 use Rattle.codebook.specs.declared.Shape.{Shape}
+use Rattle.codebook.specs.declared.Tables.{Tables}
 use Rattle.codebook.specs.Book.{Book, block_at}
 use Rattle.codebook.specs.Limits.{BlockOk, Valid}
 use Rattle.queue.specs.Run.{most_extractions}
@@ -22,10 +23,10 @@ use Rattle.sharing.specs.Sharing.{held_at, Rows}
 use Rattle.standing.specs.Seen.{Memory, memory, Enough}
 use Rattle.standing.specs.Standing.{Stands, InHand}
 use Rattle.words.specs.declared.Block.{Block}
-use Rattle.words.specs.Kept.{Kepts}
+use Rattle.words.specs.Kept.{Table, Kepts}
 use Rattle.steps.specs.declared.Tally.{Tally}
 use Rattle.steps.specs.Steps.{BlockIs}
-use Rattle.start.specs.Start.{first_held, InTables}
+use Rattle.start.specs.Start.{first_held, BlocksIn}
 use Rattle.start.proofs.Begun.{Zeros}
 use Rattle.reading.specs.Before.{Before}
 use Rattle.reading.specs.Running.{arrays_of, Running}
@@ -38,18 +39,18 @@ use Rattle.reading.proofs.Bounded.{blocks-some}
 use Rattle.reading.proofs.Going.{Going, going-first, going-blocks, going-within, going-fuel, going-some, going_next, going-moment, going_before}
 
 -- r is block b of any book in these tables that has it
-abbrev pub ReadAt : List ℕ → List ℕ → List ℤ → ℕ → Block → Type 0
-ReadAt heights starts biases b r =
-    (B : Book) (kinds terms : List ℕ) → Valid B → InTables B kinds terms heights starts biases → b < length B.blocks → BlockIs B b r
+abbrev pub ReadAt : Tables → ℕ → Block → Type 0
+ReadAt tables b r =
+    (B : Book) → Valid B → BlocksIn B tables → b < length B.blocks → BlockIs B b r
 
 -- the first path's key
 first_key : (B : Book) (e : ℕ) → Packed e (record { score = pos 0; blocks = 0; number = 0 }) 0 → Packed e (key_of B (first_path B)) 0
 unfolding score_of key_of first_path
 first_key B e p = p
 
-module _ {shape : Shape} {values : List ℤ} {kinds terms heights starts : List ℕ} {biases : List ℤ} (c : Running shape values kinds terms heights starts biases) where
+module _ {shape : Shape} {values : List ℤ} {tables : Tables} (c : Running shape values tables) where
   abbrev ok : Valid c.book
-  ok = c.tables.booked.valid
+  ok = c.in_tables.booked.valid
 
   -- as many values as the book asks for
   abbrev size : length values ≡ 2 ^ c.book.m
@@ -63,14 +64,14 @@ module _ {shape : Shape} {values : List ℤ} {kinds terms heights starts : List 
   run-blocks = (omega (arith, blocks-some c.book ok, c.blocks), omega (arith, blocks-few c.book ok, c.blocks))
 
   -- a block's place in the tables
-  pub table_fits : (b : ℕ) → b < shape.blocks → (b < 512) × (get_or heights b 0 ≤ 5) × (get_or starts b 0 + 2 ^ get_or heights b 0 ≤ 512)
+  pub table_fits : (b : ℕ) → b < shape.blocks → (b < 512) × (get_or tables.heights b 0 ≤ 5) × (get_or tables.starts b 0 + 2 ^ get_or tables.heights b 0 ≤ 512)
   table_fits b l =
       let h : b < length c.book.blocks = omega (arith, c.blocks) in
       let o : BlockOk c.book b = ok.blocks b h in
-      let e : get_or heights b 0 ≡ (block_at c.book b).j = c.tables.height b h in (
+      let e : get_or tables.heights b 0 ≡ (block_at c.book b).j = c.in_tables.blocks.height b h in (
         omega (arith, run-blocks.1),
         omega (arith, o.short),
-        omega (arith, c.tables.start b h, ap (λ j. 2 ^ j) e, o.within, pow_mono ok.high),
+        omega (arith, c.in_tables.blocks.start b h, ap (λ j. 2 ^ j) e, o.within, pow_mono ok.high),
       )
 
   -- a moment of its run from arrays whose root holds the received values
@@ -85,7 +86,7 @@ module _ {shape : Shape} {values : List ℤ} {kinds terms heights starts : List 
 
   -- ---- at first
 
-  module _ (L D N : ℕ) (rows holders vacant : List ℕ) (numbers : List ℤ) (bytes : List ℕ) (e : ℕ) (order kept : List ℕ) (path₀ blocks₀ score₀ : List ℤ) where
+  module _ (L D N : ℕ) (rows holders vacant : List ℕ) (numbers : List ℤ) (bytes : List ℕ) (e : ℕ) (order : List ℕ) (kept : Table) (path₀ blocks₀ score₀ : List ℤ) where
     pub run-first : 1 ≤ D → Enough D N → N ≤ 256 → (old : List ℕ) → Zeros old → Rows 1 old → rows ≡ set old shape.m 1 →
         ((h i : ℕ) → h ≤ 9 → i ≤ 256 → held_at holders h i ≡ first_held shape.m h i) → ((k : ℕ) → k + 1 < D → get_or vacant k 0 ≡ k + 1) →
         Packed e (record { score = pos 0; blocks = 0; number = 0 }) 0 → (arrays_of shape.m numbers bytes).vals shape.m 1 ≡ values →
@@ -101,7 +102,7 @@ module _ {shape : Shape} {values : List ℤ} {kinds terms heights starts : List 
 
   -- ---- under way
 
-  module _ {L D N : ℕ} {A : Arrays} {x : Memory} {order vacant visits kept : List ℕ} {t : Tally} {e : ℕ} {path₀ blocks₀ score₀ path blocks score : List ℤ}
+  module _ {L D N : ℕ} {A : Arrays} {x : Memory} {order vacant visits : List ℕ} {kept : Table} {t : Tally} {e : ℕ} {path₀ blocks₀ score₀ path blocks score : List ℤ}
       (g : Going c.book values L D N A x order vacant visits kept t e path₀ blocks₀ score₀ path blocks score) where
     -- the path in hand
     abbrev pub run-hand : InHand shape.m D N x e (queue_of order t.queued) (queue_of vacant (D - (t.queued + 1)))
@@ -122,20 +123,20 @@ module _ {shape : Shape} {values : List ℤ} {kinds terms heights starts : List 
 
     -- what an extraction needs
     abbrev pub run-extracting : A.vals shape.m 1 ≡ values → (last at : Block) (i b : ℕ) → b ≡ (key_at e).blocks → i ≡ b - 1 → ((key_at e).blocks ≡ shape.blocks → ⊥) →
-        ReadAt heights starts biases i last → ReadAt heights starts biases b at →
-        Extracting shape.m L D N t.extractions t.next x e (queue_of order t.queued) (queue_of vacant (D - (t.queued + 1))) kinds terms last at kept visits
+        ReadAt tables i last → ReadAt tables b at →
+        Extracting shape.m L D N t.extractions t.next x e (queue_of order t.queued) (queue_of vacant (D - (t.queued + 1))) tables.kinds tables.terms last at kept visits
     run-extracting root last at i b p q d l a =
         record {
           hand = run-hand;
-          booked = c.tables.booked;
+          booked = c.in_tables.booked;
           visits = g.own;
           moment = input-moment root (going-moment g);
           known = g.known;
           next =
-              subst (λ n. BlockIs c.book n at) (p ∙ going-blocks g) (a c.book kinds terms ok c.tables (omega (arith, run-within d, c.blocks)));
+              subst (λ n. BlockIs c.book n at) (p ∙ going-blocks g) (a c.book ok c.in_tables.blocks (omega (arith, run-within d, c.blocks)));
           last-is = λ k h.
               let j : i ≡ k = omega (arith, going-blocks g) in
-              subst (λ n. BlockIs c.book n last) j (l c.book kinds terms ok c.tables (omega (arith, run-within d, c.blocks)));
+              subst (λ n. BlockIs c.book n last) j (l c.book ok c.in_tables.blocks (omega (arith, run-within d, c.blocks)));
           visited = (alike-visit g.own visits g.taken.blocks (run-next d) g.alike).same g.taken.blocks (run-next d);
         }
 
@@ -157,7 +158,7 @@ module _ {shape : Shape} {values : List ℤ} {kinds terms heights starts : List 
       pub run-some : r.queued ≡ length run-made.state.queue → 1 ≤ r.queued
       run-some q = going-some g ok size two most finds.0 finds.1 (run-next d) r q
 
-      pub run-turn : (y : Memory) (order' vacant' visits' kept' : List ℕ) →
+      pub run-turn : (y : Memory) (order' vacant' visits' : List ℕ) (kept' : Table) →
           (r.queued ≡ length run-made.state.queue) × (r.next ≡ run-made.state.next) × (visits' ≡ run-made.state.visits)
           × (r.crowded ≡ t.crowded + length run-made.step.crowded) × (r.outrun ≡ t.outrun + length run-made.step.outrun)
           × Stands c.book D N y (queue_of order' r.queued) (queue_of vacant' (D - r.queued)) run-made.state.arrays run-made.state.queue

@@ -6,7 +6,7 @@ use Prim.Native.Nat.{ℕ, ◌+◌, ◌≤◌, ◌<◌}
 use native.Mathlib.Nat.{add_assoc}
 use native.Mathlib.Omega.{arith}
 use lib.IntN.{ℤ, pos}
-use lib.ListN.{length, set, drop, length-map}
+use lib.ListN.{length, set, drop, length-map, length-append, length-drop}
 use Rattle.laws.specs.Lists.{over, sum}
 use Rattle.laws.proofs.Lists.{over_last}
 use Rattle.queue.specs.Queue.{Key, Step}
@@ -18,6 +18,10 @@ module _ (f : Step → ℤ) where
   walked-over : (done : List Step) (old : List ℤ) → walked f done old ≡ over (map f done) old
   unfolding walked over
   walked-over done old = ap (λ n. map f done ++ drop n old) (sym (length-map done f))
+
+  pub walked-length : (done : List Step) (old : List ℤ) → length done ≤ length old → length (walked f done old) ≡ length old
+  unfolding walked
+  walked-length done old h = length-append (map f done) (drop (length done) old) ∙ omega (arith, length-map done f, length-drop (length done) old)
 
   map_last : (done : List Step) (s : Step) → map f (done ++ s ∷ []) ≡ map f done ++ f s ∷ []
   map_last [] s = refl

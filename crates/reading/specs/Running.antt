@@ -3,6 +3,7 @@ use Rattle.std.specs.Prelude.{◌≡◌, List, ℕ, ◌^◌, length, ℤ}
 use Rattle.laws.specs.Lists.{All}
 use Rattle.polar.specs.Layers.{part, over_at, Within}
 use Rattle.codebook.specs.declared.Shape.{Shape}
+use Rattle.codebook.specs.declared.Tables.{Tables}
 use Rattle.codebook.specs.Book.{Book}
 use Rattle.queue.specs.Queue.{Final, found, Run}
 use Rattle.machine.specs.Calls.{counts_of}
@@ -21,9 +22,9 @@ unfoldable pub received : ℕ → List ℤ → List ℤ → List ℤ
 received m values numbers = over_at (spot m 1 m) values numbers
 
 -- a run's input: a book in tables, its shape, and received values within range
-pub record Running (shape : Shape) (values : List ℤ) (kinds terms heights starts : List ℕ) (biases : List ℤ) : Type 0 where
+pub record Running (shape : Shape) (values : List ℤ) (tables : Tables) : Type 0 where
   pub book : Book
-  pub tables : InTables book kinds terms heights starts biases
+  pub in_tables : InTables book tables
   pub deep : book.m ≡ shape.m
   pub blocks : length book.blocks ≡ shape.blocks
   pub size : length values ≡ 2 ^ shape.m

@@ -1,20 +1,22 @@
 -- What one extraction of a run on its tables starts from. Assumes nothing.
 use Rattle.std.specs.Prelude.{◌≡◌, List, ℕ, ◌≤◌, length, ℤ}
 use Rattle.codebook.specs.declared.Shape.{Shape}
+use Rattle.codebook.specs.declared.Tables.{Tables}
 use Rattle.settings.specs.declared.Settings.{Settings}
 use Rattle.queue.specs.Run.{most_extractions}
 use Rattle.reader.specs.Arrays.{Arrays}
 use Rattle.standing.specs.Seen.{Memory}
 use Rattle.steps.specs.declared.Tally.{Tally}
+use Rattle.words.specs.Kept.{Table}
 use Rattle.reading.specs.Before.{Before}
 use Rattle.reading.specs.Running.{Running}
 
 -- A run of an input, from arrays whose root holds the received values and from walk buffers with room for every entry, is before an extraction (Before), and the
 -- path that is next has a next block.
-pub record Turning (shape : Shape) (s : Settings) (N : ℕ) (kinds terms heights starts : List ℕ) (biases : List ℤ) (x : Memory) (order vacant visits kept : List ℕ) (t : Tally) (e : ℕ)
+pub record Turning (shape : Shape) (s : Settings) (N : ℕ) (tables : Tables) (x : Memory) (order vacant visits : List ℕ) (kept : Table) (t : Tally) (e : ℕ)
     (path blocks score : List ℤ) : Type 0 where
   pub values : List ℤ
-  pub input : Running shape values kinds terms heights starts biases
+  pub input : Running shape values tables
   pub arrays : Arrays
   pub root : arrays.vals shape.m 1 ≡ values
   pub path₀ : List ℤ

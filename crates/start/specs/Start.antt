@@ -1,5 +1,6 @@
 -- A run's start: the book in tables, and who holds which array at first. Assumes nothing.
-use Rattle.std.specs.Prelude.{◌≡◌, cond, List, ℕ, ◌<◌, length, get_or, eqb, ltb, ℤ, pos}
+use Rattle.std.specs.Prelude.{◌≡◌, cond, ℕ, ◌<◌, length, get_or, eqb, ltb, pos}
+use Rattle.codebook.specs.declared.Tables.{Tables}
 use Rattle.codebook.specs.Book.{Book, start_of, block_at}
 use Rattle.sharing.specs.Sharing.{one}
 use Rattle.steps.specs.Steps.{Booked}
@@ -8,9 +9,13 @@ use Rattle.steps.specs.Steps.{Booked}
 unfoldable pub first_held : ℕ → ℕ → ℕ → ℕ
 first_held m h i = cond (eqb h m) (one 1 i) (cond (ltb h m) (one 0 i) 0)
 
--- the tables are the book's: those of kinds and terms, and those of the blocks' heights, starts and biases
-pub record InTables (B : Book) (kinds terms heights starts : List ℕ) (biases : List ℤ) : Type 0 where
-  pub booked : Booked B kinds terms
-  pub height : (b : ℕ) → b < length B.blocks → get_or heights b 0 ≡ (block_at B b).j
-  pub start : (b : ℕ) → b < length B.blocks → get_or starts b 0 ≡ start_of B.blocks b
-  pub bias : (b : ℕ) → b < length B.blocks → get_or biases b (pos 0) ≡ (block_at B b).bias
+-- the tables' heights, starts and biases are those of the book's blocks
+pub record BlocksIn (B : Book) (tables : Tables) : Type 0 where
+  pub height : (b : ℕ) → b < length B.blocks → get_or tables.heights b 0 ≡ (block_at B b).j
+  pub start : (b : ℕ) → b < length B.blocks → get_or tables.starts b 0 ≡ start_of B.blocks b
+  pub bias : (b : ℕ) → b < length B.blocks → get_or tables.biases b (pos 0) ≡ (block_at B b).bias
+
+-- the tables are the book's: those of kinds and terms, and those of the blocks
+pub record InTables (B : Book) (tables : Tables) : Type 0 where
+  pub booked : Booked B tables.kinds tables.terms
+  pub blocks : BlocksIn B tables

@@ -3,16 +3,19 @@
 
 #![tactic(auto)]
 
-ghost use Rattle.std.specs.Prelude.{◌≡◌, List, ℕ, suc, ◌+◌, ◌^◌, ◌≤◌, ◌<◌, pos, length, get_or, set, replicate};
+ghost use Rattle.std.specs.Prelude.{◌≡◌, ℕ, suc, ◌+◌, ◌^◌, ◌≤◌, ◌<◌, pos, length, get_or, set, replicate};
 ghost use Rattle.polar.specs.Layers.{over_at};
 ghost use Rattle.codebook.specs.Book.{Book};
 ghost use Rattle.codebook.specs.Limits.{Valid};
+ghost use Rattle.machine.specs.Calls.{SameWalk};
 ghost use Rattle.reader.specs.Arrays.{turn};
 ghost use Rattle.sharing.specs.Sharing.{held_at, Held, Rows};
 ghost use Rattle.order.specs.Entries.{key_at};
 ghost use Rattle.steps.specs.Steps.{BlockIs};
-ghost use Rattle.start.specs.Start.{first_held, InTables};
+ghost use Rattle.start.specs.Start.{first_held, BlocksIn};
 
+use codebook::Tables;
+use machine::Walk;
 use numerals::power;
 use order::entries::{blocks_of, number_of, score_of};
 use words::Block;
@@ -23,10 +26,8 @@ pub fn begin(rows: &mut [u32], holders: &mut [u16; 2580], m: usize)
     ensures { (rows.new ≡ set rows.old m 1) × Held holders.new
         × ((h i : ℕ) → h ≤ 9 → i ≤ 256 → held_at holders.new h i ≡ first_held m h i) }
 {
-    let mut h: usize = 0;
-    while h < m {
+    for h in 0..m {
         holders[h * 257] = 1;
-        h += 1;
     }
     holders[m * 257 + 1] = 1;
     rows[m] = 1;
@@ -34,13 +35,11 @@ pub fn begin(rows: &mut [u32], holders: &mut [u16; 2580], m: usize)
 
 // Slots 1 to D - 1 are vacant, the lowest to be taken last.
 pub fn fill_vacant(vacant: &mut [u8; 256], paths: usize)
-    requires { (length vacant.old ≡ 256) × (1 ≤ paths) × (paths ≤ 256) }
-    ensures { (length vacant.new ≡ 256) × ((k : ℕ) → k + 1 < paths → get_or vacant.new k 0 ≡ k + 1) }
+    requires { (1 ≤ paths) × (paths ≤ 256) }
+    ensures { (k : ℕ) → k + 1 < paths → get_or vacant.new k 0 ≡ k + 1 }
 {
-    let mut i: usize = 0;
-    while i + 1 < paths {
-        vacant[i] = (i + 1) as u8;
-        i += 1;
+    for i in 1..paths {
+        vacant[i - 1] = i as u8;
     }
 }
 
@@ -49,10 +48,8 @@ pub fn receive(numbers: &mut [i32], at: usize, values: &[i16])
     requires { at + length values.now ≤ length numbers.old }
     ensures { numbers.new ≡ over_at at values.now numbers.old }
 {
-    let mut i: usize = 0;
-    while i < values.len() {
-        numbers[at + i] = values[i] as i32;
-        i += 1;
+    for (i, value) in values.iter().enumerate() {
+        numbers[at + i] = i32::from(*value);
     }
 }
 
@@ -61,39 +58,33 @@ fn twos(t: usize) -> usize
     requires { (1 ≤ t) × (t ≤ 512) }
     ensures { (result ≤ 9) × ((m : ℕ) → m ≤ 9 → t ≤ 2 ^ m → result ≡ turn (suc m) t) }
 {
-    u32::trailing_zeros(t as u32) as usize
+    t.trailing_zeros() as usize
 }
 
 // Block b of the book.
-pub fn block_at(heights: &[u8; 512], starts: &[u16; 512], biases: &[i32; 512], b: usize) -> Block
-    requires heights_len { (length heights.now ≡ 512) × (length starts.now ≡ 512) × (length biases.now ≡ 512) × (b < 512) }
-    requires b_bound { (get_or heights.now b 0 ≤ 5) × (get_or starts.now b 0 + 2 ^ get_or heights.now b 0 ≤ 512) }
-    ensures { (B : Book) (kinds terms : List ℕ) → Valid B → InTables B kinds terms heights.now starts.now biases.now → b < length B.blocks → BlockIs B b result }
+pub fn block_at(tables: &Tables, b: usize) -> Block
+    requires b_bound { (b < 512) × (get_or tables.now.heights b 0 ≤ 5) × (get_or tables.now.starts b 0 + 2 ^ get_or tables.now.heights b 0 ≤ 512) }
+    ensures { (B : Book) → Valid B → BlocksIn B tables.now → b < length B.blocks → BlockIs B b result }
 {
-    let start = starts[b] as usize;
-    let height = heights[b] as usize;
+    let start = tables.starts[b] as usize;
+    let height = tables.heights[b] as usize;
     Block {
         start,
         height,
-        bias: biases[b],
+        bias: tables.biases[b],
         place: twos(start + power(height)),
     }
 }
 
 // Writes an extraction's entry of the walk.
-pub fn note(
-    walk_path: &mut [i32],
-    walk_blocks: &mut [i32],
-    walk_score: &mut [i32],
-    at: usize,
-    e: u64,
-)
-    requires { (at < length walk_path.old) × (at < length walk_blocks.old) × (at < length walk_score.old) × (e < 36028797018963968) }
-    ensures { (walk_path.new ≡ set walk_path.old at (pos (key_at e).number))
-        × (walk_blocks.new ≡ set walk_blocks.old at (pos (key_at e).blocks))
-        × (walk_score.new ≡ set walk_score.old at (key_at e).score) }
+pub fn note(walk: &mut Walk, at: usize, e: u64)
+    requires { (at < length walk.old.path.now) × (at < length walk.old.blocks.now) × (at < length walk.old.score.now) × (e < 36028797018963968) }
+    ensures noted { (walk.new.path.now ≡ set walk.old.path.now at (pos (key_at e).number))
+        × (walk.new.blocks.now ≡ set walk.old.blocks.now at (pos (key_at e).blocks))
+        × (walk.new.score.now ≡ set walk.old.score.now at (key_at e).score) }
+    ensures same_walk { SameWalk walk.new walk.old }
 {
-    walk_path[at] = number_of(e) as i32;
-    walk_blocks[at] = blocks_of(e) as i32;
-    walk_score[at] = score_of(e);
+    walk.path[at] = number_of(e) as i32;
+    walk.blocks[at] = blocks_of(e) as i32;
+    walk.score[at] = score_of(e);
 }

@@ -2,8 +2,10 @@
 -- hand, has one of its own where its word will go, and is queued. Each is a law of crates/standing for that change of memory; the reader's own cut
 -- of the queue leaves it whole, since there is room. And the next word after its own, where that is known, is the one to keep for it: the copy sees
 -- the values that the search went by. Assumes nothing.
-use mathlib.Core.Path.{◌≡◌, refl, sym, ap, ap₂, ◌∙◌, subst}
-use mathlib.Core.Bool.{true}
+use mathlib.Core.Path.{◌≡◌, refl, sym, ap, ap₂, ◌∙◌, subst, subst₂}
+use mathlib.Core.Bool.{Bool, true, false}
+use Rattle.std.specs.Prelude.{Some}
+use Rattle.core.specs.Bool.{then_some}
 use mathlib.Core.List.{List, [], ◌∷◌, map}
 use mathlib.Core.Logic.{◌≢◌}
 use mathlib.Core.Option.{Option, some}
@@ -31,8 +33,8 @@ use Rattle.reader.specs.Reader.{copy_with}
 use Rattle.reader.proofs.Arrays.{Kept, claim-kept, claim-own}
 use Rattle.reader.proofs.Descent.{place-most}
 use Rattle.order.specs.Entries.{key_at, slot_at, Packed}
-use Rattle.sharing.specs.Sharing.{id_at, held_at, Copied, MoreBy}
-use Rattle.standing.specs.Seen.{Memory, memory, Enough, Lent, Seen, Viewed, StepSeen, IdsOnly}
+use Rattle.sharing.specs.Sharing.{Held, id_at, held_at, Copied, MoreBy}
+use Rattle.standing.specs.Seen.{Memory, memory, HasArrays, Enough, Lent, Seen, Viewed, StepSeen, IdsOnly}
 use Rattle.standing.specs.Standing.{cell, spent_at, earlier_at, Row, Stands, with_ids, PutRow, Made}
 use Rattle.standing.proofs.Slots.{distinct-forward}
 use Rattle.standing.proofs.Sizes.{slot-low, slots_apart}
@@ -43,9 +45,18 @@ use Rattle.standing.proofs.Places.{stands-insert-second}
 use Rattle.standing.proofs.Written.{stands-share}
 use Rattle.views.specs.Steps.{Claimable}
 use Rattle.words.specs.declared.Block.{Block}
-use Rattle.words.specs.Kept.{Keeps, OneKept, next_of, KeptFor, Kepts}
-use Rattle.words.proofs.Kepts.{next_small, kepts-other, kepts-frame, kepts-insert}
+use Rattle.words.specs.Kept.{Table, Keeps, OneKept, next_of, KeptFor, Kepts}
+use Rattle.words.proofs.Kepts.{kepts-other, kepts-frame, kepts-insert}
 use Rattle.steps.specs.Steps.{Forking}
+
+-- memory that has the rows and the arrays is lent as well
+pub lent-on : {m D N : ℕ} {x y : Memory} → Lent m D N x → length y.rows ≡ length x.rows → HasArrays m N y → Lent m D N y
+lent-on l size has = record { few = l.few; rows = omega (arith, l.rows, size); has = has; enough = l.enough }
+
+-- it has the arrays whatever its rows are
+pub has-held : {m N : ℕ} {x : Memory} {holders' : List ℕ} (rows' : List ℕ) → HasArrays m N x → Held holders' → HasArrays m N (memory rows' holders' x.numbers x.bytes)
+unfolding memory
+has-held rows' has held = record { deep = has.deep; many = has.many; held = held; numbers = has.numbers; bytes = has.bytes }
 
 -- a block has an index at least, so that no book has more than 512
 start-count : (bs : List K.Block) (b : ℕ) → b ≤ length bs → b ≤ start_of bs b
@@ -81,12 +92,13 @@ module _ {m D N : ℕ} {x : Memory} {e t : ℕ} {es vs : List ℕ} {last : Block
   abbrev after : Option Word
   after = next_after c.word book values path.earlier b
 
-  -- where it is known, it is that word, and its setting is small
-  pub fork-known : found.known ≡ true → found.second ≡ candidate_of book after
-  fork-known k = c.is.second k c.word refl
-
-  pub fork-few : found.known ≡ true → found.second.setting < 1073741824
-  fork-few k = next_small book values path.earlier b c.word (c.valid.blocks b c.own.block.within).light (fork-known k)
+  -- where one is kept, it is that word
+  pub fork-known : (w : Candidate) → then_some found.known found.second ≡ Some w → w ≡ candidate_of book after
+  fork-known w = go found.known refl
+    where
+      go : (known : Bool) → found.known ≡ known → then_some known found.second ≡ Some w → w ≡ candidate_of book after
+      go true k q = let same : found.second ≡ w = cc in sym same ∙ c.is.second k c.word refl
+      go false k q = cc
 
   -- ---- the entry
 
@@ -115,13 +127,13 @@ module _ {m D N : ℕ} {x : Memory} {e t : ℕ} {es vs : List ℕ} {last : Block
       }
 
   -- the code's score is the copy's, so that the entry is
-  pub fork-entry : {n d : ℕ} {s : ℤ} → Packed d (record { score = s; blocks = suc b; number = n }) t →
-      s ≡ neg_ℤ (pos (cell x.rows (slot_at e) spent_at + found.first.cost)) -ℤ last.bias → Packed d (key_of book (made n)) t
+  pub fork-entry : {slot spent blocks n d : ℕ} {s : ℤ} → slot ≡ slot_at e → spent ≡ cell x.rows slot spent_at → blocks ≡ suc b →
+      s ≡ neg_ℤ (pos (spent + found.first.cost)) -ℤ last.bias → Packed d (record { score = s; blocks = blocks; number = n }) t → Packed d (key_of book (made n)) t
   unfolding key_of score_of
-  fork-entry {n} {d} {s} p q =
-      let total : cell x.rows (slot_at e) spent_at + found.first.cost ≡ path.spent + c.word.cost = omega (arith, row.spent, cost-is) in
-      let score : s ≡ score_of book (made n) (suc b) = q ∙ ap₂ (λ (k : ℕ) (z : ℤ). neg_ℤ (pos k) -ℤ z) total c.own.block.bias in
-      subst (λ (z : ℤ). Packed d (record { score = z; blocks = suc b; number = n }) t) score p
+  fork-entry {slot} {spent} {blocks} {n} {d} {s} at is q score packed =
+      let total : spent + found.first.cost ≡ path.spent + c.word.cost = omega (arith, is, ap (λ (i : ℕ). cell x.rows i spent_at) at, row.spent, cost-is) in
+      let same : s ≡ score_of book (made n) (suc b) = score ∙ ap₂ (λ (k : ℕ) (z : ℤ). neg_ℤ (pos k) -ℤ z) total c.own.block.bias in
+      subst₂ (λ (z : ℤ) (k : ℕ). Packed d (record { score = z; blocks = k; number = n }) t) same q packed
 
   -- memory stands for the copy in front, once its row is written
   abbrev pub Written : ℕ → ℕ → Memory → Type 0
@@ -150,15 +162,18 @@ module _ {m D N : ℕ} {x : Memory} {e t : ℕ} {es vs : List ℕ} {last : Block
 
     -- ---- the row written
 
-    pub fork-written : {rows₁ rows₂ : List ℕ} (holders' : List ℕ) → Lent m D N x → Copied m (slot_at e) t x.rows rows₁ →
-        MoreBy (m + 1) x.rows (slot_at e) x.holders holders' →
-        PutRow t rows₁ rows₂ (cell x.rows (slot_at e) spent_at) found.first.cost found.first.number (cell x.rows (slot_at e) earlier_at) found.first.parities →
+    pub fork-written : {slot spent earlier : ℕ} {rows₁ rows₂ : List ℕ} (holders' : List ℕ) → slot ≡ slot_at e → spent ≡ cell x.rows slot spent_at →
+        earlier ≡ cell x.rows slot earlier_at → Lent m D N x → Copied m slot t x.rows rows₁ → MoreBy (m + 1) x.rows slot x.holders holders' →
+        PutRow t rows₁ rows₂ spent found.first.cost found.first.number earlier found.first.parities →
         Written n d (memory rows₂ holders' x.numbers x.bytes)
-    fork-written {rows₁} holders' l copied more put =
-        let copied' : Copied book.m (slot_at e) t x.rows rows₁ = subst (λ (k : ℕ). Copied k (slot_at e) t x.rows rows₁) (sym c.hand.deep) copied in
+    fork-written {slot} {spent} {earlier} {rows₁} {rows₂} holders' at spent-is earlier-is l copied more put =
+        let copied' : Copied book.m (slot_at e) t x.rows rows₁ = subst₂ (λ (k i : ℕ). Copied k i t x.rows rows₁) (sym c.hand.deep) at copied in
         let more' : MoreBy (book.m + 1) x.rows (slot_at e) x.holders holders' =
-        subst (λ (k : ℕ). MoreBy (k + 1) x.rows (slot_at e) x.holders holders') (sym c.hand.deep) more in
-        stands-share holders' c.hand.stands c.valid.high l.has.many copied' more' put fork-made refl
+        subst₂ (λ (k i : ℕ). MoreBy (k + 1) x.rows i x.holders holders') (sym c.hand.deep) at more in
+        let here : (f : ℕ) → cell x.rows slot f ≡ cell x.rows (slot_at e) f = λ f. ap (λ (i : ℕ). cell x.rows i f) at in
+        let Put : ℕ → ℕ → Type 0 = λ p r. PutRow t rows₁ rows₂ p found.first.cost found.first.number r found.first.parities in
+        let put' : Put (cell x.rows (slot_at e) spent_at) (cell x.rows (slot_at e) earlier_at) = subst₂ Put (spent-is ∙ here spent_at) (earlier-is ∙ here earlier_at) put in
+        stands-share holders' c.hand.stands c.valid.high l.has.many copied' more' put' fork-made refl
 
     -- what the copy sees, in slot s of a memory for books of depth k
     abbrev Sees : ℕ → ℕ → Memory → Type 0
@@ -228,7 +243,7 @@ module _ {m D N : ℕ} {x : Memory} {e t : ℕ} {es vs : List ℕ} {last : Block
         ap₂ (λ (w : Word) (l : List ℤ). next_after w book l path.earlier b) (own_is v.ids) (sym (claim-own (path.ids ∷ ids_of qs) (place book b) (view_of c.hand.arrays path) (block_at book b).j))
 
     -- the word that is kept for it, if one is, is its next; those of the others are as they were
-    pub fork-kepts : {old new : List ℕ} → OneKept t old new → Keeps new t (candidate_of book after) → Kepts book c.hand.arrays old es c.hand.rest →
+    pub fork-kepts : {old new : Table} → OneKept t old new → Keeps new t (candidate_of book after) → Kepts book c.hand.arrays old es c.hand.rest →
         let k = copy_with book D c.hand.arrays path b c.hand.rest n (some c.word) in
         Kepts book k.arrays new (insert key_at d es) k.queue
     unfolding copy_with room_for key_of score_of All Distinct with_ids

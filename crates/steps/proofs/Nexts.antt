@@ -21,7 +21,7 @@ use Rattle.outer.specs.declared.Candidate.{Candidate}
 use Rattle.outer.specs.declared.Next.{Next}
 use Rattle.outer.specs.Search.{Searchable}
 use Rattle.outer.specs.Words.{Word, next_after}
-use Rattle.outer.specs.Blocks.{BlockTabled, candidate_of, Nexts}
+use Rattle.outer.specs.Blocks.{Bits, BlockTabled, candidate_of, Nexts}
 use Rattle.outer.proofs.Entries.{block-low, block-walkable}
 use Rattle.reader.specs.Arrays.{vals_of}
 use Rattle.reader.specs.Paths.{Path, key_of, own_word, view_of}
@@ -37,7 +37,7 @@ use Rattle.standing.specs.Standing.{cell, cost_at, Row, Stands}
 use Rattle.standing.proofs.Sizes.{stands-length}
 use Rattle.standing.proofs.Taken.{taken-row}
 use Rattle.words.specs.declared.Block.{Block}
-use Rattle.words.specs.Kept.{Keeps, Kepts}
+use Rattle.words.specs.Kept.{Table, Keeps, Kepts}
 use Rattle.steps.specs.Steps.{Forking, Copying, CopiedTo}
 
 -- ---- a word as the search answers it
@@ -52,7 +52,7 @@ unfolding candidate_of
 none-word B none r e t = refl
 none-word B (some y) r e t = let z : ◌≡◌ {A = ℕ} 0 1 = cc in absurd (omega arith)
 
-module _ {m D N : ℕ} {x : Memory} {e : ℕ} {es vs kinds terms : List ℕ} {last : Block} {kept : List ℕ} {b : ℕ}
+module _ {m D N : ℕ} {x : Memory} {e : ℕ} {es vs kinds terms : List ℕ} {last : Block} {kept : Table} {b : ℕ}
     (c : Copying m D N x e es vs kinds terms last kept b) where
   -- the book, the path in hand, and the paths queued
   abbrev book : Book
@@ -73,7 +73,7 @@ module _ {m D N : ℕ} {x : Memory} {e : ℕ} {es vs kinds terms : List ℕ} {la
 
   -- ---- what the search needs
 
-  pub copy-tabled : BlockTabled book b kinds terms last.start last.height
+  copy-tabled : BlockTabled book b kinds terms last.start last.height
   copy-tabled =
       let o = c.own.block in
       record { valid = c.booked.valid; inside = o.within; tabled = c.booked.tabled; first = o.start; height = o.height }
@@ -129,13 +129,15 @@ module _ {m D N : ℕ} {x : Memory} {e : ℕ} {es vs kinds terms : List ℕ} {la
   Answers found vs = Nexts book vs path.earlier b (next_after (own_word book path b) book vs path.earlier b) found
 
   pub copy-found : {found : Next} →
+      ((B : Book) (k : ℕ) (p : Path) → BlockTabled B k kinds terms last.start last.height → Bits p.earlier → Row B x.rows (slot_at e) p → p.blocks ≡ suc k →
       (let vs = part (spot m (id_at x.rows (slot_at e) last.height) last.height) (2 ^ last.height) x.numbers in
-      Keeps kept (slot_at e) (candidate_of book (next_after (own_word book path b) book vs path.earlier b)) → Answers found vs) →
+      let after = next_after (own_word B p k) B vs p.earlier k in
+      Keeps kept (slot_at e) (candidate_of B after) → Nexts B vs p.earlier k after found)) →
       Answers found seen
   unfolding Paired
   copy-found {found} q =
       let Found : List ℤ → Type 0 = λ vs. Keeps kept (slot_at e) (candidate_of book (next_after (own_word book path b) book vs path.earlier b)) → Answers found vs in
-      subst Found values-are q (c.known.0.next b c.own.blocks)
+      subst Found values-are (q book b path copy-tabled c.own.fit.earlier row c.own.blocks) (c.known.0.next b c.own.blocks)
 
   -- ---- the words kept, of the paths queued
 
@@ -197,7 +199,7 @@ module _ {m D N : ℕ} {x : Memory} {e : ℕ} {es vs kinds terms : List ℕ} {la
         )
 
     -- the copy, as made among those left, is the reader's
-    pub copy_done : (n crowded : ℕ) (kept' : List ℕ) {z : Memory} {qs' : List ℕ} → qs ≡ room_for D es →
+    pub copy_done : (n crowded : ℕ) (kept' : Table) {z : Memory} {qs' : List ℕ} → qs ≡ room_for D es →
         (let o = copy-fork in
         let k = copy_with o.hand.book D o.hand.arrays o.hand.taken b o.hand.rest n (some o.word) in
         Stands o.hand.book D N z (e ∷ qs') ws k.arrays (o.hand.taken ∷ k.queue)

@@ -7,7 +7,7 @@ ghost use Rattle.std.proofs.Math.Option.{some};
 ghost use Rattle.polar.specs.Layers.{part, Within};
 ghost use Rattle.codebook.specs.Book.{Book};
 ghost use Rattle.codec.specs.Ties.{Parities};
-ghost use Rattle.outer.specs.Search.{Scratch, Searchable};
+ghost use Rattle.outer.specs.Search.{Searchable};
 ghost use Rattle.outer.specs.Blocks.{parity_set, Bits, BlockTabled, candidate_of, Nexts};
 ghost use Rattle.outer.specs.Words as W;
 ghost use Rattle.outer.specs.Words.{Word};
@@ -16,16 +16,16 @@ ghost use Rattle.order.specs.Entries.{slot_at};
 ghost use Rattle.sharing.specs.Sharing.{id_at, HasRow};
 ghost use Rattle.heights.specs.Workspace.{spot, Id};
 ghost use Rattle.standing.specs.Standing.{cell, cost_at, parities_at, Row};
-ghost use Rattle.words.specs.Kept.{HasCells, Keeps};
+ghost use Rattle.words.specs.Kept.{Keeps};
 
-use crate::kept::recall;
+use codebook::Tables;
 use heights::arrays::spot_of;
+use numerals::power;
 use order::entries::slot_of;
-use outer::{Next, Pair};
+use outer::{Candidate, Next, Pair, Scratch};
 use search::find::{nearest_pair, next_after};
-use standing::row::{cost_of, earlier_of, id_of, parities_of, word_of};
-
-pub mod kept;
+use standing::Memory;
+use standing::row::{cells_of, id_of};
 
 // A block: its first index, its height, its bias, and the height where its word goes.
 #[derive(Clone, Copy)]
@@ -41,107 +41,106 @@ pub fn score(spent: u32, cost: u32, bias: i32) -> i32
     requires { (spent + cost ≤ 1048064) × Within 1048576 bias }
     ensures { (result ≡ neg_ℤ (pos (spent + cost)) -ℤ bias) × Within 2096640 result }
 {
-    0 - (spent + cost) as i32 - bias
+    -((spent + cost) as i32) - bias
+}
+
+// The values that the path in a slot sees of height j.
+fn values_of<'a>(memory: &'a Memory, m: usize, slot: usize, j: usize) -> &'a [i32]
+    requires has_row { HasRow slot memory.now.rows.now × (m ≤ 9) × (j ≤ m) × Id 256 (id_at memory.now.rows.now slot j) }
+    requires within { spot m (id_at memory.now.rows.now slot j) j + 2 ^ j ≤ length memory.now.numbers.now }
+    ensures { result.now ≡ part (spot m (id_at memory.now.rows.now slot j) j) (2 ^ j) memory.now.numbers.now }
+{
+    let from = spot_of(m, id_of(memory.rows, slot, j), j);
+    &memory.numbers[from..from + power(j)]
 }
 
 // The nearest word of the block `at`, after the parities of the path in a slot, and the next after it.
 pub fn nearest_words(
-    rows: &[u32],
-    numbers: &[i32],
-    kinds: &[u8; 512],
-    terms: &[u32; 512],
+    memory: &Memory,
+    tables: &Tables,
     m: usize,
     slot: usize,
     at: Block,
-    words: &mut [u32; 256],
-    sums: &mut [u32; 128],
+    scratch: &mut Scratch,
 ) -> Pair
-    requires has_row { HasRow slot rows.now × (m ≤ 9) × (at.height ≤ m) × Id 256 (id_at rows.now slot at.height) }
-    requires searchable { Searchable numbers.now (spot m (id_at rows.now slot at.height) at.height) kinds.now at.start at.height }
-    requires words_len { (length words.old ≡ 256) × (length sums.old ≡ 128) }
-    ensures words_len_2 { (length words.new ≡ 256) × (length sums.new ≡ 128) }
-    ensures fact { (B : Book) (b : ℕ) (x : Parities) → BlockTabled B b kinds.now terms.now at.start at.height
-        → Bits x → cell rows.now slot parities_at ≡ parity_set B x
-        → (let vs = part (spot m (id_at rows.now slot at.height) at.height) (2 ^ at.height) numbers.now in
+    requires has_row { HasRow slot memory.now.rows.now × (m ≤ 9) × (at.height ≤ m) × Id 256 (id_at memory.now.rows.now slot at.height) }
+    requires searchable { Searchable memory.now.numbers.now (spot m (id_at memory.now.rows.now slot at.height) at.height) tables.now.kinds at.start at.height }
+    ensures fact { (B : Book) (b : ℕ) (x : Parities) → BlockTabled B b tables.now.kinds tables.now.terms at.start at.height
+        → Bits x → cell memory.now.rows.now slot parities_at ≡ parity_set B x
+        → (let vs = part (spot m (id_at memory.now.rows.now slot at.height) at.height) (2 ^ at.height) memory.now.numbers.now in
         (result.first ≡ candidate_of B (W.nearest B vs x b))
         × ((w : Word) → W.nearest B vs x b ≡ some w → result.second ≡ candidate_of B (W.next_after w B vs x b))) }
 {
-    let j = at.height;
-    let start = at.start;
-    let from = spot_of(m, id_of(rows, slot, j), j);
-    let parities = parities_of(rows, slot);
+    let values = values_of(memory, m, slot, at.height);
+    let parities = cells_of(memory.rows, slot).parities;
     nearest_pair(
-        numbers, from, kinds, terms, start, j as u32, parities, words, sums,
+        values,
+        tables,
+        at.start,
+        at.height as u32,
+        parities,
+        scratch,
     )
 }
 
 // The next word of the last block of the path in a slot and, where that is known too, the next after it.
-pub fn next_word(
-    rows: &[u32],
-    numbers: &[i32],
-    kinds: &[u8; 512],
-    terms: &[u32; 512],
+fn next_word(
+    memory: &Memory,
+    tables: &Tables,
     m: usize,
     slot: usize,
     last: Block,
-    words: &mut [u32; 256],
-    sets: &mut [u32; 256],
-    sums: &mut [u32; 128],
+    scratch: &mut Scratch,
 ) -> Next
-    requires has_row { HasRow slot rows.now × (m ≤ 9) × (last.height ≤ m) × Id 256 (id_at rows.now slot last.height) }
-    requires searchable { Searchable numbers.now (spot m (id_at rows.now slot last.height) last.height) kinds.now last.start last.height }
-    requires scratch { Scratch words.old sets.old sums.old × (cell rows.now slot cost_at < 4294967295) }
-    ensures scratch_2 { Scratch words.new sets.new sums.new }
-    ensures fact { (B : Book) (b : ℕ) (p : Path) → BlockTabled B b kinds.now terms.now last.start last.height
-        → Bits p.earlier → Row B rows.now slot p → p.blocks ≡ suc b
-        → (let vs = part (spot m (id_at rows.now slot last.height) last.height) (2 ^ last.height) numbers.now in
+    requires has_row { HasRow slot memory.now.rows.now × (m ≤ 9) × (last.height ≤ m) × Id 256 (id_at memory.now.rows.now slot last.height) }
+    requires searchable { Searchable memory.now.numbers.now (spot m (id_at memory.now.rows.now slot last.height) last.height) tables.now.kinds last.start last.height }
+    requires cost { cell memory.now.rows.now slot cost_at < 4294967295 }
+    ensures fact { (B : Book) (b : ℕ) (p : Path) → BlockTabled B b tables.now.kinds tables.now.terms last.start last.height
+        → Bits p.earlier → Row B memory.now.rows.now slot p → p.blocks ≡ suc b
+        → (let vs = part (spot m (id_at memory.now.rows.now slot last.height) last.height) (2 ^ last.height) memory.now.numbers.now in
         Nexts B vs p.earlier b (W.next_after (own_word B p b) B vs p.earlier b) result) }
 {
-    let j = last.height;
-    let start = last.start;
-    let from = spot_of(m, id_of(rows, slot, j), j);
-    let earlier = earlier_of(rows, slot);
-    let cost = cost_of(rows, slot);
-    let number = word_of(rows, slot);
+    let values = values_of(memory, m, slot, last.height);
+    let own = cells_of(memory.rows, slot);
     next_after(
-        numbers, from, kinds, terms, start, j as u32, earlier, cost, number, words, sets, sums,
+        values,
+        tables,
+        last.start,
+        last.height as u32,
+        own.earlier,
+        own.cost,
+        own.word,
+        scratch,
     )
 }
 
-// The same of the path of entry e: the word kept in its slot alone, if one is, else by a search.
+// The next word of the last block of the path of entry e and, where that is known too, the next after it: the word kept for its slot alone, if one is, else
+// by a search.
 pub fn other_word(
-    rows: &[u32],
-    numbers: &[i32],
-    kinds: &[u8; 512],
-    terms: &[u32; 512],
+    memory: &Memory,
+    tables: &Tables,
     m: usize,
     e: u64,
     last: Block,
-    kept: &[u32],
-    words: &mut [u32; 256],
-    sets: &mut [u32; 256],
-    sums: &mut [u32; 128],
+    kept: &[Option<Candidate>],
+    scratch: &mut Scratch,
 ) -> Next
-    requires has_row { HasRow (slot_at e) rows.now × (m ≤ 9) × (last.height ≤ m) × Id 256 (id_at rows.now (slot_at e) last.height) × HasCells (slot_at e) kept.now }
-    requires searchable { Searchable numbers.now (spot m (id_at rows.now (slot_at e) last.height) last.height) kinds.now last.start last.height }
-    requires scratch { Scratch words.old sets.old sums.old × (cell rows.now (slot_at e) cost_at < 4294967295) }
-    ensures scratch_2 { Scratch words.new sets.new sums.new }
-    ensures nexts { (B : Book) (b : ℕ) (p : Path) → BlockTabled B b kinds.now terms.now last.start last.height
-        → Bits p.earlier → Row B rows.now (slot_at e) p → p.blocks ≡ suc b
-        → (let vs = part (spot m (id_at rows.now (slot_at e) last.height) last.height) (2 ^ last.height) numbers.now in
+    requires has_row { HasRow (slot_at e) memory.now.rows.now × (m ≤ 9) × (last.height ≤ m) × Id 256 (id_at memory.now.rows.now (slot_at e) last.height) × (slot_at e < length kept.now) }
+    requires searchable { Searchable memory.now.numbers.now (spot m (id_at memory.now.rows.now (slot_at e) last.height) last.height) tables.now.kinds last.start last.height }
+    requires cost { cell memory.now.rows.now (slot_at e) cost_at < 4294967295 }
+    ensures nexts { (B : Book) (b : ℕ) (p : Path) → BlockTabled B b tables.now.kinds tables.now.terms last.start last.height
+        → Bits p.earlier → Row B memory.now.rows.now (slot_at e) p → p.blocks ≡ suc b
+        → (let vs = part (spot m (id_at memory.now.rows.now (slot_at e) last.height) last.height) (2 ^ last.height) memory.now.numbers.now in
         let next = W.next_after (own_word B p b) B vs p.earlier b in
         Keeps kept.now (slot_at e) (candidate_of B next) → Nexts B vs p.earlier b next result) }
 {
     let slot = slot_of(e);
-    if kept[slot * 4] != 0 {
-        let first = recall(kept, slot);
-        return Next {
+    match kept[slot] {
+        Some(first) => Next {
             first,
             second: first,
             known: false,
-        };
+        },
+        None => next_word(memory, tables, m, slot, last, scratch),
     }
-    next_word(
-        rows, numbers, kinds, terms, m, slot, last, words, sets, sums,
-    )
 }

@@ -13,14 +13,14 @@ use Rattle.reader.specs.Paths.{place}
 use Rattle.start.proofs.block_at.Goals as goal
 
 pub twos-requires : goal.twos-requires
-twos-requires c = let a = c.args in omega (arith, pow_pos (get_or a.heights.now a.b 0))
+twos-requires c = let a = c.args in omega (arith, pow_pos (get_or a.tables.now.heights a.b 0))
 
 pub returns : goal.returns
 unfolding place
-returns c B kinds terms ok t l =
+returns c B ok t l =
     let a = c.args in
     let b = a.b in
-    let e : get_or a.starts.now b 0 + c.power.result ≡ start_of B.blocks b + 2 ^ (block_at B b).j =
+    let e : get_or a.tables.now.starts b 0 + c.power.result ≡ start_of B.blocks b + 2 ^ (block_at B b).j =
     ap₂ (λ x y. x + y) (t.start b l) (c.power.ensures ∙ ap (λ j. 2 ^ j) (t.height b l)) in
     record {
       within = l;

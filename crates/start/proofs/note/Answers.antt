@@ -7,7 +7,6 @@ use lib.ListN.{set}
 use mir.Syntax.{w32}
 use mir.Val.{SFits}
 use mir.Facts.{to_z-of_z}
-use borrow.Author.Rules.{rules}
 use Rattle.laws.proofs.Signed.{abs-fits}
 use Rattle.order.specs.Entries.{key_at}
 use Rattle.start.proofs.note.Goals as goal
@@ -21,18 +20,18 @@ blocks-fit : (e n : ℕ) → n ≡ (key_at e).blocks → SFits w32 (pos n)
 unfolding key_at
 blocks-fit e n q = abs-fits (pos n) (omega arith)
 
-pub overflow_cast-walk_path : goal.overflow_cast-walk_path
-overflow_cast-walk_path c = number_fits _ _ c.number_of.ensures
+pub overflow_cast-walk : goal.overflow_cast-walk
+overflow_cast-walk c = number_fits _ _ c.number_of.ensures
 
-pub overflow_cast-walk_blocks : goal.overflow_cast-walk_blocks
-overflow_cast-walk_blocks c = blocks-fit _ _ c.blocks_of.ensures
+pub overflow_cast-walk-2 : goal.overflow_cast-walk-2
+overflow_cast-walk-2 c = blocks-fit _ _ c.blocks_of.ensures
 
-pub returns : goal.returns
-returns c =
+pub returns-clause-noted : goal.returns-clause-noted
+returns-clause-noted c =
     let a = c.args in
     let n = c.number_of.ensures in
     let b = c.blocks_of.ensures in (
-      ap (set a.walk_path.now a.at) (to_z-of_z (number_fits a.e _ n) ∙ ap pos n),
-      ap (set a.walk_blocks.now a.at) (to_z-of_z (blocks-fit a.e _ b) ∙ ap pos b),
-      ap (set a.walk_score.now a.at) (to_z-of_z {w = w32} (record { sfits = c.score_of.type_inv }) ∙ c.score_of.ensures),
+      ap (set a.walk.now.path.now a.at) (to_z-of_z (number_fits a.e _ n) ∙ ap pos n),
+      ap (set a.walk.now.blocks.now a.at) (to_z-of_z (blocks-fit a.e _ b) ∙ ap pos b),
+      ap (set a.walk.now.score.now a.at) (to_z-of_z {w = w32} (record { sfits = c.score_of.type_inv }) ∙ c.score_of.ensures),
     )

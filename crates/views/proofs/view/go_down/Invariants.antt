@@ -1,16 +1,16 @@
--- The loop invariants of view.go_down, and what falls at each turn.
-use mathlib.Core.Path.{◌≡◌}
+-- The loop's invariant in view.go_down: the path sees what the way down to height h makes of what it saw, and the rest of the rows is as it was.
 use Prim.Native.Nat.{◌≤◌}
-use lib.ListN.{length}
-use Rattle.standing.specs.Seen.{memory, HasArrays, StepSeen, IdsOnly}
+use Rattle.standing.specs.Seen.{contents, SameMemory, HasArrays, StepSeen, IdsOnly}
 use Rattle.views.specs.Steps.{Upper}
 use Rattle.views.proofs.Down.{down}
 use Rattle.views.proofs.view.go_down.Given as goal
 
 abbrev pub invariant-loop-h : goal.invariant-loop-h
-invariant-loop-h l =
-    (l.low ≤ l.h) × (l.h ≤ l.top) × (length l.numbers ≡ length l.initial.numbers) × HasArrays l.m l.arrays (memory l.rows l.holders l.numbers l.bytes) × IdsOnly l.m l.slot l.initial.rows l.rows
-    × StepSeen l.m l.arrays l.slot (memory l.initial.rows l.initial.holders l.initial.numbers l.bytes) (memory l.rows l.holders l.numbers l.bytes) (Upper l.top) (down l.top l.h)
-
-abbrev pub decreases-loop-h : goal.decreases-loop-h
-decreases-loop-h l = l.h
+invariant-loop-h l = record {
+  above : l.low ≤ l.h;
+  below : l.h ≤ l.top;
+  has : HasArrays l.layout.m l.layout.arrays (contents l.memory);
+  only : IdsOnly l.layout.m l.slot l.fn.memory.rows.now l.memory.rows.now;
+  seen : StepSeen l.layout.m l.layout.arrays l.slot (contents l.fn.memory) (contents l.memory) (Upper l.top) (down l.top l.h);
+  same : SameMemory l.memory l.fn.memory;
+}
