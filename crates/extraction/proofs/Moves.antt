@@ -34,6 +34,7 @@ use Rattle.standing.specs.Standing.{cell, spent_at, cost_at, parities_at, Row, S
 use Rattle.standing.proofs.Taken.{taken-row, taken-key, taken-blocks}
 use Rattle.standing.proofs.Places.{stands-insert}
 use Rattle.standing.proofs.Written.{stands-put}
+use Rattle.words.specs.Kept.{Table}
 use Rattle.words.specs.declared.Block.{Block}
 use Rattle.extraction.specs.Extraction.{Thirding}
 use Rattle.extraction.proofs.Counts.{blocks-few}
@@ -44,7 +45,7 @@ unfolding FitFor
 fit-parities B A p zero f = f.parities
 fit-parities B A p (suc b) f = f.parities
 
-module _ {m D N : ℕ} {x : Memory} {e : ℕ} {es vs kinds terms : List ℕ} {last at : Block} {kept : List ℕ} (c : Thirding m D N x e es vs kinds terms last at kept) where
+module _ {m D N : ℕ} {x : Memory} {e : ℕ} {es vs kinds terms : List ℕ} {last at : Block} {kept : Table} (c : Thirding m D N x e es vs kinds terms last at kept) where
   abbrev book : Book
   book = c.moving.hand.book
 

@@ -25,10 +25,10 @@ use heights::Layout;
 use machine::{Counts, Walk};
 use numerals::power;
 use order::entries::{blocks_of, entry, slot_of};
-use outer::Scratch;
+use outer::{Candidate, Scratch};
 use settings::Settings;
 use standing::Memory;
-use standing::row::{cost_of, id_of, spent_of, word_of};
+use standing::row::{cells_of, id_of};
 use start::{begin, block_at, fill_vacant, note, receive};
 use steps::{Queue, Tally};
 use views::view::commit;
@@ -46,15 +46,15 @@ fn finish(memory: &mut Memory, layout: Layout, s: Settings, stage: Stage, last: 
 {
     let slot = slot_of(stage.entry);
     let rows = &mut *memory.rows;
-    let word = word_of(rows, slot);
-    commit(memory, layout, slot, last.height, last.place, word);
-    let rows = &mut *memory.rows;
+    let own = cells_of(rows, slot);
+    commit(memory, layout, slot, last.height, last.place, own.word);
     let counts = Counts {
         extractions: stage.tally.extractions + 1,
         crowded: stage.tally.crowded,
         outrun: stage.tally.outrun,
-        discrepancy: spent_of(rows, slot) + cost_of(rows, slot),
+        discrepancy: own.spent + own.cost,
     };
+    let rows = &mut *memory.rows;
     Ran {
         counts,
         id: id_of(rows, slot, layout.m),
@@ -68,7 +68,7 @@ fn turn(
     memory: &mut Memory,
     queue: &mut Queue,
     visits: &mut [u32; 512],
-    kept: &mut [u32],
+    kept: &mut [Option<Candidate>],
     x: Shape,
     s: Settings,
     arrays: usize,
@@ -121,7 +121,7 @@ pub fn extractions(
     memory: &mut Memory,
     queue: &mut Queue,
     visits: &mut [u32; 512],
-    kept: &mut [u32],
+    kept: &mut [Option<Candidate>],
     x: Shape,
     s: Settings,
     arrays: usize,
@@ -184,7 +184,7 @@ pub fn extractions(
 // The run with these tables of the paths' rows, which hold zeros, and of the words kept, which hold anything.
 fn run_with(
     rows: &mut [u32],
-    kept: &mut [u32],
+    kept: &mut [Option<Candidate>],
     x: Shape,
     s: Settings,
     arrays: usize,
@@ -266,13 +266,13 @@ pub fn run(
     let arrays = s.paths as usize;
     if arrays <= 32 {
         let mut rows = [0u32; 512];
-        let mut kept = [0u32; 128];
+        let mut kept: [Option<Candidate>; 32] = [None; 32];
         return run_with(
             &mut rows, &mut kept, x, s, arrays, values, tables, numbers, bytes, walk,
         );
     }
     let mut rows = [0u32; 4096];
-    let mut kept = [0u32; 1024];
+    let mut kept: [Option<Candidate>; 256] = [None; 256];
     run_with(
         &mut rows, &mut kept, x, s, arrays, values, tables, numbers, bytes, walk,
     )
