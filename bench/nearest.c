@@ -3,18 +3,18 @@
  * costs by half bytes, which look for the nearest alone, on the same values, turn by turn in the same run. A block of 32 with 8 free indices and 0, 8 or
  * 16 tied ones, a block of 8 with 8 free ones, and one of 8 with a tied index and 7 free ones. Prints the nanoseconds that a search takes, the
  * median of 15 turns of each, and the ratios; exits with 1 where a word differs. The C loops are given, before the clock starts, the word of
- * no free bit and the word that each free bit alone adds, ties followed, and answer a number; the proved search goes by the loader's tables in
- * every call, and answers of both words the number, the cost, the setting and the parities after it.
+ * no free bit and the word that each free bit alone adds, ties followed, and answer a number; the proved search goes by the loader's tables, which
+ * each call copies for its eight blocks, and answers of both words the number, the cost, the setting and the parities after it.
  */
 #include <stdint.h>
 #include <stdio.h>
 #include <stdlib.h>
 #include <time.h>
 
-typedef void search(const int32_t *numbers, size_t count, size_t at, const uint8_t *kinds, const uint32_t *terms, size_t start, uint32_t j,
-                    uint32_t parities, uint32_t *words, uint32_t *sums, uint32_t *out);
+#define SLICE const int32_t *, size_t
 
-search measured_pair;
+void measured_pairs(SLICE, SLICE, SLICE, SLICE, SLICE, SLICE, SLICE, SLICE, const uint8_t *kinds, const uint32_t *terms, uint32_t j, uint32_t parities,
+                    uint32_t *out);
 
 enum { BLOCKS = 512, LONGEST = 32, MOST = 8, TURNS = 15, ROUNDS = 20 };
 
@@ -22,8 +22,8 @@ enum { BLOCKS = 512, LONGEST = 32, MOST = 8, TURNS = 15, ROUNDS = 20 };
 
 static int32_t numbers[BLOCKS * LONGEST];
 static uint8_t kinds[512];
-static uint32_t terms[512], words[256], sums[128];
-static uint32_t expected[BLOCKS], following[BLOCKS], out[8];
+static uint32_t terms[512];
+static uint32_t expected[BLOCKS], following[BLOCKS], out[64];
 
 static uint32_t state = 20261115;
 
@@ -176,9 +176,12 @@ INLINE int measure(const char *name, const uint32_t *rows, uint32_t parities, ui
                 differ |= table_nearest(numbers + b * length, rows, first, length, settings) != expected[b];
         double n = now();
         for (unsigned r = 0; r < ROUNDS; r++)
-            for (unsigned b = 0; b < BLOCKS; b++) {
-                measured_pair(numbers, BLOCKS * LONGEST, b * length, kinds, terms, 0, j, parities, words, sums, out);
-                differ |= out[0] != expected[b] || out[4] != following[b];
+            for (unsigned b = 0; b < BLOCKS; b += 8) {
+                const int32_t *v = numbers + b * length;
+                measured_pairs(v, length, v + length, length, v + 2 * length, length, v + 3 * length, length, v + 4 * length, length, v + 5 * length, length,
+                               v + 6 * length, length, v + 7 * length, length, kinds, terms, j, parities, out);
+                for (unsigned i = 0; i < 8; i++)
+                    differ |= out[8 * i] != expected[b + i] || out[8 * i + 4] != following[b + i];
             }
         double z = now();
         plain[t] = (m - a) / (ROUNDS * BLOCKS);

@@ -8,8 +8,6 @@ use native.Mathlib.Omega.{arith}
 use lib.IntN.{ℤ, pos, nat_abs}
 use lib.ListN.{length, get_or, take, drop, length-take, drop_of_length-le}
 use lib.Seq.{get_or-drop, drop-drop}
-use mir.Syntax.{w32}
-use mir.Val.{SFits}
 use mir.Facts.{to_z-of_z}
 use Rattle.laws.specs.Lists.{All}
 use Rattle.laws.proofs.Tests.{lt-or}
@@ -183,6 +181,3 @@ unfolding picked
 picked-eight t w =
     let e : w / 65536 ≡ w / 16 / 16 / 16 / 16 = omega arith in
     omega (arith, ap (picked t 4 4) e)
-
-pub small-less : (t : List ℕ) (k n : ℕ) → Small t n → k ≤ n → Small t k
-small-less t k n s h i l = s i (omega arith)

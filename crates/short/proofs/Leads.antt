@@ -37,10 +37,6 @@ module _ (w : ℕ) (x : Lead) where
       go (inr l) (inr m) = rw (le-ltb w x.least l, le-ltb w x.next m) (refl, refl)
 
 -- a value below 0, and one that is not
-pub below-pos : (s : ℤ) → T (not (non_neg s)) → 1 ≤ nat_abs s
-below-pos (pos a) t = absurd t
-below-pos (negsuc a) t = omega arith
-
 pub more-below : (s : ℤ) (c : ℕ) (x : Lead) → T (not (non_neg s))
     → weighed (nat_abs s * 256 - c) (record { base = x.base + c; odd = 1 - x.odd; least = x.least; next = x.next }) ≡ led_more s c x
 unfolding led_more

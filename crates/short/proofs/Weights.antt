@@ -292,7 +292,7 @@ led-none c =
     }
 
 -- of at most 8 values, the first of which counts 2^k
-led-all : (k : ℕ) (ss : List ℤ) → k + length ss ≤ 8 → All (Within 1048064) ss → Led (2 ^ k) ss (led (2 ^ k) ss)
+pub led-all : (k : ℕ) (ss : List ℤ) → k + length ss ≤ 8 → All (Within 1048064) ss → Led (2 ^ k) ss (led (2 ^ k) ss)
 unfolding led All
 led-all k [] l h = led-none (2 ^ k)
 led-all k (s ∷ ss) l h =

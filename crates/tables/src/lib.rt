@@ -2,7 +2,7 @@
 
 #![tactic(auto)]
 
-ghost use Rattle.std.specs.Prelude.{◌≤◌};
+ghost use Rattle.std.specs.Prelude.{◌≡◌, ◌≤◌};
 ghost use Rattle.outer.specs.Search.{Runs, Small};
 
 pub mod costs;
@@ -19,7 +19,9 @@ pub struct Directions {
 
 impl Directions {
     // No directions yet.
-    pub fn new() -> Self {
+    pub fn new() -> Self
+        ensures { result.free ≡ 0 }
+    {
         Directions {
             words: [0; 9],
             sets: [0; 9],

@@ -54,15 +54,16 @@ fn advance(directions: &mut Directions, free: usize, code: u8, row: u32, ties: u
         × ((e : ℕ → Entry) → Spans directions.old.words directions.old.sets free e
         → Spans directions.new.words directions.new.sets result (later code row ties e)) }
 {
+    if code == 1 {
+        return free;
+    }
     if code == 0 {
         let next = free + 1;
         directions.words[next] = row;
         directions.sets[next] = ties;
         return next;
     }
-    if code > 1 {
-        follow(directions, free + 1, wide(code - 2), row, ties);
-    }
+    follow(directions, free + 1, wide(code - 2), row, ties);
     free
 }
 

@@ -1,8 +1,8 @@
 -- `passes::pass::two_turned` meets its contract: the keys of each two words go the way of `sift_both`, or of `among`. Assumes nothing.
-use mathlib.Core.Path.{◌≡◌, sym, ap, ◌∙◌}
+use mathlib.Core.Path.{◌≡◌, ap, ◌∙◌}
 use Prim.Native.Nat.{◌+◌, ◌*◌}
 use native.Mathlib.Omega.{arith}
-use Rattle.passes.specs.Pass.{two_least, summed_key}
+use Rattle.passes.specs.Pass.{two_least}
 use Rattle.passes.proofs.Turned.{pair-keys}
 use Rattle.passes.proofs.pass.two_turned.Goals as goal
 use Rattle.passes.proofs.pass.two_turned.Goals.{then-this-ne0, else-this-ne0}

@@ -1,10 +1,8 @@
 -- `search::find::nearest_pair` meets its contract: the directions span the entries, and where all 8 indices are free, or all but the first, the words are
 -- bytes. Assumes nothing.
 use mathlib.Core.Path.{◌≡◌, sym, ap, ◌∙◌, subst}
-use mathlib.Core.List.{List}
-use Prim.Native.Nat.{ℕ, ◌^◌, ◌≤◌}
+use Prim.Native.Nat.{◌^◌, ◌≤◌}
 use native.Mathlib.Omega.{arith}
-use lib.IntN.{ℤ}
 use Rattle.laws.specs.Lists.{All}
 use Rattle.polar.specs.Layers.{Within}
 use Rattle.outer.specs.Search.{settings, entry, found_pair}

@@ -1,7 +1,6 @@
 -- `short::bytes::least_key` meets its contract, key by key. Assumes nothing.
-use mathlib.Core.Path.{◌≡◌, refl, ap, ap₂, ◌∙◌}
-use Prim.Native.Nat.{◌+◌, min}
-use native.Mathlib.Omega.{arith}
+use mathlib.Core.Path.{refl, ap₂, ◌∙◌}
+use Prim.Native.Nat.{min}
 use lib.ListN.{get_or}
 use Rattle.short.specs.Short.{least_key}
 use Rattle.short.proofs.LeastKey.{key_more}

@@ -1,11 +1,5 @@
 -- `short::flips::pair_free` meets its contract: the bytes of the two least keys are the words found. Assumes nothing.
-use mathlib.Core.Path.{◌≡◌, sym, subst}
-use mathlib.Core.List.{List}
 use native.Mathlib.Omega.{arith}
-use lib.IntN.{ℤ}
-use lib.ListN.{length}
-use Rattle.laws.specs.Lists.{All}
-use Rattle.polar.specs.Layers.{Within}
 use Rattle.short.proofs.Weights.{led-is}
 use Rattle.short.proofs.Answers.{keys-fit, free-answers}
 use Rattle.short.proofs.flips.pair_free.Goals as goal

@@ -1,6 +1,6 @@
 -- `tables::costs::cost_of` meets its contract, by what `pick` and `four` ensure. Assumes nothing.
 use mathlib.Core.Path.{◌≡◌, sym, ap, ap₂, ◌∙◌}
-use Prim.Native.Nat.{ℕ, ◌+◌, ◌≤◌}
+use Prim.Native.Nat.{ℕ, ◌+◌}
 use native.Mathlib.Omega.{arith}
 use Rattle.outer.specs.Search.{Runs, picked}
 use Rattle.outer.proofs.Sums.{entry-small, picked-two, picked-eight}

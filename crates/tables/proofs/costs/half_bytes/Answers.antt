@@ -1,12 +1,9 @@
 -- `tables::costs::half_bytes` meets its contract: a half byte's cost is the sum of those of two pairs of bits. Assumes nothing.
-use mathlib.Core.Path.{◌≡◌, refl, ap, ap₂, ◌∙◌}
-use mathlib.Core.List.{List, [], ◌∷◌}
-use Prim.Native.Nat.{ℕ, ◌+◌, ◌*◌, ◌/◌, ◌%◌, ◌≤◌, ◌<◌}
+use mathlib.Core.Path.{refl, ap, ap₂, ◌∙◌}
+use Prim.Native.Nat.{◌+◌, ◌*◌, ◌/◌, ◌%◌, ◌≤◌}
 use native.Mathlib.Omega.{arith}
-use lib.IntN.{ℤ}
 use lib.ListN.{get_or}
 use Rattle.std.proofs.lemmas.Nat.{mul-le}
-use Rattle.outer.specs.Search.{cost_of}
 use Rattle.laws.proofs.Stores.{stored_more}
 use Rattle.outer.proofs.Sums.{two-pairs, read_back, four-back}
 use Rattle.tables.proofs.costs.half_bytes.Goals as goal

@@ -1,5 +1,4 @@
 -- `tables::costs::prepare` meets its contract: so many runs hold the costs. Assumes nothing.
-use Prim.Native.Nat.{◌+◌, ◌*◌}
 use native.Mathlib.Omega.{arith}
 use Rattle.outer.specs.Search.{Costs}
 use Rattle.outer.proofs.Sums.{runs-more, costs-small}

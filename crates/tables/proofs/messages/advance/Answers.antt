@@ -1,6 +1,6 @@
 -- `tables::messages::advance` meets its contract, by what `follow` ensures. Assumes nothing.
 use mathlib.Core.Path.{◌≡◌, sym, ap, ◌∙◌}
-use Prim.Native.Nat.{suc, ◌+◌, ◌^◌}
+use Prim.Native.Nat.{suc, ◌^◌}
 use native.Mathlib.Nat.{two-pow-succ}
 use native.Mathlib.Numerals.{add-one}
 use native.Mathlib.Omega.{arith}
@@ -39,18 +39,19 @@ returns-then-code-eq0 c =
       λ e h. free-spans d.words d.sets a.free e h a.row a.ties a.code z (search (rules, l)) (search (rules, l)),
     )
 
-pub returns-then-code-gt1 : goal.returns-then-code-gt1
-returns-then-code-gt1 c =
+pub returns : goal.returns
+returns c =
     let a = c.args in
     let d = a.directions.now in
     let n = c.follow.new.directions in
     let t = c.wide.result in
-    let q : a.code ≡ suc (suc t) = omega (arith, c.wide.ensures) in
+    let q : a.code ≡ suc (suc t) = omega (arith, c.wide.ensures, c.if-code-eq1.false, c.if-code-eq0.false) in
     (sym (grown-other a.code (2 ^ a.free) c.if-code-eq0.false), λ e h. tie-spans d.words d.sets a.free e h a.row a.ties n.words n.sets a.code t q c.follow.ensures.1)
 
-pub returns-else-code-gt1 : goal.returns-else-code-gt1
-returns-else-code-gt1 c =
+pub returns-then-code-eq1 : goal.returns-then-code-eq1
+returns-then-code-eq1 c =
     let a = c.args in
     let d = a.directions.now in
-    let q : a.code ≡ 1 = omega (arith, c.if-code-eq0.false, c.if-code-gt1.false) in
-    (sym (grown-other a.code (2 ^ a.free) c.if-code-eq0.false), λ e h. zero-spans d.words d.sets a.free e h a.row a.ties a.code q)
+    let q : a.code ≡ 1 = c.if-code-eq1.true in
+    let z : a.code ≡ 0 → ⊥ = λ e. omega arith in
+    (sym (grown-other a.code (2 ^ a.free) z), λ e h. zero-spans d.words d.sets a.free e h a.row a.ties a.code q)

@@ -2,7 +2,7 @@
 use mathlib.Core.Path.{◌≡◌, ap, ◌∙◌}
 use Prim.Native.Nat.{◌+◌, ◌-◌, ◌*◌, ◌/◌, ◌%◌}
 use native.Mathlib.Omega.{arith}
-use lib.Bits.{bit_xor, xor_zero_l}
+use lib.Bits.{bit_xor}
 use lib.ListN.{get_or}
 use Rattle.outer.specs.Search.{spread}
 use Rattle.tables.proofs.Spread.{spread-last}
