@@ -1,9 +1,8 @@
 -- Loading a code book: document 01, "The code book" and "Refusal table". Assumes nothing.
-use Rattle.std.specs.Prelude.{Bool, true, false, cond, not, ◌&&◌, ◌||◌, List, [], ◌∷◌, ◌++◌, ℕ, zero, suc, ◌+◌, ◌-◌, ◌*◌, ◌^◌, ◌%◌, length, get_or, take, drop, set, replicate, ℤ, pos, neg_ℤ, nat_abs, leb, ltb, eqb}
+use Rattle.std.specs.Prelude.{Bool, true, false, cond, not, ◌&&◌, ◌||◌, List, [], ◌∷◌, ◌++◌, ℕ, zero, suc, ◌+◌, ◌-◌, ◌*◌, ◌^◌, ◌%◌, length, get_or, take, drop, set, replicate, ℤ, pos, neg_ℤ, nat_abs, leb, ltb, eqb, Result, Ok, Err}
 use Rattle.std.proofs.Math.Option.{Option, none, some}
 use Rattle.codebook.specs.declared.Refusal.{Refusal}
 use Rattle.codebook.specs.declared.Refusal.TheVariants.{Truncated, Unknown, Misplaced, OutOfRange, TooManyTied, TooManyFree}
-use Rattle.codebook.specs.declared.Outcome.TheVariants.{Done, Refused}
 use Rattle.codebook.specs.declared.Command.{Command}
 use Rattle.codebook.specs.declared.Command.TheVariants.{Length, Free, Zero, Tie, Term, Block as NextBlock, End}
 use Rattle.codebook.specs.declared.Shape.{Shape}
@@ -186,12 +185,12 @@ load bytes = load_from (length bytes) start bytes
 
 -- the shape of a book: m, n, k and V
 abbrev pub book_shape : Book → Shape
-book_shape B = record { outcome = Done; m = B.m; n = 2 ^ B.m; k = free_count B.kinds; blocks = length B.blocks }
+book_shape B = record { m = B.m; n = 2 ^ B.m; k = free_count B.kinds; blocks = length B.blocks }
 
--- what loading answers: the book's shape, zeros on a refusal
-unfoldable pub shape_of : Load → Shape
-shape_of (refused r) = record { outcome = Refused r; m = 0; n = 0; k = 0; blocks = 0 }
-shape_of (loaded B) = book_shape B
+-- what loading answers: the book's shape, or the refusal
+unfoldable pub shape_of : Load → Result Shape Refusal
+shape_of (refused r) = Err r
+shape_of (loaded B) = Ok (book_shape B)
 
 -- the number of a call on a book: that of the refusal where it does not load, else what the call's own tests come to
 unfoldable pub number_by : Load → (Book → ℕ) → ℕ

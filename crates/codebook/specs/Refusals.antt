@@ -1,10 +1,8 @@
 -- The refusals' numbers: document 01, "Refusal table". Assumes nothing.
-use Rattle.std.specs.Prelude.{Bool, true, false, ℕ}
+use Rattle.std.specs.Prelude.{Bool, true, false, ℕ, Result, Ok, Err}
 use Rattle.std.proofs.Math.Option.{Option, some}
 use Rattle.codebook.specs.declared.Refusal.{Refusal}
 use Rattle.codebook.specs.declared.Refusal.TheVariants.{Truncated, Unknown, Misplaced, OutOfRange, TooManyTied, TooManyFree, Mismatch, BadSetting, BadValue, AboveLimit, Unreadable}
-use Rattle.codebook.specs.declared.Outcome.{Outcome}
-use Rattle.codebook.specs.declared.Outcome.TheVariants.{Done, Refused}
 
 -- a refusal's number
 abbrev pub refusal_number : Refusal → ℕ
@@ -20,10 +18,10 @@ refusal_number BadValue = 9
 refusal_number AboveLimit = 10
 refusal_number Unreadable = 11
 
--- an outcome's number: 0, or the refusal's
-abbrev pub outcome_number : Outcome → ℕ
-outcome_number Done = 0
-outcome_number (Refused r) = refusal_number r
+-- an outcome's number, whatever it answers where nothing is refused: 0, or the refusal's
+abbrev pub outcome_number : {A : Type 0} → Result A Refusal → ℕ
+outcome_number (Ok answer) = 0
+outcome_number (Err r) = refusal_number r
 
 -- refusal r where the test fails, else what comes after it
 unfoldable pub unless : Bool → Refusal → Option Refusal → Option Refusal

@@ -1,8 +1,9 @@
 -- The tables that the loader fills for the decoder, as functions of the loaded book. Assumes nothing.
-use Rattle.std.specs.Prelude.{◌≡◌, cond, List, [], ◌∷◌, map, ℕ, zero, suc, ◌+◌, ◌^◌, length, take, drop, eqb, ℤ}
+use Rattle.std.specs.Prelude.{◌≡◌, cond, List, [], ◌∷◌, map, ℕ, zero, suc, ◌+◌, ◌^◌, length, take, drop, replicate, eqb, pos}
 use Rattle.std.proofs.Math.Option.{Option, none, some}
 use Rattle.laws.specs.Lists.{tab, over}
 use Rattle.codebook.specs.declared.Refusal.{Refusal}
+use Rattle.codebook.specs.declared.Tables.{Tables}
 use Rattle.codebook.specs.Book.{Kind, free, frozen, tied, Block, Book, start_of}
 use Rattle.codebook.specs.Loading.{Loading, Load, refused, loaded, start, total, member, width, command, refusal, next}
 
@@ -20,13 +21,9 @@ tie_set t (free ∷ ks) i = tie_set t ks i
 tie_set t (frozen ∷ ks) i = tie_set t ks i
 tie_set t (tied terms ∷ ks) i = cond (member i terms) (2 ^ t) 0 + tie_set (suc t) ks i
 
--- for each index its kind's code and its set of ties; for each block its j, start and bias
-pub record Tables : Type 0 where
-  pub kinds : List ℕ
-  pub terms : List ℕ
-  pub heights : List ℕ
-  pub starts : List ℕ
-  pub biases : List ℤ
+-- the tables before anything is loaded
+abbrev pub empty : Tables
+empty = record { kinds = replicate 512 0; terms = replicate 512 0; heights = replicate 512 0; starts = replicate 512 0; biases = replicate 512 (pos 0) }
 
 -- the tables of these kinds and blocks, with a set of ties for each of n indices
 abbrev pub tables_with : ℕ → List Kind → List Block → Tables

@@ -3,8 +3,10 @@
 
 #![tactic(auto)]
 
+ghost use Rattle.std.specs.Prelude.{◌≡◌, ◌<◌, ◌≤◌, IsTrue};
+
 // Why a call is refused: document 01, "Refusal table".
-#[derive(Clone, Copy)]
+#[derive(Clone, Copy, Debug, PartialEq, Eq)]
 pub enum Refusal {
     // 1, short: the book ends in a command, or where one is due.
     Truncated,
@@ -31,14 +33,10 @@ pub enum Refusal {
 }
 
 // Whether a call did what it is for.
-#[derive(Clone, Copy)]
-pub enum Outcome {
-    Done,
-    Refused(Refusal),
-}
+pub type Outcome = Result<(), Refusal>;
 
 // A command of a code book with its operands: document 01, "The code book".
-#[derive(Clone, Copy)]
+#[derive(Clone, Copy, Debug, PartialEq, Eq)]
 pub enum Command {
     // 10: the length is 2^m.
     Length(u32),
@@ -54,15 +52,21 @@ pub enum Command {
     End,
 }
 
-// What loading answers: m, the length n = 2^m, the number of free indices k, the number of blocks V; zeros where it is refused.
-#[derive(Clone, Copy)]
+// A loaded book's m, its length n = 2^m, its number of free indices k and its number of blocks V.
+#[derive(Clone, Copy, Debug, PartialEq, Eq)]
 pub struct Shape {
-    pub outcome: Outcome,
     pub m: u32,
     pub n: u32,
     pub k: u32,
     pub blocks: u32,
 }
+
+// The codes of the kinds of indices: free, zero, and the first tie, the next ones following.
+pub const FREE: u8 = 0;
+
+pub const ZERO: u8 = 1;
+
+pub const TIED: u8 = 2;
 
 // What the loader fills: of each index the code of its kind and the set of the ties that it is a term of; of each block its j, its first index and its
 // bias. specs/Tables.antt says what they are for a book.
@@ -75,18 +79,35 @@ pub struct Tables {
     pub biases: [i32; 512],
 }
 
-// What stands at a place of a code book.
-#[derive(Clone, Copy)]
-pub enum Read {
-    // A listed command, the place after it, and whether its operands are whole: where the book ends in them, they are read as 0.
-    Found(Command, usize, bool),
-    // A byte that is not listed.
-    Unlisted,
+impl Tables {
+    ghost use Rattle.codebook.specs.Tables.{empty};
+
+    // Tables that nothing is loaded into yet.
+    pub fn empty() -> Tables
+        ensures { result ≡ empty }
+    {
+        Tables {
+            kinds: [0; 512],
+            terms: [0; 512],
+            heights: [0; 512],
+            starts: [0; 512],
+            biases: [0; 512],
+        }
+    }
+}
+
+// A listed command that is found at a place of a code book, the place after it, and whether its operands are whole: where the book ends in
+// them, they are read as 0.
+#[derive(Clone, Copy, Debug, PartialEq, Eq)]
+pub struct Found {
+    pub command: Command,
+    pub next: usize,
+    pub whole: bool,
 }
 
 // How far a code book is loaded: m and n, 0 before the length; the indices filled, the ties among them, and whether the last command was a
 // tie or a term; the blocks, the indices in them, and the free ones of these.
-#[derive(Clone, Copy)]
+#[derive(Clone, Copy, Debug, PartialEq, Eq)]
 pub struct Progress {
     pub m: u32,
     pub n: u32,
@@ -96,17 +117,44 @@ pub struct Progress {
     pub free: u32,
     pub blocks: u32,
     pub covered: u32,
+    // All of them keep within the tables, and a tie or a term belongs to a tie.
+    pub ghost small: { n ≤ 512 },
+    pub ghost within: { filled ≤ n },
+    pub ghost few: { ties ≤ 32 },
+    pub ghost tie: { IsTrue tying → 0 < ties },
+    pub ghost room: { blocks ≤ covered },
+    pub ghost reach: { covered ≤ n },
+    pub ghost most: { free ≤ covered },
 }
 
-// What one command comes to.
-#[derive(Clone, Copy)]
+impl Progress {
+    ghost use Rattle.codebook.specs.Progress.{Begun};
+
+    // Nothing is loaded yet.
+    pub fn start() -> Progress
+        ensures { Begun 0 0 result }
+    {
+        Progress {
+            m: 0,
+            n: 0,
+            filled: 0,
+            ties: 0,
+            tying: false,
+            free: 0,
+            blocks: 0,
+            covered: 0,
+        }
+    }
+}
+
+// What one command that is not refused comes to.
+#[derive(Clone, Copy, Debug, PartialEq, Eq)]
 pub enum Step {
     Next(Progress),
     // The end command.
     End(Progress),
-    Refused(Refusal),
 }
 
 mod numbers;
 
-pub use numbers::{outcome_number, refusal_number};
+pub use numbers::outcome_number;

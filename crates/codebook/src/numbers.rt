@@ -5,21 +5,23 @@ ghost use Rattle.codebook.specs.Refusals.{refusal_number, outcome_number};
 use crate::{Outcome, Refusal};
 
 // A refusal's number.
-pub fn refusal_number(r: Refusal) -> u32
-    ensures { result ≡ refusal_number r }
-{
-    match r {
-        Refusal::Truncated => 1,
-        Refusal::Unknown => 2,
-        Refusal::Misplaced => 3,
-        Refusal::OutOfRange => 4,
-        Refusal::TooManyTied => 5,
-        Refusal::TooManyFree => 6,
-        Refusal::Mismatch => 7,
-        Refusal::BadSetting => 8,
-        Refusal::BadValue => 9,
-        Refusal::AboveLimit => 10,
-        Refusal::Unreadable => 11,
+impl From<Refusal> for u32 {
+    ghost from_gives = { λ r n. n ≡ refusal_number r };
+
+    fn from(r: Refusal) -> u32 {
+        match r {
+            Refusal::Truncated => 1,
+            Refusal::Unknown => 2,
+            Refusal::Misplaced => 3,
+            Refusal::OutOfRange => 4,
+            Refusal::TooManyTied => 5,
+            Refusal::TooManyFree => 6,
+            Refusal::Mismatch => 7,
+            Refusal::BadSetting => 8,
+            Refusal::BadValue => 9,
+            Refusal::AboveLimit => 10,
+            Refusal::Unreadable => 11,
+        }
     }
 }
 
@@ -28,7 +30,7 @@ pub fn outcome_number(o: Outcome) -> u32
     ensures { result ≡ outcome_number o }
 {
     match o {
-        Outcome::Done => 0,
-        Outcome::Refused(r) => refusal_number(r),
+        Ok(()) => 0,
+        Err(r) => u32::from(r),
     }
 }

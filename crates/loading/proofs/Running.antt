@@ -13,27 +13,28 @@ use lib.Seq.{drop-cons, drop-drop, take_all}
 use lib.Pow.{pow_pos}
 use lib.Dec.{T, leb, ltb, eqb, leb→le, nleb→lt, eqb→eq}
 use borrow.Author.Tests.{eq-eqb, ne_eqb, eqb-true, eqb-false, lt-ltb, le-ltb}
+use Rattle.std.specs.Prelude.{Option as Maybe, Some, None, Result, Ok, Err}
 use Rattle.laws.specs.Lists.{tab, over}
 use Rattle.laws.proofs.Tests.{cond-case, cond_same, and_left, and_right, or_case, neqb→ne, T_true, T_false, lt-or}
 use Rattle.codebook.specs.declared.Refusal.{Refusal}
 use Rattle.codebook.specs.declared.Refusal.TheVariants.{Truncated, Unknown, Misplaced}
-use Rattle.codebook.specs.declared.Outcome.TheVariants.{Done}
 use Rattle.codebook.specs.declared.Command.{Command}
 use Rattle.codebook.specs.declared.Command.TheVariants.{Length, Free, Zero, Tie, Term, Block as NextBlock, End}
-use Rattle.codebook.specs.declared.Shape.{Shape}
-use Rattle.codebook.specs.declared.Read.{Read}
-use Rattle.codebook.specs.declared.Read.TheVariants.{Found, Unlisted}
+use Rattle.codebook.specs.declared.Found.{Found}
 use Rattle.codebook.specs.declared.Progress.{Progress}
-use Rattle.codebook.specs.declared.Step.TheVariants.{Next, End as Ended, Refused}
+use Rattle.codebook.specs.declared.Step.{Step}
+use Rattle.codebook.specs.declared.Step.TheVariants.{Next, End as Ended}
 use Rattle.codebook.specs.Refusals.{unless}
-use Rattle.codebook.specs.Book.{free_count, tied_count, start_of}
+use Rattle.codebook.specs.Book.{free_count}
 use Rattle.codebook.specs.Loading.{Loading, refused, loaded, start, total, placed, listed, width, command, next, refusal, book_of, load, shape_of}
-use Rattle.codebook.specs.Tables.{Tables, kind_codes, tie_set, tables_of, overlaid, tables_so_far, loaded_up_to, Filled}
-use Rattle.codebook.specs.Progress.{read_at, byte_of, is_end, verdict, Sized, HoldsLoaded, Goes, Judged, shape_at}
+use Rattle.codebook.specs.declared.Tables.{Tables}
+use Rattle.codebook.specs.Tables.{kind_codes, tie_set, tables_of, overlaid, tables_so_far, loaded_up_to, Filled}
+use Rattle.codebook.specs.Progress.{read_at, byte_of, is_end, verdict, Begun, HoldsLoaded, Settled, Goes, shape_at}
 use Rattle.codebook.proofs.Fuel.{judged_as, fold_from, none_left, fuel-enough, refused_as, ended_as, load-fold, stopped, stopped_at, stop-fold}
 use Rattle.codebook.proofs.Blocks.{start-some}
 use Rattle.codebook.proofs.Loaded.{total-begun}
 use Rattle.obeying.proofs.Growing.{counts-none}
+use Rattle.obeying.proofs.Verdicts.{refused as settled-refused, proceeded}
 
 -- ---- commands and their bytes
 
@@ -60,11 +61,11 @@ byte-command byte operands l =
 -- of any fold: what loading comes to, and what is loaded where it stops
 module _ {A : Type 0} (bad : Refusal → Loading → A) (good : Loading → Bool → A) where
   -- what it comes to from here on, by what is read
-  unfoldable pub Comes : List ℕ → Loading → ℕ → Read → Type 0
-  Comes bytes s at (Found c nx whole) =
-      (fold_from bad good (length bytes) s (drop at bytes) ≡ judged_as bad good (verdict s c whole) s (cond (is_end c) (good s (eqb nx (length bytes))) (fold_from bad good (length bytes) (next s c) (drop nx bytes))))
-      × (at < nx) × (nx ≤ length bytes)
-  Comes bytes s at Unlisted = fold_from bad good (length bytes) s (drop at bytes) ≡ bad Unknown s
+  unfoldable pub Comes : List ℕ → Loading → ℕ → Maybe Found → Type 0
+  Comes bytes s at (Some f) =
+      (fold_from bad good (length bytes) s (drop at bytes) ≡ judged_as bad good (verdict s f.command f.whole) s (cond (is_end f.command) (good s (eqb f.next (length bytes))) (fold_from bad good (length bytes) (next s f.command) (drop f.next bytes))))
+      × (at < f.next) × (f.next ≤ length bytes)
+  Comes bytes s at None = fold_from bad good (length bytes) s (drop at bytes) ≡ bad Unknown s
 
   judged-cut : (t : Bool) (s : Loading) (x y : A) → judged_as bad good (unless t Misplaced (some Truncated)) s x ≡ judged_as bad good (unless t Misplaced (some Truncated)) s y
   unfolding unless judged_as
@@ -86,7 +87,7 @@ module _ {A : Type 0} (bad : Refusal → Loading → A) (good : Loading → Bool
         let e : length bytes ≡ suc (length bytes - 1) = omega arith in
         ap (λ (f : ℕ). fold_from bad good f s (drop at bytes)) e ∙ rw (drop-cons bytes at 0 h, add-one)
 
-    unlisted-comes : T (not (listed b)) → Comes bytes s at Unlisted
+    unlisted-comes : T (not (listed b)) → Comes bytes s at None
     unfolding Comes refusal unless judged_as
     unlisted-comes l = load_step ∙ rw (T_false (listed b) l)
 
@@ -114,7 +115,7 @@ module _ {A : Type 0} (bad : Refusal → Loading → A) (good : Loading → Bool
           go (inl k) = ne_eqb (length rest) 0 (λ z. omega (arith, size)) ∙ sym (ne_eqb (at + 1 + width b) (length bytes) (λ z. omega (arith, end-width e)))
           go (inr k) = eq-eqb (length rest) 0 (omega (arith, size)) ∙ sym (eq-eqb (at + 1 + width b) (length bytes) (omega (arith, end-width e)))
 
-      whole-comes : T (leb (width b) (length rest)) → Comes bytes s at (Found (command b (take (width b) rest)) (at + 1 + width b) true)
+      whole-comes : T (leb (width b) (length rest)) → Comes bytes s at (Some (record { command = command b (take (width b) rest); next = at + 1 + width b; whole = true }))
       unfolding Comes
       whole-comes w =
           let c = command b (take (width b) rest) in
@@ -130,7 +131,7 @@ module _ {A : Type 0} (bad : Refusal → Loading → A) (good : Loading → Bool
           )
 
       -- a cut command is refused, whatever would follow
-      cut-comes : T (not (leb (width b) (length rest))) → Comes bytes s at (Found (command b []) (at + 1) false)
+      cut-comes : T (not (leb (width b) (length rest))) → Comes bytes s at (Some (record { command = command b []; next = at + 1; whole = false }))
       unfolding Comes refusal verdict unless judged_as
       cut-comes w =
           let other : b ≡ 0x7f → ⊥ = λ e. omega (arith, nleb→lt (width b) (length rest) w, end-width e) in (
@@ -143,7 +144,7 @@ module _ {A : Type 0} (bad : Refusal → Loading → A) (good : Loading → Bool
     unfolding read_at
     comes =
         cond-case (Comes bytes s at) (listed b)
-        (λ l. cond-case (Comes bytes s at) (leb (width b) (length rest)) (whole-comes l) (cut-comes l))
+        (λ l. cond-case (λ (f : Found). Comes bytes s at (Some f)) (leb (width b) (length rest)) (whole-comes l) (cut-comes l))
         unlisted-comes
 
   -- what a fold over all bytes comes to, that goes on from a place
@@ -151,50 +152,41 @@ module _ {A : Type 0} (bad : Refusal → Loading → A) (good : Loading → Bool
     fold_end : length bytes ≤ at → x ≡ bad Truncated s
     fold_end l = goes ∙ rw (drop_of_length-le bytes {i = at} l) (none_left bad good (length bytes) s)
 
-    fold-unlisted : at < length bytes → read_at bytes at ≡ Unlisted → x ≡ bad Unknown s
+    fold-unlisted : at < length bytes → read_at bytes at ≡ None → x ≡ bad Unknown s
     unfolding Comes
     fold-unlisted h e = goes ∙ subst (Comes bytes s at) e (comes bytes s at h)
 
-    module _ (h : at < length bytes) (c : Command) (nx : ℕ) (whole : Bool) (e : read_at bytes at ≡ Found c nx whole) where
-      there : Comes bytes s at (Found c nx whole)
+    module _ (h : at < length bytes) (f : Found) (e : read_at bytes at ≡ Some f) where
+      there : Comes bytes s at (Some f)
       there = subst (Comes bytes s at) e (comes bytes s at h)
 
-      fold-place : (at < nx) × (nx ≤ length bytes)
+      fold-place : (at < f.next) × (f.next ≤ length bytes)
       unfolding Comes
       fold-place = (there.1, there.2)
 
-      fold-refused : (f : Refusal) → verdict s c whole ≡ some f → x ≡ bad f s
+      fold-refused : (r : Refusal) → verdict s f.command f.whole ≡ some r → x ≡ bad r s
       unfolding Comes judged_as
-      fold-refused f k = goes ∙ there.0 ∙ rw k
+      fold-refused r k = goes ∙ there.0 ∙ rw k
 
-      fold_next : verdict s c whole ≡ none → is_end c ≡ false → x ≡ fold_from bad good (length bytes) (next s c) (drop nx bytes)
+      fold_next : verdict s f.command f.whole ≡ none → is_end f.command ≡ false → x ≡ fold_from bad good (length bytes) (next s f.command) (drop f.next bytes)
       unfolding Comes judged_as
       fold_next k l = goes ∙ there.0 ∙ rw (k, l)
 
-      fold-last : verdict s c whole ≡ none → is_end c ≡ true → x ≡ good s (eqb nx (length bytes))
+      fold-last : verdict s f.command f.whole ≡ none → is_end f.command ≡ true → x ≡ good s (eqb f.next (length bytes))
       unfolding Comes judged_as
       fold-last k l = goes ∙ there.0 ∙ rw (k, l)
 
--- ---- what a step was judged by
+-- ---- what a step was settled by
 
-module _ (K : Type 0) (P : Progress → Type 0) where
-  judged-refused : (o : Option Refusal) (end : Bool) (r : Refusal) → Judged o end K P (Refused r) → (o ≡ some r) × K
-  unfolding Judged Goes
-  judged-refused none true r j = let e : Refused r ≡ Ended j.0 = j.1 in absurd (let z : ◌≡◌ {A = ℕ} 0 1 = cc in omega arith)
-  judged-refused none false r j = let e : Refused r ≡ Next j.0 = j.1 in absurd (let z : ◌≡◌ {A = ℕ} 0 1 = cc in omega arith)
-  judged-refused (some x) end r j = let e : Refused r ≡ Refused x = j.0 in (let f : some x ≡ some r = cc in f, j.1)
+goes-on : (end : Bool) (P : Progress → Type 0) (q : Progress) → Goes end P (Next q) → (end ≡ false) × P q
+unfolding Goes
+goes-on true P q g = let e : Next q ≡ Ended g.0 = g.1 in absurd (let z : ◌≡◌ {A = ℕ} 0 1 = cc in omega arith)
+goes-on false P q g = let e : Next q ≡ Next g.0 = g.1 in (refl, subst P (let f : g.0 ≡ q = cc in f) g.2)
 
-  judged-next : (o : Option Refusal) (end : Bool) (q : Progress) → Judged o end K P (Next q) → (o ≡ none) × (end ≡ false) × P q
-  unfolding Judged Goes
-  judged-next none true q j = let e : Next q ≡ Ended j.0 = j.1 in absurd (let z : ◌≡◌ {A = ℕ} 0 1 = cc in omega arith)
-  judged-next none false q j = let e : Next q ≡ Next j.0 = j.1 in (refl, refl, subst P (let f : j.0 ≡ q = cc in f) j.2)
-  judged-next (some x) end q j = let e : Next q ≡ Refused x = j.0 in absurd (let z : ◌≡◌ {A = ℕ} 0 1 = cc in omega arith)
-
-  judged-end : (o : Option Refusal) (end : Bool) (q : Progress) → Judged o end K P (Ended q) → (o ≡ none) × (end ≡ true) × P q
-  unfolding Judged Goes
-  judged-end none true q j = let e : Ended q ≡ Ended j.0 = j.1 in (refl, refl, subst P (let f : j.0 ≡ q = cc in f) j.2)
-  judged-end none false q j = let e : Ended q ≡ Next j.0 = j.1 in absurd (let z : ◌≡◌ {A = ℕ} 0 1 = cc in omega arith)
-  judged-end (some x) end q j = let e : Ended q ≡ Refused x = j.0 in absurd (let z : ◌≡◌ {A = ℕ} 0 1 = cc in omega arith)
+goes-last : (end : Bool) (P : Progress → Type 0) (q : Progress) → Goes end P (Ended q) → (end ≡ true) × P q
+unfolding Goes
+goes-last true P q g = let e : Ended q ≡ Ended g.0 = g.1 in (refl, subst P (let f : g.0 ≡ q = cc in f) g.2)
+goes-last false P q g = let e : Ended q ≡ Next g.0 = g.1 in absurd (let z : ◌≡◌ {A = ℕ} 0 1 = cc in omega arith)
 
 -- ---- the end
 
@@ -226,13 +218,13 @@ module _ (p : Progress) (t old : Tables) (s : Loading) (h : HoldsLoaded p t old 
   all-filled : length s.kinds ≡ total s
   all-filled = h.counts.order (start-some s.blocks (omega (arith, h.counts.start, all-covered, total-begun s begun, pow_pos s.m)))
 
-  pub end-shape : shape_of (loaded (book_of s)) ≡ shape_at p
+  pub end-shape : shape_of (loaded (book_of s)) ≡ Ok (shape_at p)
   unfolding shape_of shape_at book_of
   end-shape =
       let c = h.counts in
       let n : 2 ^ s.m ≡ p.n = sym (total-begun s begun) ∙ sym c.n in
       let k : free_count s.kinds ≡ p.free = sym (c.free ∙ ap free_count (take_all s.covered s.kinds (omega (arith, all-covered, all-filled)))) in
-      λ i. record { outcome = Done; m = sym c.m i; n = n i; k = k i; blocks = sym c.blocks i }
+      λ i. Ok (record { m = sym c.m i; n = n i; k = k i; blocks = sym c.blocks i })
 
   end-filled : t ≡ overlaid (tables_of (book_of s)) old
   unfolding overlaid tables_of book_of
@@ -256,14 +248,13 @@ pub record Reached (bytes : List ℕ) (old : Tables) (p : Progress) (t : Tables)
   pub within : at ≤ length bytes
 
 -- nothing is loaded yet
-pub reached-none : (bytes : List ℕ) (t : Tables) → Sized t → Reached bytes t (record { m = 0; n = 0; filled = 0; ties = 0; tying = false; free = 0; blocks = 0; covered = 0 }) t 0
-unfolding load loaded_up_to start total over tab kind_codes tie_set tied_count start_of free_count
-reached-none bytes t sized =
+pub reached-none : (bytes : List ℕ) (t : Tables) (p : Progress) → Begun 0 0 p → Reached bytes t p t 0
+unfolding load loaded_up_to start total over tab kind_codes tie_set
+reached-none bytes t p b =
     record {
       s = start;
       holds = record {
-        counts = counts-none 0 0 zero-le refl;
-        sized = sized;
+        counts = counts-none p 0 0 b refl;
         kinds = refl;
         terms = refl;
         heights = refl;
@@ -281,20 +272,19 @@ pub record Refuses (bytes : List ℕ) (old u : Tables) (f : Refusal) : Type 0 wh
   pub left : u ≡ overlaid (tables_so_far (loaded_up_to bytes)) old
 
 -- the answer of a refusal
-pub refused-answer : (bytes : List ℕ) (old u : Tables) (f : Refusal) (x : Shape) → Refuses bytes old u f → x ≡ shape_of (refused f)
-    → x ≡ shape_of (load bytes) × Filled (load bytes) (loaded_up_to bytes) old u
-unfolding Filled
-refused-answer bytes old u f x e a = (rw e.answer a, rw e.answer e.left)
+pub refused-answer : (bytes : List ℕ) (old u : Tables) (f : Refusal) → Refuses bytes old u f → Err f ≡ shape_of (load bytes) × Filled (load bytes) (loaded_up_to bytes) old u
+unfolding Filled shape_of
+refused-answer bytes old u f e = (rw e.answer, rw e.answer e.left)
 
 -- the answer at the end command, before nothing or more bytes
 ended : (bytes : List ℕ) (old : Tables) (q : Progress) (u : Tables) (s : Loading) (nx : ℕ) → HoldsLoaded q u old s → T (placed s 0x7f) → nx ≤ length bytes
     → load bytes ≡ ended_as s (eqb nx (length bytes)) → loaded_up_to bytes ≡ s
-    → shape_of (load bytes) ≡ cond (ltb nx (length bytes)) (shape_of (refused Misplaced)) (shape_at q) × Filled (load bytes) (loaded_up_to bytes) old u
+    → shape_of (load bytes) ≡ cond (ltb nx (length bytes)) (shape_of (refused Misplaced)) (Ok (shape_at q)) × Filled (load bytes) (loaded_up_to bytes) old u
 unfolding Filled
 ended bytes old q u s nx h e w all stop = go (lt-or nx (length bytes))
   where
     go : (nx < length bytes) ⊎ (length bytes ≤ nx)
-        → shape_of (load bytes) ≡ cond (ltb nx (length bytes)) (shape_of (refused Misplaced)) (shape_at q) × Filled (load bytes) (loaded_up_to bytes) old u
+        → shape_of (load bytes) ≡ cond (ltb nx (length bytes)) (shape_of (refused Misplaced)) (Ok (shape_at q)) × Filled (load bytes) (loaded_up_to bytes) old u
     go (inl l) =
         let more : load bytes ≡ refused Misplaced = all ∙ rw (ne_eqb nx (length bytes) (omega arith)) in
         (rw (more, lt-ltb nx (length bytes) l), rw (more, stop) (holds-tables q u old s h))
@@ -312,37 +302,43 @@ module _ (bytes : List ℕ) (old : Tables) (p : Progress) (t : Tables) (at : ℕ
   reached-end l =
       here Truncated t (fold_end refused_as ended_as bytes r.s at (load bytes) r.goes l) (fold_end stopped stopped_at bytes r.s at (loaded_up_to bytes) r.stops l) refl
 
-  pub reached-unlisted : at < length bytes → read_at bytes at ≡ Unlisted → Refuses bytes old t Unknown
+  pub reached-unlisted : at < length bytes → read_at bytes at ≡ None → Refuses bytes old t Unknown
   reached-unlisted h e =
       here Unknown t (fold-unlisted refused_as ended_as bytes r.s at (load bytes) r.goes h e) (fold-unlisted stopped stopped_at bytes r.s at (loaded_up_to bytes) r.stops h e) refl
 
   -- a command and what it comes to
-  module _ (h : at < length bytes) (c : Command) (nx : ℕ) (whole : Bool) (e : read_at bytes at ≡ Found c nx whole) where
-    pub reached-refused : (u : Tables) (P : Progress → Type 0) (f : Refusal) → Judged (verdict r.s c whole) (is_end c) (u ≡ t) P (Refused f) → Refuses bytes old u f
-    reached-refused u P f j =
-        let k = judged-refused (u ≡ t) P _ _ f j in
-        here f u (fold-refused refused_as ended_as bytes r.s at (load bytes) r.goes h c nx whole e f k.0) (fold-refused stopped stopped_at bytes r.s at (loaded_up_to bytes) r.stops h c nx whole e f k.0) k.1
+  module _ (h : at < length bytes) (f : Found) (e : read_at bytes at ≡ Some f) where
+    -- what its verdict settles, where the tables become u
+    abbrev pub Step-settled : Tables → Result Step Refusal → Type 0
+    Step-settled u x = Settled (verdict r.s f.command f.whole) (u ≡ t) (Goes (is_end f.command) (λ (q : Progress). HoldsLoaded q u old (next r.s f.command))) x
 
-    pub reached-next : (q : Progress) (u : Tables) → Judged (verdict r.s c whole) (is_end c) (u ≡ t) (λ (x : Progress). HoldsLoaded x u old (next r.s c)) (Next q) → Reached bytes old q u nx × (at < nx)
+    pub reached-refused : (u : Tables) (why : Refusal) → Step-settled u (Err why) → Refuses bytes old u why
+    reached-refused u why j =
+        let k = settled-refused (u ≡ t) _ _ why j in
+        here why u (fold-refused refused_as ended_as bytes r.s at (load bytes) r.goes h f e why k.0) (fold-refused stopped stopped_at bytes r.s at (loaded_up_to bytes) r.stops h f e why k.0) k.1
+
+    pub reached-next : (q : Progress) (u : Tables) → Step-settled u (Ok (Next q)) → Reached bytes old q u f.next × (at < f.next)
     reached-next q u j =
-        let k = judged-next (u ≡ t) (λ (x : Progress). HoldsLoaded x u old (next r.s c)) _ _ q j in
-        let place = fold-place refused_as ended_as bytes r.s at (load bytes) r.goes h c nx whole e in (
+        let k = proceeded (u ≡ t) _ _ (Next q) j in
+        let g = goes-on _ _ q k.1 in
+        let place = fold-place refused_as ended_as bytes r.s at (load bytes) r.goes h f e in (
           record {
-            s = next r.s c;
-            holds = k.2;
-            goes = fold_next refused_as ended_as bytes r.s at (load bytes) r.goes h c nx whole e k.0 k.1;
-            stops = fold_next stopped stopped_at bytes r.s at (loaded_up_to bytes) r.stops h c nx whole e k.0 k.1;
+            s = next r.s f.command;
+            holds = g.1;
+            goes = fold_next refused_as ended_as bytes r.s at (load bytes) r.goes h f e k.0 g.0;
+            stops = fold_next stopped stopped_at bytes r.s at (loaded_up_to bytes) r.stops h f e k.0 g.0;
             within = place.1;
           },
           place.0,
         )
 
     -- the end, with what follows it
-    pub reached-last : (q : Progress) (u : Tables) → Judged (verdict r.s c whole) (is_end c) (u ≡ t) (λ (x : Progress). HoldsLoaded x u old (next r.s c)) (Ended q)
-        → shape_of (load bytes) ≡ cond (ltb nx (length bytes)) (shape_of (refused Misplaced)) (shape_at q) × Filled (load bytes) (loaded_up_to bytes) old u
+    pub reached-last : (q : Progress) (u : Tables) → Step-settled u (Ok (Ended q))
+        → shape_of (load bytes) ≡ cond (ltb f.next (length bytes)) (shape_of (refused Misplaced)) (Ok (shape_at q)) × Filled (load bytes) (loaded_up_to bytes) old u
     reached-last q u j =
-        let k = judged-end (u ≡ t) (λ (x : Progress). HoldsLoaded x u old (next r.s c)) _ _ q j in
-        let f = end-stands r.s c whole k.0 k.1 in
-        ended bytes old q u r.s nx (rw f.1 at k.2) f.0 (fold-place refused_as ended_as bytes r.s at (load bytes) r.goes h c nx whole e).1
-        (fold-last refused_as ended_as bytes r.s at (load bytes) r.goes h c nx whole e k.0 k.1)
-        (fold-last stopped stopped_at bytes r.s at (loaded_up_to bytes) r.stops h c nx whole e k.0 k.1)
+        let k = proceeded (u ≡ t) _ _ (Ended q) j in
+        let g = goes-last _ _ q k.1 in
+        let last = end-stands r.s f.command f.whole k.0 g.0 in
+        ended bytes old q u r.s f.next (rw last.1 at g.1) last.0 (fold-place refused_as ended_as bytes r.s at (load bytes) r.goes h f e).1
+        (fold-last refused_as ended_as bytes r.s at (load bytes) r.goes h f e k.0 g.0)
+        (fold-last stopped stopped_at bytes r.s at (loaded_up_to bytes) r.stops h f e k.0 g.0)

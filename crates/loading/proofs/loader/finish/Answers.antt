@@ -1,9 +1,11 @@
 -- `loading::loader::finish` meets its contract: each return is that of the test that led there. Assumes nothing.
+use Rattle.codebook.specs.Loading.{shape_of}
 use Rattle.codebook.specs.Progress.{shape_at}
 use Rattle.loading.proofs.loader.finish.Goals as goal
 
 pub returns-then-follows : goal.returns-then-follows
-returns-then-follows c = rw c.if-follows.true c.refuse.ensures
+unfolding shape_of
+returns-then-follows c = rw c.if-follows.true
 
 pub returns : goal.returns
 unfolding shape_at
