@@ -4,26 +4,25 @@ ghost use Rattle.std.specs.Prelude.{◌≡◌};
 ghost use Rattle.codec.specs.Numbers.{tested_number};
 ghost use Rattle.answers.specs.Numbers.{length_mismatch};
 
-use codebook::{Outcome, refusal_number};
-use codec::Tested;
+use codebook::Refusal;
 
 // The number where shape or record have a wrong length, by what loading comes to.
-pub fn length_mismatch(o: Outcome) -> u32
-    ensures { result ≡ length_mismatch o }
+pub fn length_mismatch<T: Drop>(r: Result<T, Refusal>) -> u32
+    ensures { result ≡ length_mismatch r }
 {
-    match o {
-        Outcome::Done => 7,
-        Outcome::Refused(r) => refusal_number(r),
+    match r {
+        Ok(_) => u32::from(Refusal::Mismatch),
+        Err(r) => u32::from(r),
     }
 }
 
 // The number of a test's answer; "not in the code" is no refusal.
-pub fn tested_number(t: Tested) -> u32
+pub fn tested_number(t: Result<bool, Refusal>) -> u32
     ensures { result ≡ tested_number t }
 {
     match t {
-        Tested::InCode => 0,
-        Tested::NotInCode => 255,
-        Tested::Refused(r) => refusal_number(r),
+        Ok(true) => 0,
+        Ok(false) => 255,
+        Err(r) => u32::from(r),
     }
 }

@@ -3,12 +3,12 @@ use mathlib.Core.Path.{◌≡◌, refl, sym, ap, ◌∙◌}
 use mathlib.Core.Bool.{Bool, true, false, cond, ◌&&◌}
 use mathlib.Core.List.{List, [], ◌∷◌}
 use lib.IntN.{ℤ}
+use Rattle.std.specs.Prelude.{Result, Ok, Err}
+use Rattle.codebook.specs.declared.Refusal.{Refusal}
 use Rattle.codebook.specs.declared.Refusal.TheVariants.{Mismatch, BadSetting, BadValue}
 use Rattle.codebook.specs.declared.Shape.{Shape}
 use Rattle.codebook.specs.Refusals.{unless}
 use Rattle.settings.specs.declared.Settings.{Settings}
-use Rattle.settings.specs.declared.Checked.{Checked}
-use Rattle.settings.specs.declared.Checked.TheVariants.{Good, Bad}
 use Rattle.settings.specs.Settings.{settings_ok}
 use Rattle.machine.specs.declared.Manner.{Manner}
 use Rattle.machine.specs.declared.Lengths.{Lengths}
@@ -16,8 +16,8 @@ use Rattle.machine.specs.Calls.{test, first_failed, lengths_ok, beside_ok, holds
 use Rattle.checks.specs.Checks.{fitting, admitted_as}
 
 -- the answer of three tests, one after the other
-unfoldable pub admitted_by : Bool → Bool → Bool → Settings → Checked
-admitted_by a b v s = cond a (cond b (cond v (Good s) (Bad BadValue)) (Bad Mismatch)) (Bad BadSetting)
+unfoldable pub admitted_by : Bool → Bool → Bool → Settings → Result Settings Refusal
+admitted_by a b v s = cond a (cond b (cond v (Ok s) (Err BadValue)) (Err Mismatch)) (Err BadSetting)
 
 -- the second is three
 three : (s : Settings) (a h l b v : Bool) → admitted_by a (h && l && b) v s

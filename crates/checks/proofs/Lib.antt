@@ -1,4 +1,2 @@
-pub mod Chains
 pub mod Admitted
 pub mod Valued
-pub mod Cleared

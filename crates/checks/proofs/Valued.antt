@@ -1,48 +1,25 @@
--- The check of the soft values, one at a time: a value in -2,047 to 2,047 leaves the answer to the rest, another ends it. By the test of a
--- magnitude. Assumes nothing.
-use mathlib.Core.Path.{◌≡◌, refl, sym, ap, ◌∙◌}
-use mathlib.Core.Bool.{Bool, true, false, ◌&&◌}
-use mathlib.Core.List.{List}
-use Prim.Native.Nat.{ℕ, suc, ◌+◌, ◌<◌}
-use native.Mathlib.Numerals.{add-one}
-use native.Mathlib.Omega.{arith}
-use lib.IntN.{ℤ, pos, negsuc, nat_abs}
-use lib.ListN.{length, get_or, drop}
-use lib.Seq.{drop-cons, drop-length}
-use lib.Signed.{lt_z}
+-- Every value lies in -2,047 to 2,047 exactly where the greatest magnitude is at most 2,047: value by value. Assumes nothing.
+use mathlib.Core.Path.{◌≡◌, sym, ap, ◌∙◌}
+use mathlib.Core.Bool.{◌&&◌}
+use Rattle.std.proofs.Math.Bool.{and-true, and_assoc}
+use mathlib.Core.List.{List, [], ◌∷◌}
+use Prim.Native.Nat.{ℕ, max}
+use lib.IntN.{ℤ, nat_abs}
 use lib.Dec.{leb}
-use borrow.Author.Tests.{le-leb, lt-leb, ltb-true, ltb-false}
-use Rattle.laws.proofs.Tests.{apart}
+use native.Mathlib.Omega.{arith}
+use native.Mathlib.Nat.{le-max_left, le-max_right}
+use Rattle.std.proofs.lemmas.Bool.Decides.{nat_tests}
+use Rattle.std.specs.List.{fold}
 use Rattle.machine.specs.Calls.{values_ok}
 
--- ---- the test of one value
+-- the greater of two is at most 2047 exactly where both are
+two : (a b : ℕ) → leb (max a b) 2047 ≡ (leb a 2047 && leb b 2047)
+two a b = grind (arith, nat_tests, le-max_left a b, le-max_right a b)
 
-pub too-low : (z : ℤ) → lt_z z (negsuc 2046) ≡ true → leb (nat_abs z) 2047 ≡ false
-too-low (pos n) e = apart (sym e)
-too-low (negsuc n) e = lt-leb (suc n) 2047 (omega (arith, ltb-true 2046 n e))
+from : (ys : List ℤ) (m : ℕ) → leb (fold (λ most y. max most (nat_abs y)) m ys) 2047 ≡ (leb m 2047 && values_ok ys)
+unfolding values_ok
+from [] m = sym (and-true (leb m 2047))
+from (y ∷ ys) m = from ys (max m (nat_abs y)) ∙ ap (λ b. b && values_ok ys) (two m (nat_abs y)) ∙ and_assoc (leb m 2047) (leb (nat_abs y) 2047) (values_ok ys)
 
-pub too-high : (z : ℤ) → lt_z (pos 2047) z ≡ true → leb (nat_abs z) 2047 ≡ false
-too-high (pos n) e = lt-leb n 2047 (ltb-true 2047 n e)
-too-high (negsuc n) e = apart (sym e)
-
-pub in-range : (z : ℤ) → lt_z z (negsuc 2046) ≡ false → lt_z (pos 2047) z ≡ false → leb (nat_abs z) 2047 ≡ true
-in-range (pos n) e f = le-leb n 2047 (ltb-false 2047 n f)
-in-range (negsuc n) e f = le-leb (suc n) 2047 (omega (arith, ltb-false 2046 n e))
-
--- ---- the values from index i on
-
-module _ (ys : List ℤ) (i : ℕ) where
-  -- the value at i, then the rest
-  value-first : i < length ys → values_ok (drop i ys) ≡ leb (nat_abs (get_or ys i (pos 0))) 2047 && values_ok (drop (i + 1) ys)
-  unfolding values_ok
-  value-first h = rw (drop-cons ys i (pos 0) h, add-one i) refl
-
-  pub value-good : i < length ys → leb (nat_abs (get_or ys i (pos 0))) 2047 ≡ true → values_ok (drop (i + 1) ys) ≡ values_ok (drop i ys)
-  value-good h e = sym (value-first h ∙ ap (λ (b : Bool). b && values_ok (drop (i + 1) ys)) e)
-
-  pub value-bad : i < length ys → leb (nat_abs (get_or ys i (pos 0))) 2047 ≡ false → false ≡ values_ok (drop i ys)
-  value-bad h e = sym (value-first h ∙ ap (λ (b : Bool). b && values_ok (drop (i + 1) ys)) e)
-
-  pub values-end : i ≡ length ys → true ≡ values_ok (drop i ys)
-  unfolding values_ok
-  values-end e = rw (e, drop-length ys) refl
+pub greatest_ok : (ys : List ℤ) → leb (fold (λ most y. max most (nat_abs y)) 0 ys) 2047 ≡ values_ok ys
+greatest_ok ys = from ys 0

@@ -1,5 +1,6 @@
 // Tests of what a decoding call is given and lent: the values and the lengths. Relies on no other file; machine/specs/Calls says which are good.
-ghost use Rattle.std.specs.Prelude.{◌≡◌, ◌≤◌, leb, nat_abs};
+ghost use Rattle.std.specs.Prelude.{◌≡◌, ◌≤◌, max, nat_abs};
+ghost use Rattle.std.specs.List.{fold};
 ghost use Rattle.settings.specs.Settings.{Ranged};
 ghost use Rattle.machine.specs.Calls.{walk_needed, lengths_ok, values_ok};
 
@@ -7,32 +8,25 @@ use codebook::Shape;
 use machine::Lengths;
 use settings::Settings;
 
-// Whether a value lies in -2,047 to 2,047.
-fn value_ok(v: i16) -> bool
-    ensures { result ≡ leb (nat_abs v) 2047 }
+// The greatest magnitude of the values, which the compiler finds of several at once.
+fn greatest(values: &[i16]) -> u16
+    ensures { result ≡ fold (λ most y. max most (nat_abs y)) 0 values.now }
 {
-    if v < -2047 || 2047 < v {
-        return false;
-    }
-    true
+    values
+        .iter()
+        .fold(0, |most: u16, v| most.max(v.unsigned_abs()))
 }
 
-// Whether every value does. No early return, so that the compiler tests several at once.
+// Whether every value lies in -2,047 to 2,047.
+#[tactic(auto, using(crate::proofs::Valued::greatest_ok))]
 pub fn values_ok(values: &[i16]) -> bool
     ensures { result ≡ values_ok values.now }
 {
-    let mut faults: u16 = 0;
-    let mut i: usize = 0;
-    while i < values.len() {
-        if !value_ok(values[i]) {
-            faults = 1;
-        }
-        i += 1;
-    }
-    faults == 0
+    greatest(values) <= 2047
 }
 
 // How many extractions a run may have, and so the entries of a walk buffer.
+#[tactic(auto, unfolding(machine::specs::Calls::walk_needed, queue::specs::Run::most_extractions))]
 pub fn walk_needed(x: Shape, s: Settings) -> usize
     requires { (x.blocks ≤ 512) × Ranged s }
     ensures { result ≡ walk_needed x s }
@@ -41,6 +35,7 @@ pub fn walk_needed(x: Shape, s: Settings) -> usize
 }
 
 // Whether the lengths are right for a book of this shape, and these settings.
+#[tactic(auto, using(std::proofs::lemmas::Bool::Decides::nat_tests), unfolding(machine::specs::Calls::lengths_ok, machine::specs::Calls::numbers_needed, machine::specs::Calls::bytes_needed))]
 pub fn lengths_ok(x: Shape, s: Settings, l: Lengths) -> bool
     requires { (x.n ≤ 512) × (x.blocks ≤ 512) × Ranged s }
     ensures { result ≡ lengths_ok x s l }
@@ -49,11 +44,12 @@ pub fn lengths_ok(x: Shape, s: Settings, l: Lengths) -> bool
     let k = x.k as usize;
     let paths = s.paths as usize;
     let walk = walk_needed(x, s);
-    if l.values != n || l.word != n || l.bits != k {
-        return false;
-    }
-    if l.numbers < paths * (2 * n + 32) || l.bytes < paths * (2 * n) {
-        return false;
-    }
-    walk <= l.paths && walk <= l.blocks && walk <= l.scores
+    l.values == n
+        && l.word == n
+        && l.bits == k
+        && paths * (2 * n + 32) <= l.numbers
+        && paths * (2 * n) <= l.bytes
+        && walk <= l.paths
+        && walk <= l.blocks
+        && walk <= l.scores
 }

@@ -1,10 +1,11 @@
 -- The calls on a loaded book: for each, its arguments fit where it is done, and where they fit it answers what the code or the record says.
 -- By cases on its tests. Assumes nothing.
 use mathlib.Core.Path.{◌≡◌, refl, sym, ◌∙◌}
-use mathlib.Core.Bool.{Bool, true, false, cond, ◌&&◌}
+use mathlib.Core.Bool.{Bool, true, false, ◌&&◌}
 use mathlib.Core.List.{List, [], ◌∷◌}
 use mathlib.Core.Option.{Option, none, some}
 use Prim.Native.Nat.{ℕ, ◌^◌}
+use Rattle.std.specs.Prelude.{Result, Ok, Err}
 use native.Mathlib.Omega.{arith}
 use lib.ListN.{length}
 use lib.Dec.{T, leb, eqb, leb→le, le→leb, eqb→eq}
@@ -13,16 +14,12 @@ use Rattle.laws.proofs.Tests.{and_in, and_left, and_right, eq→eqb, both-in, bo
 use Rattle.polar.specs.Bits.{Bit}
 use Rattle.codebook.specs.declared.Refusal.{Refusal}
 use Rattle.codebook.specs.declared.Refusal.TheVariants.{Mismatch, BadValue, Unreadable}
-use Rattle.codebook.specs.declared.Outcome.TheVariants.{Done, Refused}
 use Rattle.codebook.specs.Book.{Book, free_count}
 use Rattle.codebook.specs.Loading.{loaded}
 use Rattle.codec.specs.declared.HookRecord.{HookRecord}
-use Rattle.codec.specs.declared.RecordRead.{RecordRead}
-use Rattle.codec.specs.declared.Tested.{Tested}
-use Rattle.codec.specs.declared.Tested.TheVariants.{InCode, NotInCode, Refused as NotTested}
 use Rattle.codec.specs.Code.{encode, in_code, read_data}
 use Rattle.codec.specs.Record.{record_fits, record_bits, read_record}
-use Rattle.codec.specs.Calls.{are_bits, word_fits, data_fits, holds_record, Wrote, kept, wrote, not_read, record_read}
+use Rattle.codec.specs.Calls.{are_bits, word_fits, data_fits, holds_record, Wrote, kept, wrote, record_read}
 use Rattle.codec.specs.Calls.{encode_with, test_with, read_data_with, make_record_with, read_record_with}
 
 -- ---- tests
@@ -37,38 +34,31 @@ unfolding are_bits All
 bits_out [] t = tt
 bits_out (b ∷ bs) t = (omega (arith, leb→le b 1 (and_left (leb b 1) (are_bits bs) t)), bits_out bs (and_right (leb b 1) (are_bits bs) t))
 
--- a call that writes is done, and a refusal is not
+-- a call that writes is done
 abbrev pub IsDone : Wrote → Type 0
-IsDone w = w.outcome ≡ Done
+IsDone w = w.outcome ≡ Ok tt
 
-pub not_done : (r : Refusal) → Refused r ≡ Done → ⊥
-not_done r e = let z : ◌≡◌ {A = ℕ} 0 1 = cc in omega arith
+-- what is refused answers nothing
+pub not-said : {A : Type 0} {x : A} (r : Refusal) → Err r ≡ Ok x → ⊥
+not-said r e = cc
 
--- nor does a refused test, or one that says no, answer that the word is in the code
-pub not-in-code : (r : Refusal) → NotTested r ≡ InCode → ⊥
-not-in-code r e = let z : ◌≡◌ {A = ℕ} 0 1 = cc in omega arith
-
--- a refused test does not say no
-pub not-said-no : (r : Refusal) → NotTested r ≡ NotInCode → ⊥
-not-said-no r e = let z : ◌≡◌ {A = ℕ} 0 1 = cc in omega arith
-
-answer-in : (b : Bool) → T b → cond b InCode NotInCode ≡ InCode
+answer-in : (b : Bool) → T b → ◌≡◌ {A = Result Bool Refusal} (Ok b) (Ok true)
 answer-in true t = refl
 answer-in false t = absurd t
 
-answer-out : (b : Bool) → cond b InCode NotInCode ≡ InCode → T b
+answer-out : (b : Bool) → ◌≡◌ {A = Result Bool Refusal} (Ok b) (Ok true) → T b
 answer-out true e = tt
-answer-out false e = let z : ◌≡◌ {A = ℕ} 0 1 = cc in omega arith
+answer-out false e = cc
 
-answer-no : (b : Bool) → (T b → ⊥) → cond b InCode NotInCode ≡ NotInCode
+answer-no : (b : Bool) → (T b → ⊥) → ◌≡◌ {A = Result Bool Refusal} (Ok b) (Ok false)
 answer-no true f = absurd (f tt)
 answer-no false f = refl
 
 -- a record that is read is the record of the bits
-pub hook-out : (o : Option HookRecord) → (record_read o).outcome ≡ Done → o ≡ some (record_read o).hook
-unfolding record_read not_read
-hook-out none e = absurd (not_done Unreadable e)
-hook-out (some h) e = refl
+pub hook-out : (o : Option HookRecord) {h : HookRecord} → record_read o ≡ Ok h → o ≡ some h
+unfolding record_read
+hook-out none e = absurd (not-said Unreadable e)
+hook-out (some h) e = cc
 
 -- ---- lengths
 
@@ -101,11 +91,11 @@ module _ (B : Book) where
 
   -- ---- encode
 
-  pub encode-done : (ds c : List ℕ) → (encode_with (loaded B) ds c).outcome ≡ Done →
+  pub encode-done : (ds c : List ℕ) → (encode_with (loaded B) ds c).outcome ≡ Ok tt →
       (length ds ≡ free_count B.kinds) × (length c ≡ 2 ^ B.m) × All Bit ds
   unfolding encode_with kept
   encode-done ds c e =
-      let (s, t, _) = both_out IsDone (data_fits B ds && word_fits B c) (are_bits ds) (not_done BadValue) (not_done Mismatch) e in
+      let (s, t, _) = both_out IsDone (data_fits B ds && word_fits B c) (are_bits ds) (not-said BadValue) (not-said Mismatch) e in
       (data-out ds (and_left (data_fits B ds) (word_fits B c) s), word_out c (and_right (data_fits B ds) (word_fits B c) s), bits_out ds t)
 
   pub encode-wrote : (ds c : List ℕ) → length ds ≡ free_count B.kinds → length c ≡ 2 ^ B.m → All Bit ds →
@@ -116,33 +106,33 @@ module _ (B : Book) where
 
   -- ---- test
 
-  pub test-yes : (c : List ℕ) → test_with (loaded B) c ≡ InCode → (length c ≡ 2 ^ B.m) × All Bit c × T (in_code B c)
+  pub test-yes : (c : List ℕ) → test_with (loaded B) c ≡ Ok true → (length c ≡ 2 ^ B.m) × All Bit c × T (in_code B c)
   unfolding test_with
   test-yes c e =
-      let (s, t, a) = both_out (λ (r : Tested). r ≡ InCode) (word_fits B c) (are_bits c) (not-in-code BadValue) (not-in-code Mismatch) e in
+      let (s, t, a) = both_out (λ (r : Result Bool Refusal). r ≡ Ok true) (word_fits B c) (are_bits c) (not-said BadValue) (not-said Mismatch) e in
       (word_out c s, bits_out c t, answer-out (in_code B c) a)
 
-  pub test_in : (c : List ℕ) → length c ≡ 2 ^ B.m → All Bit c → T (in_code B c) → test_with (loaded B) c ≡ InCode
+  pub test_in : (c : List ℕ) → length c ≡ 2 ^ B.m → All Bit c → T (in_code B c) → test_with (loaded B) c ≡ Ok true
   unfolding test_with
   test_in c w h t = both-in (word_fits B c) (are_bits c) _ _ (word_in c w) (bits_in c h) ∙ answer-in (in_code B c) t
 
-  pub test-no : (c : List ℕ) → test_with (loaded B) c ≡ NotInCode → (length c ≡ 2 ^ B.m) × All Bit c
+  pub test-no : (c : List ℕ) → test_with (loaded B) c ≡ Ok false → (length c ≡ 2 ^ B.m) × All Bit c
   unfolding test_with
   test-no c e =
-      let (s, t, _) = both_out (λ (r : Tested). r ≡ NotInCode) (word_fits B c) (are_bits c) (not-said-no BadValue) (not-said-no Mismatch) e in
+      let (s, t, _) = both_out (λ (r : Result Bool Refusal). r ≡ Ok false) (word_fits B c) (are_bits c) (not-said BadValue) (not-said Mismatch) e in
       (word_out c s, bits_out c t)
 
-  pub test-out : (c : List ℕ) → length c ≡ 2 ^ B.m → All Bit c → (T (in_code B c) → ⊥) → test_with (loaded B) c ≡ NotInCode
+  pub test-out : (c : List ℕ) → length c ≡ 2 ^ B.m → All Bit c → (T (in_code B c) → ⊥) → test_with (loaded B) c ≡ Ok false
   unfolding test_with
   test-out c w h f = both-in (word_fits B c) (are_bits c) _ _ (word_in c w) (bits_in c h) ∙ answer-no (in_code B c) f
 
   -- ---- read data
 
-  pub read_done : (c ds : List ℕ) → (read_data_with (loaded B) c ds).outcome ≡ Done →
+  pub read_done : (c ds : List ℕ) → (read_data_with (loaded B) c ds).outcome ≡ Ok tt →
       (length c ≡ 2 ^ B.m) × (length ds ≡ free_count B.kinds) × All Bit c
   unfolding read_data_with kept
   read_done c ds e =
-      let (s, t, _) = both_out IsDone (word_fits B c && data_fits B ds) (are_bits c) (not_done BadValue) (not_done Mismatch) e in
+      let (s, t, _) = both_out IsDone (word_fits B c && data_fits B ds) (are_bits c) (not-said BadValue) (not-said Mismatch) e in
       (word_out c (and_left (word_fits B c) (data_fits B ds) s), data-out ds (and_right (word_fits B c) (data_fits B ds) s), bits_out c t)
 
   pub read-wrote : (c ds : List ℕ) → length c ≡ 2 ^ B.m → length ds ≡ free_count B.kinds → All Bit c →
@@ -153,11 +143,11 @@ module _ (B : Book) where
 
   -- ---- make record
 
-  pub make-done : (h : HookRecord) (ds : List ℕ) → (make_record_with (loaded B) h ds).outcome ≡ Done →
+  pub make-done : (h : HookRecord) (ds : List ℕ) → (make_record_with (loaded B) h ds).outcome ≡ Ok tt →
       (free_count B.kinds ≡ 32) × (length ds ≡ 32) × T (record_fits h)
   unfolding make_record_with kept
   make-done h ds e =
-      let (s, t, _) = both_out IsDone (holds_record B ds) (record_fits h) (not_done BadValue) (not_done Mismatch) e in
+      let (s, t, _) = both_out IsDone (holds_record B ds) (record_fits h) (not-said BadValue) (not-said Mismatch) e in
       let (f, d) = holds-out ds s in
       (f, d, t)
 
@@ -168,11 +158,11 @@ module _ (B : Book) where
 
   -- ---- read record
 
-  pub record-done : (ds : List ℕ) → (read_record_with (loaded B) ds).outcome ≡ Done →
-      (free_count B.kinds ≡ 32) × (length ds ≡ 32) × All Bit ds × ((record_read (read_record ds)).outcome ≡ Done)
-  unfolding read_record_with not_read
-  record-done ds e =
-      let (s, t, a) = both_out (λ (r : RecordRead). r.outcome ≡ Done) (holds_record B ds) (are_bits ds) (not_done BadValue) (not_done Mismatch) e in
+  pub record-done : (ds : List ℕ) {h : HookRecord} → read_record_with (loaded B) ds ≡ Ok h →
+      (free_count B.kinds ≡ 32) × (length ds ≡ 32) × All Bit ds × (record_read (read_record ds) ≡ Ok h)
+  unfolding read_record_with
+  record-done ds {h} e =
+      let (s, t, a) = both_out (λ (r : Result HookRecord Refusal). r ≡ Ok h) (holds_record B ds) (are_bits ds) (not-said BadValue) (not-said Mismatch) e in
       let (f, d) = holds-out ds s in
       (f, d, bits_out ds t, a)
 

@@ -3,24 +3,22 @@
 use mathlib.Core.Path.{◌≡◌, refl, ap, ◌∙◌}
 use mathlib.Core.List.{List}
 use Prim.Native.Nat.{ℕ}
+use Rattle.std.specs.Prelude.{true, Ok}
 use lib.ListN.{length}
 use Rattle.codebook.specs.declared.Refusal.{Refusal}
-use Rattle.codebook.specs.declared.Outcome.TheVariants.{Done}
 use Rattle.codebook.specs.Book.{Book}
 use Rattle.codebook.specs.Limits.{Valid}
 use Rattle.codebook.specs.Loading.{Load, refused, loaded, load}
 use Rattle.codebook.proofs.Loaded.{loaded-valid}
 use Rattle.codec.specs.declared.HookRecord.{HookRecord}
-use Rattle.codec.specs.declared.RecordRead.{RecordRead}
-use Rattle.codec.specs.declared.Tested.TheVariants.{InCode}
 use Rattle.codec.specs.Code.{encode, read_data}
 use Rattle.codec.specs.Record.{record_bits, read_record}
-use Rattle.codec.specs.Calls.{Wrote, kept, wrote, not_read, record_read}
+use Rattle.codec.specs.Calls.{Wrote, kept, wrote, record_read}
 use Rattle.codec.specs.Calls.{encode_with, test_with, read_data_with, make_record_with, read_record_with}
 use Rattle.codec.specs.Calls.{encode_call, test_call, read_data_call, make_record_call, read_record_call}
 use Rattle.codec.proofs.Reverse.{read-encode, encode-in, in-encode, encode-word, read-data}
 use Rattle.codec.proofs.Record.{record-bits, read_made, made-read}
-use Rattle.codec.proofs.Answers.{IsDone, not_done, not-in-code, hook-out}
+use Rattle.codec.proofs.Answers.{IsDone, not-said, hook-out}
 use Rattle.codec.proofs.Answers.{encode-done, encode-wrote, test-yes, test_in, read_done, read-wrote, make-done, make-wrote, record-done, record-read}
 
 -- what holds of every refusal and of every book within the limits holds of the loading of any bytes
@@ -33,12 +31,12 @@ by-load P f g book = go (load book) refl
 
 -- ---- encode, test, read data
 
-pub test-of-encode : (book ds c : List ℕ) → (encode_call book ds c).outcome ≡ Done → test_call book (encode_call book ds c).buffer ≡ InCode
+pub test-of-encode : (book ds c : List ℕ) → (encode_call book ds c).outcome ≡ Ok tt → test_call book (encode_call book ds c).buffer ≡ Ok true
 unfolding encode_call test_call encode_with kept wrote
-test-of-encode book ds c = by-load P (λ r e. absurd (not_done r e)) one book
+test-of-encode book ds c = by-load P (λ r e. absurd (not-said r e)) one book
   where
     P : Load → Type 0
-    P l = IsDone (encode_with l ds c) → test_with l (encode_with l ds c).buffer ≡ InCode
+    P l = IsDone (encode_with l ds c) → test_with l (encode_with l ds c).buffer ≡ Ok true
 
     one : (B : Book) → Valid B → P (loaded B)
     one B ok e =
@@ -46,10 +44,10 @@ test-of-encode book ds c = by-load P (λ r e. absurd (not_done r e)) one book
         let (x, y) = encode-word B ds ok h in
         ap (λ (a : Wrote). test_with (loaded B) a.buffer) (encode-wrote B ds c d w h) ∙ test_in B (encode B ds) x y (encode-in B ds ok d h)
 
-pub read-of-encode : (book ds c old : List ℕ) → (encode_call book ds c).outcome ≡ Done → length old ≡ length ds →
+pub read-of-encode : (book ds c old : List ℕ) → (encode_call book ds c).outcome ≡ Ok tt → length old ≡ length ds →
     read_data_call book (encode_call book ds c).buffer old ≡ wrote ds
 unfolding encode_call read_data_call encode_with kept wrote
-read-of-encode book ds c old = by-load P (λ r e _. absurd (not_done r e)) one book
+read-of-encode book ds c old = by-load P (λ r e _. absurd (not-said r e)) one book
   where
     P : Load → Type 0
     P l = IsDone (encode_with l ds c) → length old ≡ length ds → read_data_with l (encode_with l ds c).buffer old ≡ wrote ds
@@ -62,14 +60,14 @@ read-of-encode book ds c old = by-load P (λ r e _. absurd (not_done r e)) one b
         ∙ read-wrote B (encode B ds) old x (l ∙ d) y
         ∙ ap wrote (read-encode B ds ok d h)
 
-pub encode-of-read : (book c old word : List ℕ) → test_call book c ≡ InCode → (read_data_call book c old).outcome ≡ Done → length word ≡ length c →
+pub encode-of-read : (book c old word : List ℕ) → test_call book c ≡ Ok true → (read_data_call book c old).outcome ≡ Ok tt → length word ≡ length c →
     encode_call book (read_data_call book c old).buffer word ≡ wrote c
 unfolding encode_call test_call read_data_call test_with kept wrote
-encode-of-read book c old word = by-load P (λ r t _ _. absurd (not-in-code r t)) one book
+encode-of-read book c old word = by-load P (λ r t _ _. absurd (not-said r t)) one book
   where
     P : Load → Type 0
     P l =
-        test_with l c ≡ InCode → IsDone (read_data_with l c old) → length word ≡ length c → encode_with l (read_data_with l c old).buffer word ≡ wrote c
+        test_with l c ≡ Ok true → IsDone (read_data_with l c old) → length word ≡ length c → encode_with l (read_data_with l c old).buffer word ≡ wrote c
 
     one : (B : Book) → Valid B → P (loaded B)
     one B ok t e l =
@@ -82,13 +80,13 @@ encode-of-read book c old word = by-load P (λ r t _ _. absurd (not-in-code r t)
 
 -- ---- make record, read record
 
-pub read-of-make : (book : List ℕ) (h : HookRecord) (old : List ℕ) → (make_record_call book h old).outcome ≡ Done →
-    read_record_call book (make_record_call book h old).buffer ≡ record { outcome = Done; hook = h }
+pub read-of-make : (book : List ℕ) (h : HookRecord) (old : List ℕ) → (make_record_call book h old).outcome ≡ Ok tt →
+    read_record_call book (make_record_call book h old).buffer ≡ Ok h
 unfolding make_record_call read_record_call make_record_with kept wrote record_read
-read-of-make book h old = by-load P (λ r e. absurd (not_done r e)) one book
+read-of-make book h old = by-load P (λ r e. absurd (not-said r e)) one book
   where
     P : Load → Type 0
-    P l = IsDone (make_record_with l h old) → read_record_with l (make_record_with l h old).buffer ≡ record { outcome = Done; hook = h }
+    P l = IsDone (make_record_with l h old) → read_record_with l (make_record_with l h old).buffer ≡ Ok h
 
     one : (B : Book) → Valid B → P (loaded B)
     one B ok e =
@@ -98,19 +96,16 @@ read-of-make book h old = by-load P (λ r e. absurd (not_done r e)) one book
         ∙ record-read B (record_bits h) f x y
         ∙ ap record_read (read_made h t)
 
-pub make-of-read : (book ds old : List ℕ) → (read_record_call book ds).outcome ≡ Done → length old ≡ length ds →
-    make_record_call book (read_record_call book ds).hook old ≡ wrote ds
-unfolding make_record_call read_record_call read_record_with not_read
-make-of-read book ds old = by-load P (λ r e _. absurd (not_done r e)) one book
+pub make-of-read : (book ds old : List ℕ) (h : HookRecord) → read_record_call book ds ≡ Ok h → length old ≡ length ds →
+    make_record_call book h old ≡ wrote ds
+unfolding make_record_call read_record_call read_record_with
+make-of-read book ds old h = by-load P (λ r e _. absurd (not-said r e)) one book
   where
     P : Load → Type 0
-    P l = (read_record_with l ds).outcome ≡ Done → length old ≡ length ds → make_record_with l (read_record_with l ds).hook old ≡ wrote ds
+    P l = read_record_with l ds ≡ Ok h → length old ≡ length ds → make_record_with l h old ≡ wrote ds
 
     one : (B : Book) → Valid B → P (loaded B)
     one B ok e l =
-        let (f, d, h, a) = record-done B ds e in
-        let x : HookRecord = (record_read (read_record ds)).hook in
-        let (p, t) = made-read ds x d h (hook-out (read_record ds) a) in
-        ap (λ (r : RecordRead). make_record_with (loaded B) r.hook old) (record-read B ds f d h)
-        ∙ make-wrote B x old f (l ∙ d) t
-        ∙ ap wrote p
+        let (f, d, b, a) = record-done B ds e in
+        let (p, t) = made-read ds h d b (hook-out (read_record ds) a) in
+        make-wrote B h old f (l ∙ d) t ∙ ap wrote p

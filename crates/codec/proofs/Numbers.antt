@@ -6,6 +6,7 @@ use mathlib.Core.Option.{none, some}
 use Prim.Native.Nat.{ℕ, zero, suc}
 use native.Mathlib.Omega.{arith}
 use lib.Dec.{leb, eqb}
+use Rattle.std.specs.Prelude.{Ok, Err}
 use borrow.Author.Tests.{lt-leb}
 use Rattle.codebook.specs.declared.Refusal.{Refusal}
 use Rattle.codebook.specs.declared.Refusal.TheVariants.{Mismatch, BadValue}
@@ -13,11 +14,9 @@ use Rattle.codebook.specs.Refusals.{refusal_number, outcome_number, unless_numbe
 use Rattle.codebook.specs.Book.{Book}
 use Rattle.codebook.specs.Loading.{Load, refused, loaded, load, number_by}
 use Rattle.codec.specs.declared.HookRecord.{HookRecord}
-use Rattle.codec.specs.declared.RecordRead.{RecordRead}
-use Rattle.codec.specs.declared.Tested.TheVariants.{InCode, NotInCode, Refused as NotTested}
 use Rattle.codec.specs.Code.{encode, in_code, read_data}
 use Rattle.codec.specs.Record.{status_of, record_fits, record_bits, field_at, record_with, read_record}
-use Rattle.codec.specs.Calls.{are_bits, word_fits, data_fits, holds_record, Wrote, kept, wrote, not_read, record_read}
+use Rattle.codec.specs.Calls.{are_bits, word_fits, data_fits, holds_record, Wrote, kept, wrote, record_read}
 use Rattle.codec.specs.Calls.{encode_with, test_with, read_data_with, make_record_with, read_record_with}
 use Rattle.codec.specs.Calls.{encode_call, test_call, read_data_call, make_record_call, read_record_call}
 use Rattle.codec.specs.Numbers.{tested_number, encode_number, test_number, read_data_number, make_record_number, readable, read_record_number}
@@ -49,7 +48,7 @@ encode-number book ds c =
     (load book)
 
 -- a word outside the code is no refusal, and has 255
-answered : (b : Bool) → tested_number (cond b InCode NotInCode) ≡ unless_number b 255 0
+answered : (b : Bool) → tested_number (Ok b) ≡ unless_number b 255 0
 unfolding unless_number
 answered true = refl
 answered false = refl
@@ -58,7 +57,7 @@ pub test-number : (book c : List ℕ) → tested_number (test_call book c) ≡ t
 unfolding test_call test_number test_with
 test-number book c =
     by-book (λ l. tested_number (test_with l c)) (λ r. refl)
-    (λ B. by_tests tested_number (word_fits B c) (are_bits c) (cond (in_code B c) InCode NotInCode) (NotTested BadValue) (NotTested Mismatch) (answered (in_code B c)) refl refl)
+    (λ B. by_tests tested_number (word_fits B c) (are_bits c) (Ok (in_code B c)) (Err BadValue) (Err Mismatch) (answered (in_code B c)) refl refl)
     (load book)
 
 pub read-data-number : (book c ds : List ℕ) → outcome_number (read_data_call book c ds).outcome ≡ read_data_number book c ds
@@ -77,22 +76,18 @@ make-record-number book h ds =
 
 -- ---- read record
 
--- the number of a record that is read
-abbrev read_number : RecordRead → ℕ
-read_number r = outcome_number r.outcome
-
 -- 11 where a spare bit is 1
-spared : (h : HookRecord) (b : Bool) → read_number (record_read (cond b (some h) none)) ≡ unless_number b 11 0
-unfolding record_read not_read unless_number
+spared : (h : HookRecord) (b : Bool) → outcome_number (record_read (cond b (some h) none)) ≡ unless_number b 11 0
+unfolding record_read unless_number
 spared h true = refl
 spared h false = refl
 
 -- or where the status is above 4
-pub read_number_lem : (ds : List ℕ) → read_number (record_read (read_record ds)) ≡ unless_number (readable ds) 11 0
-unfolding read_record readable status_of record_with record_read not_read unless_number
+pub read_number_lem : (ds : List ℕ) → outcome_number (record_read (read_record ds)) ≡ unless_number (readable ds) 11 0
+unfolding read_record readable status_of record_with record_read unless_number
 read_number_lem ds = go (field_at ds 27 3)
   where
-    go : (s : ℕ) → read_number (record_read (record_with ds (status_of s))) ≡ unless_number (leb s 4 && eqb (field_at ds 30 2) 0) 11 0
+    go : (s : ℕ) → outcome_number (record_read (record_with ds (status_of s))) ≡ unless_number (leb s 4 && eqb (field_at ds 30 2) 0) 11 0
     go zero = spared _ (eqb (field_at ds 30 2) 0)
     go (suc zero) = spared _ (eqb (field_at ds 30 2) 0)
     go (suc (suc zero)) = spared _ (eqb (field_at ds 30 2) 0)
@@ -100,9 +95,9 @@ read_number_lem ds = go (field_at ds 27 3)
     go (suc (suc (suc (suc zero)))) = spared _ (eqb (field_at ds 30 2) 0)
     go (suc (suc (suc (suc (suc n))))) = rw (lt-leb (suc (suc (suc (suc (suc n))))) 4 (omega arith)) refl
 
-pub read-record-number : (book ds : List ℕ) → outcome_number (read_record_call book ds).outcome ≡ read_record_number book ds
-unfolding read_record_call read_record_number read_record_with not_read
+pub read-record-number : (book ds : List ℕ) → outcome_number (read_record_call book ds) ≡ read_record_number book ds
+unfolding read_record_call read_record_number read_record_with
 read-record-number book ds =
-    by-book (λ l. outcome_number (read_record_with l ds).outcome) (λ r. refl)
-    (λ B. by_tests read_number (holds_record B ds) (are_bits ds) (record_read (read_record ds)) (not_read BadValue) (not_read Mismatch) (read_number_lem ds) refl refl)
+    by-book (λ l. outcome_number (read_record_with l ds)) (λ r. refl)
+    (λ B. by_tests outcome_number (holds_record B ds) (are_bits ds) (record_read (read_record ds)) (Err BadValue) (Err Mismatch) (read_number_lem ds) refl refl)
     (load book)

@@ -10,6 +10,7 @@ use lib.ListN.{length, take, drop, length-append, length-take, length-drop, take
 use lib.Seq.{take_at, drop_at, drop-drop, take_all}
 use lib.Dec.{T, eqb, ltb, ltb→lt, lt→ltb, lit<}
 use borrow.Author.Tests.{eqb-true}
+use Rattle.std.specs.Prelude.{Ok, Err}
 use Rattle.laws.specs.Lists.{All}
 use Rattle.laws.proofs.Lists.{all_take, all_drop, all_append}
 use Rattle.laws.proofs.Tests.{and_in, and_left, and_right}
@@ -18,7 +19,8 @@ use Rattle.polar.proofs.Bits.{to_bits-bits, to_bits-length}
 use Rattle.codec.specs.declared.Status.{Status}
 use Rattle.codec.specs.declared.Status.TheVariants.{Passed, HeldForLaboratory, HeldForVeterinarian, HeldForOwner, Condemned}
 use Rattle.codec.specs.declared.HookRecord.{HookRecord}
-use Rattle.codec.specs.Record.{status_number, status_of, record_fits, record_bits, field_at, record_with, read_record}
+use Rattle.codec.specs.declared.UnknownStatus.{UnknownStatus}
+use Rattle.codec.specs.Record.{status_number, status_of, known_status, status_given, no_record, record_fits, record_bits, field_at, record_with, read_record}
 use Rattle.codec.proofs.Digits.{from-to, from-lt, to-bits}
 
 -- ---- a status and its number
@@ -47,6 +49,29 @@ number-again (suc (suc zero)) s e = let p : HeldForVeterinarian ≡ s = cc in ap
 number-again (suc (suc (suc zero))) s e = let p : HeldForOwner ≡ s = cc in ap status_number (sym p)
 number-again (suc (suc (suc (suc zero)))) s e = let p : Condemned ≡ s = cc in ap status_number (sym p)
 number-again (suc (suc (suc (suc (suc n))))) s e = cc
+
+-- a number's status, by the answer for it
+module _ (n : ℕ) where
+  pub status-none : {u : UnknownStatus} → Err u ≡ status_given n → status_of n ≡ none
+  unfolding status_given known_status
+  status-none = go (status_of n)
+    where
+      go : (o : Option Status) {u : UnknownStatus} → Err u ≡ known_status n o → o ≡ none
+      go none e = refl
+      go (some s) e = cc
+
+  pub status-some : {s : Status} → Ok s ≡ status_given n → status_of n ≡ some s
+  unfolding status_given known_status
+  status-some = go (status_of n)
+    where
+      go : (o : Option Status) {s : Status} → Ok s ≡ known_status n o → o ≡ some s
+      go none e = cc
+      go (some t) e = cc
+
+-- the default record is that of a refusal
+pub default-none : {h : HookRecord} → (h.plant ≡ 0) × ((h.carcass ≡ 0) × ((h.side ≡ 0) × (h.status ≡ Passed))) → h ≡ no_record
+unfolding no_record
+default-none (p, (c, (s, t))) = λ i. record { plant = p i; carcass = c i; side = s i; status = t i }
 
 -- ---- whether a record fits, field by field
 

@@ -1,24 +1,19 @@
 -- What encode, test, read data, make record and read record answer, and the buffer that each is lent: document 01, "Refusal table".
 -- Every call takes the book's bytes; its faults 1 to 6 come first, then 7, 9 and 11. Assumes nothing.
-use Rattle.std.specs.Prelude.{Bool, true, cond, ◌&&◌, List, [], ◌∷◌, ℕ, ◌^◌, length, leb, eqb}
+use Rattle.std.specs.List.{list_all}
+use Rattle.std.specs.Prelude.{Bool, cond, ◌&&◌, List, ℕ, ◌^◌, length, leb, eqb, Result, Ok, Err}
 use Rattle.std.proofs.Math.Option.{Option, none, some}
 use Rattle.codebook.specs.declared.Refusal.{Refusal}
 use Rattle.codebook.specs.declared.Refusal.TheVariants.{Mismatch, BadValue, Unreadable}
-use Rattle.codebook.specs.declared.Outcome.{Outcome}
-use Rattle.codebook.specs.declared.Outcome.TheVariants.{Done, Refused}
 use Rattle.codebook.specs.Book.{Book, free_count}
 use Rattle.codebook.specs.Loading.{Load, refused, loaded, load}
 use Rattle.codec.specs.declared.HookRecord.{HookRecord}
-use Rattle.codec.specs.declared.RecordRead.{RecordRead}
-use Rattle.codec.specs.declared.Tested.{Tested}
-use Rattle.codec.specs.declared.Tested.TheVariants.{InCode, NotInCode, Refused as NotTested}
 use Rattle.codec.specs.Code.{encode, in_code, read_data}
 use Rattle.codec.specs.Record.{no_record, record_fits, record_bits, read_record}
 
 -- every entry is 0 or 1
 unfoldable pub are_bits : List ℕ → Bool
-are_bits [] = true
-are_bits (b ∷ bs) = leb b 1 && are_bits bs
+are_bits = list_all (λ b. leb b 1)
 
 -- whether a word and data have the book's lengths, and whether a book's data hold a record in a buffer of this length
 unfoldable pub word_fits : Book → List ℕ → Bool
@@ -36,15 +31,15 @@ holds_record B ds = holds32 B && data_fits B ds
 
 -- a call that writes one buffer: its outcome, and what the buffer then holds
 pub record Wrote : Type 0 where
-  pub outcome : Outcome
+  pub outcome : Result (Unit {0}) Refusal
   pub buffer : List ℕ
 
 -- the buffer is written on success alone
 unfoldable pub kept : Refusal → List ℕ → Wrote
-kept r buffer = record { outcome = Refused r; buffer = buffer }
+kept r buffer = record { outcome = Err r; buffer = buffer }
 
 unfoldable pub wrote : List ℕ → Wrote
-wrote bits = record { outcome = Done; buffer = bits }
+wrote bits = record { outcome = Ok tt; buffer = bits }
 
 -- encode: data ds, into the lent word c
 unfoldable pub encode_with : Load → List ℕ → List ℕ → Wrote
@@ -56,14 +51,12 @@ encode_with (loaded B) ds c =
 unfoldable pub encode_call : List ℕ → List ℕ → List ℕ → Wrote
 encode_call book ds c = encode_with (load book) ds c
 
--- test: the word c
-unfoldable pub test_with : Load → List ℕ → Tested
-test_with (refused r) c = NotTested r
-test_with (loaded B) c =
-    let answer = cond (in_code B c) InCode NotInCode in
-    cond (word_fits B c) (cond (are_bits c) answer (NotTested BadValue)) (NotTested Mismatch)
+-- test: whether the word c is in the code; one outside it is no refusal
+unfoldable pub test_with : Load → List ℕ → Result Bool Refusal
+test_with (refused r) c = Err r
+test_with (loaded B) c = cond (word_fits B c) (cond (are_bits c) (Ok (in_code B c)) (Err BadValue)) (Err Mismatch)
 
-unfoldable pub test_call : List ℕ → List ℕ → Tested
+unfoldable pub test_call : List ℕ → List ℕ → Result Bool Refusal
 test_call book c = test_with (load book) c
 
 -- read data: of the word c, into the lent data ds
@@ -87,18 +80,19 @@ unfoldable pub make_record_call : List ℕ → HookRecord → List ℕ → Wrote
 make_record_call book h ds = make_record_with (load book) h ds
 
 -- read record: of the data ds
-unfoldable pub not_read : Refusal → RecordRead
-not_read r = record { outcome = Refused r; hook = no_record }
+unfoldable pub record_read : Option HookRecord → Result HookRecord Refusal
+record_read none = Err Unreadable
+record_read (some h) = Ok h
 
-unfoldable pub record_read : Option HookRecord → RecordRead
-record_read none = not_read Unreadable
-record_read (some h) = record { outcome = Done; hook = h }
-
-unfoldable pub read_record_with : Load → List ℕ → RecordRead
-read_record_with (refused r) ds = not_read r
+unfoldable pub read_record_with : Load → List ℕ → Result HookRecord Refusal
+read_record_with (refused r) ds = Err r
 read_record_with (loaded B) ds =
-    let answer = record_read (read_record ds) in
-    cond (holds_record B ds) (cond (are_bits ds) answer (not_read BadValue)) (not_read Mismatch)
+    cond (holds_record B ds) (cond (are_bits ds) (record_read (read_record ds)) (Err BadValue)) (Err Mismatch)
 
-unfoldable pub read_record_call : List ℕ → List ℕ → RecordRead
+unfoldable pub read_record_call : List ℕ → List ℕ → Result HookRecord Refusal
 read_record_call book ds = read_record_with (load book) ds
+
+-- the record that goes with a reading's answer: zeros, passed, where it is refused
+unfoldable pub hook_read : Result HookRecord Refusal → HookRecord
+hook_read (Ok h) = h
+hook_read (Err r) = no_record

@@ -1,21 +1,20 @@
 -- The number of each call's answer: document 01's refusals by the tests of its table in the table's order, the book's fault, then 7, 9, 11; 0 where all pass; and 255 for a test's no,
 -- for which document 01 has no number.
 -- proofs/Numbers shows that the answers of specs/Calls have these numbers. Assumes nothing.
-use Rattle.std.specs.Prelude.{Bool, ◌&&◌, List, ℕ, leb, eqb}
+use Rattle.std.specs.Prelude.{Bool, true, false, ◌&&◌, List, ℕ, leb, eqb, Result, Ok, Err}
+use Rattle.codebook.specs.declared.Refusal.{Refusal}
 use Rattle.codebook.specs.Refusals.{refusal_number, unless_number}
 use Rattle.codebook.specs.Loading.{load, number_by}
 use Rattle.codec.specs.declared.HookRecord.{HookRecord}
-use Rattle.codec.specs.declared.Tested.{Tested}
-use Rattle.codec.specs.declared.Tested.TheVariants.{InCode, NotInCode, Refused as NotTested}
 use Rattle.codec.specs.Code.{in_code}
 use Rattle.codec.specs.Record.{record_fits, field_at}
 use Rattle.codec.specs.Calls.{are_bits, word_fits, data_fits, holds_record}
 
 -- the number of a test's answer: 0 in the code, 255 not in the code, which is no refusal; else the refusal's
-abbrev pub tested_number : Tested → ℕ
-tested_number InCode = 0
-tested_number NotInCode = 255
-tested_number (NotTested r) = refusal_number r
+abbrev pub tested_number : Result Bool Refusal → ℕ
+tested_number (Ok true) = 0
+tested_number (Ok false) = 255
+tested_number (Err r) = refusal_number r
 
 -- encode, data ds into the word c: 7 unless both have the book's lengths, 9 unless the data are bits
 unfoldable pub encode_number : List ℕ → List ℕ → List ℕ → ℕ

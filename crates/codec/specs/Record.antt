@@ -1,10 +1,11 @@
 -- The hook record and its 32 data bits: document 01, "The hook record". Assumes nothing.
-use Rattle.std.specs.Prelude.{Bool, cond, ◌&&◌, List, [], ◌∷◌, ◌++◌, ℕ, zero, suc, ◌^◌, take, drop, ltb, eqb}
+use Rattle.std.specs.Prelude.{Bool, cond, ◌&&◌, List, [], ◌∷◌, ◌++◌, ℕ, zero, suc, ◌^◌, take, drop, ltb, eqb, Result, Ok, Err}
 use Rattle.std.proofs.Math.Option.{Option, none, some}
 use Rattle.polar.specs.Bits.{to_bits, from_bits}
 use Rattle.codec.specs.declared.Status.{Status}
 use Rattle.codec.specs.declared.Status.TheVariants.{Passed, HeldForLaboratory, HeldForVeterinarian, HeldForOwner, Condemned}
 use Rattle.codec.specs.declared.HookRecord.{HookRecord}
+use Rattle.codec.specs.declared.UnknownStatus.{UnknownStatus}
 
 -- a status's number, and the status of a number
 unfoldable pub status_number : Status → ℕ
@@ -21,6 +22,14 @@ status_of (suc (suc zero)) = some HeldForVeterinarian
 status_of (suc (suc (suc zero))) = some HeldForOwner
 status_of (suc (suc (suc (suc zero)))) = some Condemned
 status_of (suc (suc (suc (suc (suc n))))) = none
+
+-- the same as an answer: the status, or the number that is none's
+unfoldable pub known_status : ℕ → Option Status → Result Status UnknownStatus
+known_status n (some s) = Ok s
+known_status n none = Err (record { 0 = n })
+
+unfoldable pub status_given : ℕ → Result Status UnknownStatus
+status_given n = known_status n (status_of n)
 
 -- the record that a refusal returns
 unfoldable pub no_record : HookRecord

@@ -1,38 +1,36 @@
 -- What loading tells the calls: by its outcome a refusal or a book, with the book's sizes, and the tables of its kinds. And what
 -- each call answers by its tests. Assumes nothing.
 use mathlib.Core.Path.{◌≡◌, refl, sym, ap, ◌∙◌, subst}
-use mathlib.Core.Bool.{Bool, true, false, cond, ◌&&◌}
+use mathlib.Core.Bool.{Bool, true, false}
 use mathlib.Core.List.{List}
 use Prim.Native.Nat.{ℕ, ◌^◌, ◌≤◌}
 use native.Mathlib.Omega.{arith}
 use lib.ListN.{length, get_or, take, replicate}
 use lib.Seq.{take_at, length-take-le}
-use lib.Dec.{eqb}
 use lib.Pow.{pow_mono}
-use borrow.Author.Tests.{eqb-true, eq-eqb, ne_eqb}
+use borrow.Author.Tests.{eq-eqb, ne_eqb}
+use Rattle.std.specs.Prelude.{Result, Ok, Err, IsErrAnd}
+use Rattle.std.proofs.lemmas.Result.{err_from_is_err_and}
 use Rattle.laws.specs.Lists.{All, tab, over}
+use Rattle.laws.proofs.Tells.{tells-eq, both, fails}
 use Rattle.laws.proofs.Lists.{over-get_d, length-tab, get_d-tab}
 use Rattle.polar.specs.Bits.{Bit}
 use Rattle.codebook.specs.declared.Refusal.{Refusal}
 use Rattle.codebook.specs.declared.Refusal.TheVariants.{Mismatch, BadValue}
-use Rattle.codebook.specs.declared.Outcome.{Outcome}
-use Rattle.codebook.specs.declared.Outcome.TheVariants.{Done, Refused}
 use Rattle.codebook.specs.declared.Shape.{Shape}
 use Rattle.codebook.specs.Refusals.{outcome_number}
 use Rattle.codebook.specs.Book.{Book, free_count}
 use Rattle.codebook.specs.Limits.{Valid}
-use Rattle.codebook.specs.Loading.{Load, refused, loaded, load, shape_of}
-use Rattle.codebook.specs.Tables.{Tables, kind_codes, tie_set, tables_of, overlaid, loaded_up_to, Filled}
+use Rattle.codebook.specs.Loading.{Load, refused, loaded, load, shape_of, book_shape}
+use Rattle.codebook.specs.declared.Tables.{Tables}
+use Rattle.codebook.specs.Tables.{kind_codes, tie_set, tables_of, overlaid, loaded_up_to, Filled}
 use Rattle.codebook.proofs.Loaded.{loaded-valid}
 use Rattle.codebook.proofs.Codes.{codes-length}
 use Rattle.codec.specs.declared.HookRecord.{HookRecord}
-use Rattle.codec.specs.declared.RecordRead.{RecordRead}
-use Rattle.codec.specs.declared.Tested.{Tested}
-use Rattle.codec.specs.declared.Tested.TheVariants.{InCode, NotInCode, Refused as NotTested}
 use Rattle.codec.specs.Code.{encode, in_code, read_data}
 use Rattle.codec.specs.Record.{record_fits, record_bits, read_record}
 use Rattle.codec.specs.Tabled.{Tabled}
-use Rattle.codec.specs.Calls.{are_bits, word_fits, data_fits, holds_record, Wrote, kept, wrote, not_read, record_read}
+use Rattle.codec.specs.Calls.{are_bits, word_fits, data_fits, holds_record, Wrote, kept, wrote, record_read}
 use Rattle.codec.specs.Calls.{encode_with, test_with, read_data_with, make_record_with, read_record_with}
 use Rattle.codec.specs.Calls.{encode_call, test_call, read_data_call, make_record_call, read_record_call}
 use Rattle.codec.specs.Numbers.{tested_number, test_number, read_record_number}
@@ -59,22 +57,22 @@ known_small K =
     omega (arith, K.size)
 
 module _ (book : List ℕ) where
-  pub shape-refused : (x : Shape) (r : Refusal) → x ≡ shape_of (load book) → x.outcome ≡ Refused r → load book ≡ refused r
+  pub shape-refused : (r : Refusal) → Err r ≡ shape_of (load book) → load book ≡ refused r
   unfolding shape_of
-  shape-refused x r e q = go (load book) (sym (ap (λ (y : Shape). y.outcome) e) ∙ q)
+  shape-refused r = go (load book)
     where
-      go : (l : Load) → (shape_of l).outcome ≡ Refused r → l ≡ refused r
+      go : (l : Load) → Err r ≡ shape_of l → l ≡ refused r
       go (refused s) p = let z : s ≡ r = cc in ap refused z
-      go (loaded B) p = let z : ◌≡◌ {A = ℕ} 0 1 = cc in absurd (omega arith)
+      go (loaded B) p = cc
 
-  pub shape-known : (x : Shape) → x ≡ shape_of (load book) → x.outcome ≡ Done → Known book x.m x.n x.k
+  pub shape-known : (x : Shape) → Ok x ≡ shape_of (load book) → Known book x.m x.n x.k
   unfolding shape_of
-  shape-known x e q = go (load book) refl (sym (ap (λ (y : Shape). y.outcome) e) ∙ q)
+  shape-known x = go (load book) refl
     where
-      go : (l : Load) → load book ≡ l → (shape_of l).outcome ≡ Done → Known book x.m x.n x.k
-      go (refused s) p d = let z : ◌≡◌ {A = ℕ} 0 1 = cc in absurd (omega arith)
-      go (loaded B) p d =
-          let f : x ≡ shape_of (loaded B) = e ∙ ap shape_of p in
+      go : (l : Load) → load book ≡ l → Ok x ≡ shape_of l → Known book x.m x.n x.k
+      go (refused s) p e = cc
+      go (loaded B) p e =
+          let f : x ≡ book_shape B = cc in
           record { is = B; loads = p; height = ap (λ (y : Shape). y.m) f; size = ap (λ (y : Shape). y.n) f; free = ap (λ (y : Shape). y.k) f; valid = loaded-valid book B p }
 
   -- the tables hold a loaded book's kinds
@@ -106,119 +104,124 @@ module _ (book : List ℕ) where
 pub zeros-part : (n : ℕ) → n ≤ 512 → n ≡ length (take n (replicate {A = ℕ} 512 0))
 zeros-part n h = sym (length-take-le n (replicate 512 0) h)
 
-and-true : (a b : Bool) → (a && b) ≡ true → (a ≡ true) × (b ≡ true)
-and-true true b e = (refl, e)
-and-true false b e = let z : ◌≡◌ {A = ℕ} 0 1 = cc in absurd (omega arith)
-
-pub both-fit : (a m b n : ℕ) → (eqb a m && eqb b n) ≡ true → (a ≡ m) × (b ≡ n)
-both-fit a m b n e = let (p, q) = and-true (eqb a m) (eqb b n) e in (eqb-true a m p, eqb-true b n q)
-
 pub are-bits : (bs : List ℕ) → are_bits bs ≡ true → All Bit bs
 are-bits bs e = bits_out bs (rw e tt)
 
+-- a refusal that is handed on
+pub handed : {A : Type 0} (o : Result A Refusal) {r : Refusal} → IsErrAnd o (λ y. y ≡ r) → o ≡ Err r
+handed o h = let p = err_from_is_err_and o h in p.1 ∙ ap Err p.2
+
 -- an answer and a buffer that are the definition's, and the answer's number
-pub told : {w : Wrote} {n : ℕ} (o : Outcome) (b : List ℕ) → outcome_number w.outcome ≡ n → w ≡ record { outcome = o; buffer = b } →
+pub told : {w : Wrote} {n : ℕ} (o : Result (Unit {0}) Refusal) (b : List ℕ) → outcome_number w.outcome ≡ n → w ≡ record { outcome = o; buffer = b } →
     ((o ≡ w.outcome) × (b ≡ w.buffer)) × (outcome_number o ≡ n)
 told o b k e =
     let p = sym (ap (λ (w : Wrote). w.outcome) e) in
     ((p, sym (ap (λ (w : Wrote). w.buffer) e)), ap outcome_number p ∙ k)
 
 -- a test's answer that is the definition's: its number, and what it means by encoding
-pub test-told : (book c : List ℕ) {t : Tested} → t ≡ test_call book c → (t ≡ test_call book c) × ((tested_number t ≡ test_number book c) × TestedExactly book c t)
+pub test-told : (book c : List ℕ) {t : Result Bool Refusal} → t ≡ test_call book c → (t ≡ test_call book c) × ((tested_number t ≡ test_number book c) × TestedExactly book c t)
 test-told book c e = (e, (ap tested_number e ∙ test-number book c, subst (TestedExactly book c) (sym e) (tested-exactly book c)))
 
 -- a record that is read as the definition says, and the answer's number
-pub record-told : (book ds : List ℕ) {r : RecordRead} → r ≡ read_record_call book ds →
-    (r ≡ read_record_call book ds) × (outcome_number r.outcome ≡ read_record_number book ds)
-record-told book ds e = (e, ap (λ (r : RecordRead). outcome_number r.outcome) e ∙ read-record-number book ds)
+pub record-told : (book ds : List ℕ) {r : Result HookRecord Refusal} → r ≡ read_record_call book ds →
+    (r ≡ read_record_call book ds) × (outcome_number r ≡ read_record_number book ds)
+record-told book ds e = (e, ap outcome_number e ∙ read-record-number book ds)
 
 -- ---- what each call answers
 
 module _ (book ds c : List ℕ) where
-  pub encode-refused : (r : Refusal) → load book ≡ refused r → encode_call book ds c ≡ record { outcome = Refused r; buffer = c }
+  pub encode-refused : (r : Refusal) → load book ≡ refused r → encode_call book ds c ≡ record { outcome = Err r; buffer = c }
   unfolding encode_call encode_with kept
   encode-refused r e = rw e refl
 
-  pub read-refused : (r : Refusal) → load book ≡ refused r → read_data_call book c ds ≡ record { outcome = Refused r; buffer = ds }
+  pub read-refused : (r : Refusal) → load book ≡ refused r → read_data_call book c ds ≡ record { outcome = Err r; buffer = ds }
   unfolding read_data_call read_data_with kept
   read-refused r e = rw e refl
 
   module _ (B : Book) (e : load book ≡ loaded B) where
-    module _ {f : Bool} (q : f ≡ (eqb (length ds) (free_count B.kinds) && eqb (length c) (2 ^ B.m))) where
-      pub encode-mismatch : f ≡ false → encode_call book ds c ≡ record { outcome = Refused Mismatch; buffer = c }
-      unfolding encode_call encode_with kept data_fits word_fits
-      encode-mismatch g = rw (e, ← q, g) refl
+    pub encode-mismatch : ((length ds ≡ free_count B.kinds) × (length c ≡ 2 ^ B.m) → ⊥) → encode_call book ds c ≡ record { outcome = Err Mismatch; buffer = c }
+    unfolding encode_call encode_with kept data_fits word_fits
+    encode-mismatch f = rw (e, ← fails (both (tells-eq (length ds) (free_count B.kinds)) (tells-eq (length c) (2 ^ B.m))) f) refl
 
-      pub encode-bad : f ≡ true → are_bits ds ≡ false → encode_call book ds c ≡ record { outcome = Refused BadValue; buffer = c }
-      unfolding encode_call encode_with kept data_fits word_fits
-      encode-bad g h = rw (e, ← q, g, h) refl
+    pub read-mismatch : ((length c ≡ 2 ^ B.m) × (length ds ≡ free_count B.kinds) → ⊥) → read_data_call book c ds ≡ record { outcome = Err Mismatch; buffer = ds }
+    unfolding read_data_call read_data_with kept data_fits word_fits
+    read-mismatch f = rw (e, ← fails (both (tells-eq (length c) (2 ^ B.m)) (tells-eq (length ds) (free_count B.kinds))) f) refl
 
-      pub encode-good : f ≡ true → are_bits ds ≡ true → encode_call book ds c ≡ record { outcome = Done; buffer = encode B ds }
+    module _ (k : length ds ≡ free_count B.kinds) (n : length c ≡ 2 ^ B.m) where
+      pub encode-bad : are_bits ds ≡ false → encode_call book ds c ≡ record { outcome = Err BadValue; buffer = c }
+      unfolding encode_call encode_with kept data_fits word_fits
+      encode-bad h = rw (e, eq-eqb (length ds) (free_count B.kinds) k, eq-eqb (length c) (2 ^ B.m) n, h) refl
+
+      pub encode-good : are_bits ds ≡ true → encode_call book ds c ≡ record { outcome = Ok tt; buffer = encode B ds }
       unfolding encode_call encode_with wrote data_fits word_fits
-      encode-good g h = rw (e, ← q, g, h) refl
+      encode-good h = rw (e, eq-eqb (length ds) (free_count B.kinds) k, eq-eqb (length c) (2 ^ B.m) n, h) refl
 
-    module _ {f : Bool} (q : f ≡ (eqb (length c) (2 ^ B.m) && eqb (length ds) (free_count B.kinds))) where
-      pub read-mismatch : f ≡ false → read_data_call book c ds ≡ record { outcome = Refused Mismatch; buffer = ds }
+      pub read-bad : are_bits c ≡ false → read_data_call book c ds ≡ record { outcome = Err BadValue; buffer = ds }
       unfolding read_data_call read_data_with kept data_fits word_fits
-      read-mismatch g = rw (e, ← q, g) refl
+      read-bad h = rw (e, eq-eqb (length ds) (free_count B.kinds) k, eq-eqb (length c) (2 ^ B.m) n, h) refl
 
-      pub read-bad : f ≡ true → are_bits c ≡ false → read_data_call book c ds ≡ record { outcome = Refused BadValue; buffer = ds }
-      unfolding read_data_call read_data_with kept data_fits word_fits
-      read-bad g h = rw (e, ← q, g, h) refl
-
-      pub read-good : f ≡ true → are_bits c ≡ true → read_data_call book c ds ≡ record { outcome = Done; buffer = read_data B c }
+      pub read-good : are_bits c ≡ true → read_data_call book c ds ≡ record { outcome = Ok tt; buffer = read_data B c }
       unfolding read_data_call read_data_with wrote data_fits word_fits
-      read-good g h = rw (e, ← q, g, h) refl
+      read-good h = rw (e, eq-eqb (length ds) (free_count B.kinds) k, eq-eqb (length c) (2 ^ B.m) n, h) refl
 
 module _ (book c : List ℕ) where
-  pub test-refused : (r : Refusal) → load book ≡ refused r → NotTested r ≡ test_call book c
+  pub test-refused : (r : Refusal) → load book ≡ refused r → Err r ≡ test_call book c
   unfolding test_call test_with
   test-refused r e = rw e refl
 
   module _ (B : Book) (e : load book ≡ loaded B) where
-    pub test-mismatch : (length c ≡ 2 ^ B.m → ⊥) → NotTested Mismatch ≡ test_call book c
+    pub test-mismatch : (length c ≡ 2 ^ B.m → ⊥) → Err Mismatch ≡ test_call book c
     unfolding test_call test_with word_fits
     test-mismatch f = rw (e, ne_eqb (length c) (2 ^ B.m) f) refl
 
     module _ (f : length c ≡ 2 ^ B.m) where
-      pub test-bad : are_bits c ≡ false → NotTested BadValue ≡ test_call book c
+      pub test-bad : are_bits c ≡ false → Err BadValue ≡ test_call book c
       unfolding test_call test_with word_fits
       test-bad g = rw (e, eq-eqb (length c) (2 ^ B.m) f, g) refl
 
-      pub test_good : are_bits c ≡ true → cond (in_code B c) InCode NotInCode ≡ test_call book c
+      pub test_good : are_bits c ≡ true → Ok (in_code B c) ≡ test_call book c
       unfolding test_call test_with word_fits
       test_good g = rw (e, eq-eqb (length c) (2 ^ B.m) f, g) refl
 
 module _ (book ds : List ℕ) where
-  pub make-refused : (h : HookRecord) (r : Refusal) → load book ≡ refused r → make_record_call book h ds ≡ record { outcome = Refused r; buffer = ds }
+  pub make-refused : (h : HookRecord) (r : Refusal) → load book ≡ refused r → make_record_call book h ds ≡ record { outcome = Err r; buffer = ds }
   unfolding make_record_call make_record_with kept
   make-refused h r e = rw e refl
 
-  pub record-refused : (r : Refusal) → load book ≡ refused r → not_read r ≡ read_record_call book ds
+  pub record-refused : (r : Refusal) → load book ≡ refused r → Err r ≡ read_record_call book ds
   unfolding read_record_call read_record_with
   record-refused r e = rw e refl
 
-  module _ (B : Book) (e : load book ≡ loaded B) {f : Bool} (q : f ≡ (eqb (free_count B.kinds) 32 && eqb (length ds) (free_count B.kinds))) where
-    pub make-mismatch : (h : HookRecord) → f ≡ false → make_record_call book h ds ≡ record { outcome = Refused Mismatch; buffer = ds }
-    unfolding make_record_call make_record_with kept holds_record data_fits
-    make-mismatch h g = rw (e, ← q, g) refl
+  module _ (B : Book) (e : load book ≡ loaded B) where
+    holds-not : ((free_count B.kinds ≡ 32) × (length ds ≡ 32) → ⊥) → false ≡ holds_record B ds
+    unfolding holds_record data_fits
+    holds-not f = fails (both (tells-eq (free_count B.kinds) 32) (tells-eq (length ds) (free_count B.kinds))) (λ p. f (p.0, p.1 ∙ p.0))
 
-    pub make-bad : (h : HookRecord) → f ≡ true → record_fits h ≡ false → make_record_call book h ds ≡ record { outcome = Refused BadValue; buffer = ds }
-    unfolding make_record_call make_record_with kept holds_record data_fits
-    make-bad h g k = rw (e, ← q, g, k) refl
+    pub make-mismatch : (h : HookRecord) → ((free_count B.kinds ≡ 32) × (length ds ≡ 32) → ⊥) → make_record_call book h ds ≡ record { outcome = Err Mismatch; buffer = ds }
+    unfolding make_record_call make_record_with kept
+    make-mismatch h f = rw (e, ← holds-not f) refl
 
-    pub make-good : (h : HookRecord) → f ≡ true → record_fits h ≡ true → make_record_call book h ds ≡ record { outcome = Done; buffer = record_bits h }
-    unfolding make_record_call make_record_with wrote holds_record data_fits
-    make-good h g k = rw (e, ← q, g, k) refl
+    pub record-mismatch : ((free_count B.kinds ≡ 32) × (length ds ≡ 32) → ⊥) → Err Mismatch ≡ read_record_call book ds
+    unfolding read_record_call read_record_with
+    record-mismatch f = rw (e, ← holds-not f) refl
 
-    pub record-mismatch : f ≡ false → not_read Mismatch ≡ read_record_call book ds
-    unfolding read_record_call read_record_with holds_record data_fits
-    record-mismatch g = rw (e, ← q, g) refl
+    module _ (k : free_count B.kinds ≡ 32) (n : length ds ≡ 32) where
+      holds : holds_record B ds ≡ true
+      unfolding holds_record data_fits
+      holds = rw (eq-eqb (free_count B.kinds) 32 k, eq-eqb (length ds) (free_count B.kinds) (n ∙ sym k)) refl
 
-    pub record-bad : f ≡ true → are_bits ds ≡ false → not_read BadValue ≡ read_record_call book ds
-    unfolding read_record_call read_record_with holds_record data_fits
-    record-bad g h = rw (e, ← q, g, h) refl
+      pub make-bad : (h : HookRecord) → record_fits h ≡ false → make_record_call book h ds ≡ record { outcome = Err BadValue; buffer = ds }
+      unfolding make_record_call make_record_with kept
+      make-bad h g = rw (e, holds, g) refl
 
-    pub record-good : f ≡ true → are_bits ds ≡ true → record_read (read_record ds) ≡ read_record_call book ds
-    unfolding read_record_call read_record_with holds_record data_fits
-    record-good g h = rw (e, ← q, g, h) refl
+      pub make-good : (h : HookRecord) → record_fits h ≡ true → make_record_call book h ds ≡ record { outcome = Ok tt; buffer = record_bits h }
+      unfolding make_record_call make_record_with wrote
+      make-good h g = rw (e, holds, g) refl
+
+      pub record-bad : are_bits ds ≡ false → Err BadValue ≡ read_record_call book ds
+      unfolding read_record_call read_record_with
+      record-bad h = rw (e, holds, h) refl
+
+      pub record-good : are_bits ds ≡ true → record_read (read_record ds) ≡ read_record_call book ds
+      unfolding read_record_call read_record_with
+      record-good h = rw (e, holds, h) refl

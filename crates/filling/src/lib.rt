@@ -11,6 +11,8 @@ ghost use Rattle.codebook.specs.Book.{Kind, free_count};
 ghost use Rattle.codec.specs.Code.{fill, free_bits, obeys_all};
 ghost use Rattle.codec.specs.Tabled.{Coded, Tabled, Some, forced, absorbed};
 
+use codebook::Tables;
+
 // The bit that an index with this code, zero or tied, must have.
 #[tactic(auto, using(std::proofs::lemmas::Bool::Decides::nat_tests), unfolding(codec::specs::Tabled::forced))]
 fn forced(code: u8, parities: u32) -> u8
@@ -31,17 +33,16 @@ fn absorbed(parities: u32, bit: u8, ties: u32) -> u32
 }
 
 // Fills u from data bits.
-pub fn fill(kinds: &[u8; 512], terms: &[u32; 512], bits: &[u8], word: &mut [u8])
-    requires some { Some (λ ks. Tabled ks kinds.now terms.now × (length ks ≡ length word.old) × (free_count ks ≡ length bits.now)) }
+pub fn fill(tables: &Tables, bits: &[u8], word: &mut [u8])
+    requires some { Some (λ ks. Tabled ks tables.now.kinds tables.now.terms × (length ks ≡ length word.old) × (free_count ks ≡ length bits.now)) }
     requires all { All Bit bits.now }
-    ensures { (ks : List Kind) → Tabled ks kinds.now terms.now → length ks ≡ length word.old →
+    ensures { (ks : List Kind) → Tabled ks tables.now.kinds tables.now.terms → length ks ≡ length word.old →
         free_count ks ≡ length bits.now → word.new ≡ fill [] ks bits.now }
 {
     let mut parities: u32 = 0;
     let mut next: usize = 0;
-    let mut i: usize = 0;
-    while i < word.len() {
-        let code = kinds[i];
+    for (i, bit) in word.iter_mut().enumerate() {
+        let code = tables.kinds[i];
         let b = if code == 0 {
             let d = bits[next];
             next += 1;
@@ -49,48 +50,40 @@ pub fn fill(kinds: &[u8; 512], terms: &[u32; 512], bits: &[u8], word: &mut [u8])
         } else {
             forced(code, parities)
         };
-        word[i] = b;
-        parities = absorbed(parities, b, terms[i]);
-        i += 1;
+        *bit = b;
+        parities = absorbed(parities, b, tables.terms[i]);
     }
 }
 
 // Whether every bit of u is what its kind asks.
-pub fn obeys_all(kinds: &[u8; 512], terms: &[u32; 512], u: &[u8]) -> bool
-    requires some { Some (λ ks. Tabled ks kinds.now terms.now × (length ks ≡ length u.now)) }
+pub fn obeys_all(tables: &Tables, u: &[u8]) -> bool
+    requires some { Some (λ ks. Tabled ks tables.now.kinds tables.now.terms × (length ks ≡ length u.now)) }
     requires all { All Bit u.now }
-    ensures { (ks : List Kind) → Tabled ks kinds.now terms.now → length ks ≡ length u.now →
+    ensures { (ks : List Kind) → Tabled ks tables.now.kinds tables.now.terms → length ks ≡ length u.now →
         result ≡ obeys_all u.now 0 ks }
 {
     let mut parities: u32 = 0;
-    let mut i: usize = 0;
-    while i < u.len() {
-        let code = kinds[i];
-        let bit = u[i];
-        if code != 0 {
-            if bit != forced(code, parities) {
-                return false;
-            }
+    for (i, bit) in u.iter().enumerate() {
+        let code = tables.kinds[i];
+        if code != 0 && *bit != forced(code, parities) {
+            return false;
         }
-        parities = absorbed(parities, bit, terms[i]);
-        i += 1;
+        parities = absorbed(parities, *bit, tables.terms[i]);
     }
     true
 }
 
 // The bits of u at the free indices.
-pub fn free_bits(kinds: &[u8; 512], u: &[u8], bits: &mut [u8])
-    requires { Some (λ ks. Coded ks kinds.now × (length ks ≡ length u.now) × (free_count ks ≡ length bits.old)) }
-    ensures { (ks : List Kind) → Coded ks kinds.now → length ks ≡ length u.now →
+pub fn free_bits(tables: &Tables, u: &[u8], bits: &mut [u8])
+    requires { Some (λ ks. Coded ks tables.now.kinds × (length ks ≡ length u.now) × (free_count ks ≡ length bits.old)) }
+    ensures { (ks : List Kind) → Coded ks tables.now.kinds → length ks ≡ length u.now →
         free_count ks ≡ length bits.old → bits.new ≡ free_bits ks u.now }
 {
     let mut next: usize = 0;
-    let mut i: usize = 0;
-    while i < u.len() {
-        if kinds[i] == 0 {
-            bits[next] = u[i];
+    for (i, bit) in u.iter().enumerate() {
+        if tables.kinds[i] == 0 {
+            bits[next] = *bit;
             next += 1;
         }
-        i += 1;
     }
 }

@@ -1,84 +1,82 @@
--- Bits tested, and fields of bits written and read, one bit more each time: what the loops of src/fields.rt do in one turn, and the calls of
--- src/hook.rt. Assumes nothing.
+-- Fields of bits written and read, one bit more each time: what the loops of src/fields.rt do in one turn, and the calls of src/hook.rt. Assumes nothing.
 use mathlib.Core.Path.{◌≡◌, refl, sym, ap, ap₂, ◌∙◌}
-use mathlib.Core.Bool.{true, false, ◌&&◌}
-use mathlib.Core.List.{List, ◌++◌}
-use mathlib.Core.Option.{none}
+use mathlib.Core.List.{List, [], ◌∷◌, ◌++◌, append_assoc, append-nil}
 use Prim.Native.Nat.{ℕ, zero, suc, ◌+◌, ◌*◌, ◌/◌, ◌%◌, ◌^◌, ◌-◌, ◌≤◌, ◌<◌}
 use native.Mathlib.Nat.{two-pow-succ}
 use native.Mathlib.Numerals.{add-one}
 use native.Mathlib.Omega.{arith}
-use lib.ListN.{length, get_or, take, drop, drop_of_length-le}
-use lib.Seq.{drop-cons, drop-drop, take_at, drop_at, take_all, take-append_seam}
-use lib.Dec.{leb}
-use borrow.Author.Tests.{le-leb, lt-leb}
-use Rattle.polar.specs.Bits.{to_bits, from_bits}
-use Rattle.polar.specs.Layers.{over_at}
-use Rattle.codec.specs.Record.{status_of}
-use Rattle.codec.specs.Calls.{are_bits}
-
--- ---- whether all are bits
-
-module _ (bs : List ℕ) (i : ℕ) (h : i < length bs) where
-  bits-here : are_bits (drop i bs) ≡ (leb (get_or bs i 0) 1 && are_bits (drop (i + 1) bs))
-  unfolding are_bits
-  bits-here = rw (add-one, drop-cons bs i 0)
-
-  -- a bit, and another number
-  pub bits-next : get_or bs i 0 ≤ 1 → are_bits (drop (i + 1) bs) ≡ are_bits (drop i bs)
-  bits-next k = sym (bits-here ∙ ap (λ b. b && are_bits (drop (i + 1) bs)) (le-leb _ 1 k))
-
-  pub bits-not : 1 < get_or bs i 0 → false ≡ are_bits (drop i bs)
-  bits-not k = sym (bits-here ∙ ap (λ b. b && are_bits (drop (i + 1) bs)) (lt-leb _ 1 k))
-
--- a number above 1 ends it, where all before it are bits
-pub not_bits : (bs : List ℕ) (i : ℕ) → are_bits (drop i bs) ≡ are_bits bs → i < length bs → 1 < get_or bs i 0 → false ≡ are_bits bs
-not_bits bs i e h k = bits-not bs i h k ∙ e
-
-pub bits-end : (bs : List ℕ) (i : ℕ) → length bs ≤ i → true ≡ are_bits (drop i bs)
-unfolding are_bits
-bits-end bs i h = rw (drop_of_length-le bs {i = i} h) refl
+use lib.ListN.{length, get_or, take, drop, set}
+use lib.Seq.{drop-cons, take-suc, take-suc-set, take_at, drop_at, length-take-le}
+use borrow.Rule.Slice.PartMut.{mid_of, put_mid}
+use borrow.Author.Tests.{eq-eqb, ne_eqb}
+use Rattle.std.specs.Prelude.{Ok, Err}
+use Rattle.laws.specs.Lists.{All}
+use Rattle.laws.proofs.Lists.{all_take, all_drop}
+use Rattle.polar.specs.Bits.{Bit, to_bits, from_bits}
+use Rattle.codebook.specs.declared.Refusal.TheVariants.{Unreadable}
+use Rattle.codec.specs.declared.Status.{Status}
+use Rattle.codec.specs.declared.UnknownStatus.{UnknownStatus}
+use Rattle.codec.specs.Record.{status_given, field_at, record_with, read_record}
+use Rattle.codec.specs.Calls.{record_read}
+use Rattle.codec.proofs.Record.{status-none, status-some}
+use Rattle.polar.proofs.Bits.{to_bits-length}
 
 -- ---- a field's bits
 
 -- the bit that l more follow
-pub to_at : (w x i l : ℕ) → i + suc l ≡ w → get_or (to_bits w x) i 0 ≡ x / 2 ^ l % 2
+to_at : (w x i l : ℕ) → i + suc l ≡ w → get_or (to_bits w x) i 0 ≡ x / 2 ^ l % 2
 unfolding to_bits
 to_at zero x i l e = absurd (omega arith)
 to_at (suc w) x zero l e = let k : w ≡ l = omega arith in ap (λ n. x / 2 ^ n % 2) k
 to_at (suc w) x (suc i) l e = to_at w x i l (omega arith)
 
--- one bit is read
-pub from_next : (bs : List ℕ) (x i left : ℕ) → i < length bs → 0 < left →
-    from_bits (2 * x + get_or bs i 0) (take (left - 1) (drop (i + 1) bs)) ≡ from_bits x (take left (drop i bs))
-from_next bs x i left h k =
-    let e : suc (left - 1) ≡ left = omega arith in
-    rw add-one (sym (ap (from_bits x) (ap₂ take (sym e) (drop-cons bs i 0 h)) ∙ unfold from_bits in refl))
+-- one more is written
+pub to_more : (bs : List ℕ) (w x i : ℕ) → w ≡ length bs → i < length bs → take i bs ≡ take i (to_bits w x) →
+    take (i + 1) (set bs i (x / 2 ^ (w - 1 - i) % 2)) ≡ take (i + 1) (to_bits w x)
+to_more bs w x i e h q =
+    rw (add-one i, take-suc-set bs i (x / 2 ^ (w - 1 - i) % 2) h, take-suc (to_bits w x) i 0 (omega (arith, to_bits-length w x)))
+    (ap₂ (λ l b. l ++ b ∷ []) q (sym (to_at w x i (w - 1 - i) (omega arith))))
 
-pub digits_lt : (x b n m : ℕ) → x < 2 ^ n → b < 2 → m ≡ suc n → 2 * x + b < 2 ^ m
-digits_lt x b n m h k e = omega (arith, two-pow-succ n, ap (λ i. 2 ^ i) e)
+-- one more is read
+pub from_more : (bs : List ℕ) (x i b : ℕ) → i < length bs → b ≡ get_or bs i 0 → from_bits (2 * x + b) (drop (i + 1) bs) ≡ from_bits x (drop i bs)
+unfolding from_bits
+from_more bs x i b h e = rw (e, add-one i, drop-cons bs i 0 h) refl
+
+pub digits_lt : (x b i : ℕ) → x < 2 ^ i → b < 2 → 2 * x + b < 2 ^ (i + 1)
+digits_lt x b i h k = rw add-one (omega (arith, two-pow-succ i))
 
 -- ---- fields one after the other
 
-module _ {A : Type 0} where
+module _ (done rest : List ℕ) (at k x : ℕ) where
   -- one more is written behind those that fill the start
-  pub put_next : (done new rest : List A) (at : ℕ) {l : List A} → length done ≡ at → l ≡ done ++ rest → over_at at new l ≡ done ++ new ++ drop (length new) rest
-  unfolding over_at
-  put_next done new rest at e q =
-      ap₂ (λ x y. x ++ new ++ y)
-      (ap (take at) q ∙ take_at done rest at e)
-      (ap (drop (at + length new)) q ∙ sym (drop-drop (length new) at (done ++ rest)) ∙ ap (drop (length new)) (drop_at done rest at e))
+  pub put_next : {l new : List ℕ} → length done ≡ at → k ≤ length rest → l ≡ done ++ rest → new ≡ to_bits (length (mid_of at k l)) x →
+      put_mid at k l new ≡ done ++ to_bits k x ++ drop k rest
+  put_next {l} {new} e h q n =
+      let r : drop at l ≡ rest = ap (drop at) q ∙ drop_at done rest at e in
+      let f : new ≡ to_bits k x = n ∙ ap (λ i. to_bits i x) (ap (λ r. length (take k r)) r ∙ length-take-le k rest h) in
+      ap₂ ◌++◌ (ap (take at) q ∙ take_at done rest at e) (ap₂ (λ y z. y ++ drop k z) f r) ∙ sym (append_assoc done (to_bits k x) (drop k rest))
 
-  -- and they fill it
-  pub put_all : (done rest : List A) {l : List A} → l ≡ done ++ rest → length l ≤ length done → l ≡ done
-  put_all done rest {l} q h = sym (take_all (length done) l h) ∙ ap (take (length done)) q ∙ take-append_seam done rest
+-- and they fill it
+pub put_all : (done rest : List ℕ) {l : List ℕ} → l ≡ done ++ rest → length rest ≡ 0 → l ≡ done
+put_all done [] q h = q ∙ append-nil done
+put_all done (x ∷ rest) q h = absurd (omega arith)
 
--- a number above 4 is no status's
-pub status-none : (n : ℕ) → 4 < n → status_of n ≡ none
-unfolding status_of
-status-none zero h = absurd (omega arith)
-status-none (suc zero) h = absurd (omega arith)
-status-none (suc (suc zero)) h = absurd (omega arith)
-status-none (suc (suc (suc zero))) h = absurd (omega arith)
-status-none (suc (suc (suc (suc zero)))) h = absurd (omega arith)
-status-none (suc (suc (suc (suc (suc n))))) h = refl
+-- ---- the record of 32 bits
+
+-- a part of bits is of bits
+pub part_bits : (ds : List ℕ) (i w : ℕ) → All Bit ds → All Bit (take w (drop i ds))
+part_bits ds i w h = all_take Bit w (drop i ds) (all_drop Bit i ds h)
+
+module _ (ds : List ℕ) (n : ℕ) (e : n ≡ field_at ds 27 3) where
+  pub no-status : {u : UnknownStatus} → Err u ≡ status_given n → Err Unreadable ≡ record_read (read_record ds)
+  unfolding read_record record_with record_read
+  no-status q = rw (← e, status-none n q) refl
+
+  module _ (s : Status) (q : Ok s ≡ status_given n) where
+    pub not-spare : (field_at ds 30 2 ≡ 0 → ⊥) → Err Unreadable ≡ record_read (read_record ds)
+    unfolding read_record record_with record_read
+    not-spare f = rw (← e, status-some n q, ne_eqb (field_at ds 30 2) 0 f) refl
+
+    pub read : field_at ds 30 2 ≡ 0 → Ok (record { plant = field_at ds 0 6; carcass = field_at ds 6 20; side = field_at ds 26 1; status = s }) ≡ record_read (read_record ds)
+    unfolding read_record record_with record_read
+    read f = rw (← e, status-some n q, eq-eqb (field_at ds 30 2) 0 f) refl

@@ -6,4 +6,4 @@ mod fields;
 mod hook;
 
 pub use fields::are_bits;
-pub use hook::{not_read, put_record, record_fits, record_of, status_number};
+pub use hook::{put_record, record_fits, record_of};

@@ -1,5 +1,5 @@
 -- The decoding calls' answers have the numbers of document 01's table, in its order: by cases on loading and on the tests. Assumes nothing.
-use mathlib.Core.Path.{◌≡◌, refl, ap, ◌∙◌}
+use mathlib.Core.Path.{◌≡◌, refl, ◌∙◌}
 use mathlib.Core.Bool.{Bool, true, false, ◌&&◌}
 use mathlib.Core.List.{[], ◌∷◌}
 use mathlib.Core.Option.{Option, none, some}
@@ -11,7 +11,7 @@ use Rattle.codebook.specs.Loading.{load, book_shape}
 use Rattle.settings.specs.Settings.{settings_ok}
 use Rattle.codec.specs.declared.HookRecord.{HookRecord}
 use Rattle.codec.specs.Record.{read_record}
-use Rattle.codec.specs.Calls.{not_read, record_read}
+use Rattle.codec.specs.Calls.{record_read}
 use Rattle.codec.proofs.Numbers.{by-book, read_number_lem}
 use Rattle.queue.specs.Queue.{Final}
 use Rattle.machine.specs.declared.Reads.{Reads}
@@ -33,8 +33,8 @@ barred-number f e true false l b v g = e Mismatch
 barred-number f e false h l b v g = e BadSetting
 
 -- 11 where there is no record
-read-outcome : (o : Option HookRecord) → outcome_number (outcome_of (unless (is_read o) Unreadable none)) ≡ outcome_number (record_read o).outcome
-unfolding outcome_of unless is_read record_read not_read
+read-outcome : (o : Option HookRecord) → outcome_number (outcome_of (unless (is_read o) Unreadable none)) ≡ outcome_number (record_read o)
+unfolding outcome_of unless is_read record_read
 read-outcome none = refl
 read-outcome (some h) = refl
 

@@ -1,6 +1,7 @@
 -- What a decoding call answers, and what it leaves in every lent buffer: document 01, "Refusal table" and "The marker's plain machine". One definition serves every call: a
 -- manner says how one differs from another, and the run is an argument, so that the plain machine's and the reader's go into the same definition. Assumes nothing.
-use Rattle.std.specs.Prelude.{◌≡◌, Bool, true, false, cond, ◌&&◌, List, [], ◌∷◌, ◌++◌, map, ℕ, ◌+◌, ◌*◌, length, drop, replicate, ℤ, pos, nat_abs, leb, eqb}
+use Rattle.std.specs.List.{list_all}
+use Rattle.std.specs.Prelude.{◌≡◌, Bool, true, false, cond, ◌&&◌, List, [], ◌∷◌, ◌++◌, map, ℕ, ◌+◌, ◌*◌, length, drop, replicate, ℤ, pos, nat_abs, leb, eqb, Option as Beside, Some, None, Result, Ok, Err, is_ok}
 use Rattle.std.proofs.Math.Option.{Option, none, some}
 use Rattle.std.specs.Borrow.{MutBor}
 use denote.Triple.Both.{Both}
@@ -9,8 +10,6 @@ use Rattle.polar.specs.Transform.{transform}
 use Rattle.polar.specs.Value.{R}
 use Rattle.codebook.specs.declared.Refusal.{Refusal}
 use Rattle.codebook.specs.declared.Refusal.TheVariants.{Mismatch, BadSetting, BadValue, AboveLimit, Unreadable}
-use Rattle.codebook.specs.declared.Outcome.{Outcome}
-use Rattle.codebook.specs.declared.Outcome.TheVariants.{Done, Refused}
 use Rattle.codebook.specs.declared.Shape.{Shape}
 use Rattle.codebook.specs.Refusals.{unless}
 use Rattle.codebook.specs.Book.{Book}
@@ -22,8 +21,6 @@ use Rattle.codec.specs.Code.{free_bits}
 use Rattle.codec.specs.Record.{no_record, read_record}
 use Rattle.machine.specs.declared.Reads.{Reads}
 use Rattle.machine.specs.declared.Reads.TheVariants.{Data, Record}
-use Rattle.machine.specs.declared.Beside.{Beside}
-use Rattle.machine.specs.declared.Beside.TheVariants.{Absent, Entries}
 use Rattle.machine.specs.declared.Manner.{Manner}
 use Rattle.machine.specs.declared.Lengths.{Lengths}
 use Rattle.machine.specs.declared.Output.{Output}
@@ -150,13 +147,13 @@ lengths_ok x s l =
     && leb (walk_needed x s) l.scores
 
 -- a slice beside, if there is one, has at least, or exactly, so many entries
-unfoldable pub at_least : ℕ → Beside → Bool
-at_least n Absent = true
-at_least n (Entries size) = leb n size
+unfoldable pub at_least : ℕ → Beside ℕ → Bool
+at_least n None = true
+at_least n (Some size) = leb n size
 
-unfoldable pub exactly : ℕ → Beside → Bool
-exactly n Absent = true
-exactly n (Entries size) = eqb size n
+unfoldable pub exactly : ℕ → Beside ℕ → Bool
+exactly n None = true
+exactly n (Some size) = eqb size n
 
 -- how many entries counts and record have as slices
 abbrev pub counts_size : ℕ
@@ -176,8 +173,7 @@ holds Record x = eqb x.k 32
 
 -- every value lies in -2,047 to 2,047
 unfoldable pub values_ok : List ℤ → Bool
-values_ok [] = true
-values_ok (y ∷ ys) = leb (nat_abs y) 2047 && values_ok ys
+values_ok = list_all (λ y. leb (nat_abs y) 2047)
 
 -- the tests of a call whose book loads, in document 01's order: 8, 7, 9
 unfoldable pub tests_before : Manner → Shape → Settings → Lengths → List ℤ → List Test
@@ -250,14 +246,10 @@ verdict r s end = first_failed (verdicts r s end)
 
 -- ---- what is handed out
 
--- the outcome by what was refused, and whether there is none
-unfoldable pub outcome_of : Option Refusal → Outcome
-outcome_of none = Done
-outcome_of (some r) = Refused r
-
-unfoldable pub is_done : Outcome → Bool
-is_done Done = true
-is_done (Refused r) = false
+-- the outcome by what was refused
+unfoldable pub outcome_of : Option Refusal → Result (Unit {0}) Refusal
+outcome_of none = Ok tt
+outcome_of (some r) = Err r
 
 -- a record, or zeros, passed
 unfoldable pub record_or : Option HookRecord → HookRecord
@@ -311,7 +303,7 @@ pub record Called (A : Type 0) : Type 0 where
 
 -- a refusal with 1 to 9 gives counts of 0, a record of zeros, passed, and leaves every buffer
 unfoldable pub refused_as : Refusal → HookDecoded
-refused_as r = record { outcome = Refused r; counts = no_counts; hook = no_record }
+refused_as r = record { outcome = Err r; counts = no_counts; hook = no_record }
 
 unfoldable pub refused_call : Refusal → Lent → Called HookDecoded
 refused_call r l = record { answer = refused_as r; lent = l; steps = [] }
@@ -323,7 +315,7 @@ ran_call r x s l run =
     let v = verdict r s run.end in
     record {
       answer = record { outcome = outcome_of v; counts = counts_of run.steps f; hook = hook_of r v f };
-      lent = after_run x s l run.steps f (is_done (outcome_of v));
+      lent = after_run x s l run.steps f (is_ok (outcome_of v));
       steps = run.steps;
     }
 
@@ -350,10 +342,10 @@ call_of k c l = call_by machine_run k c l
 
 -- the plain call and the hook call, with nothing lent beside
 abbrev pub plain : Manner
-plain = record { reads = Data; steps = Absent; counts = Absent; hook = Absent }
+plain = record { reads = Data; steps = None; counts = None; hook = None }
 
 abbrev pub hooked : Manner
-hooked = record { reads = Record; steps = Absent; counts = Absent; hook = Absent }
+hooked = record { reads = Record; steps = None; counts = None; hook = None }
 
 -- an answer without its record, and with the record of a call that reads none
 abbrev pub bare : HookDecoded → Decoded

@@ -1,16 +1,16 @@
 -- The kinds of rows of the marked table, and what each claims. Assumes nothing.
-use Rattle.std.specs.Prelude.{◌≡◌, List, [], ◌∷◌, ℕ, zero, suc, length, ℤ}
+use Rattle.std.specs.Prelude.{◌≡◌, Bool, List, [], ◌∷◌, ℕ, zero, suc, length, ℤ, Result, Ok, Err}
 use Rattle.std.proofs.Math.Option.{Option, none, some}
 use Rattle.polar.specs.Transform.{transform}
 use Rattle.polar.specs.Soft.{Q, P}
+use Rattle.codebook.specs.declared.Refusal.{Refusal}
 use Rattle.codebook.specs.declared.Shape.{Shape}
-use Rattle.codebook.specs.Refusals.{outcome_number}
+use Rattle.codebook.specs.Refusals.{refusal_number, outcome_number}
 use Rattle.codebook.specs.Book.{Book}
 use Rattle.codebook.specs.Loading.{Load, refused, loaded, load, shape_of}
 use Rattle.codec.specs.declared.HookRecord.{HookRecord}
-use Rattle.codec.specs.declared.Tested.{Tested}
 use Rattle.codec.specs.Record.{record_bits, read_record}
-use Rattle.codec.specs.Calls.{encode_call, test_call, read_data_call, make_record_call, read_record_call}
+use Rattle.codec.specs.Calls.{encode_call, test_call, read_data_call, make_record_call, read_record_call, hook_read}
 use Rattle.machine.specs.declared.Manner.{Manner}
 use Rattle.machine.specs.declared.Counts.{Counts}
 use Rattle.machine.specs.declared.Decoded.{Decoded}
@@ -24,8 +24,9 @@ use Rattle.machine.specs.Calls.{Input, Lent, Called, call_of, plain_call, hook_c
 unfoldable pub shape : ℕ → ℕ → ℕ → ℕ → List ℕ
 shape outcome n k blocks = outcome ∷ n ∷ k ∷ blocks ∷ []
 
-unfoldable pub shape_as : Shape → List ℕ
-shape_as s = shape (outcome_number s.outcome) s.n s.k s.blocks
+unfoldable pub shape_as : Result Shape Refusal → List ℕ
+shape_as (Ok s) = shape 0 s.n s.k s.blocks
+shape_as (Err r) = shape (refusal_number r) 0 0 0
 
 -- the numbers of the first n words of block 0, in their order
 unfoldable pub words_from : ℕ → Book → List ℤ → Option Ranked → List ℕ
@@ -75,7 +76,7 @@ pub data Row : Type 0 where
   ranks : List ℕ → List ℤ → List ℕ → Row
   -- encode, test and read data, as calls
   encodes : List ℕ → List ℕ → List ℕ → ℕ → List ℕ → Row
-  tests : List ℕ → List ℕ → Tested → Row
+  tests : List ℕ → List ℕ → Result Bool Refusal → Row
   reads_data : List ℕ → List ℕ → List ℕ → ℕ → List ℕ → Row
   -- records, by themselves and as calls
   makes : HookRecord → List ℕ → Row
@@ -105,7 +106,7 @@ Holds (reads_data book c ds r after) = (outcome_number (read_data_call book c ds
 Holds (makes h ds) = record_bits h ≡ ds
 Holds (reads ds h) = read_record ds ≡ h
 Holds (makes_in book h ds r after) = (outcome_number (make_record_call book h ds).outcome ≡ r) × ((make_record_call book h ds).buffer ≡ after)
-Holds (reads_in book ds r h) = (outcome_number (read_record_call book ds).outcome ≡ r) × ((read_record_call book ds).hook ≡ h)
+Holds (reads_in book ds r h) = (outcome_number (read_record_call book ds) ≡ r) × (hook_read (read_record_call book ds) ≡ h)
 Holds (walks c steps) = steps_of (load c.book) c.settings.visits c.settings.paths c.values ≡ steps
 Holds (decodes c l s) = seen (plain_call c l) ≡ s
 Holds (refuses c l r) = outcome_number (plain_call c l).answer.outcome ≡ r

@@ -1,17 +1,14 @@
 -- The marked table: document 01's M1 to M11 and "Also run", and rows that pin what these leave open. proofs/Table.antt computes each row.
 -- Assumes nothing.
-use Rattle.std.specs.Prelude.{cond, List, [], ◌∷◌, ◌++◌, map, ℕ, zero, suc, drop, replicate, ℤ, pos, neg_ℤ, eqb}
+use Rattle.std.specs.Prelude.{true, false, cond, List, [], ◌∷◌, ◌++◌, map, ℕ, zero, suc, drop, replicate, ℤ, pos, neg_ℤ, eqb, Option as Beside, Some, None, Ok, Err}
 use Rattle.std.proofs.Math.Option.{none, some}
 use Rattle.polar.specs.Bits.{to_bits}
 use Rattle.codebook.specs.declared.Refusal.TheVariants.{Mismatch, BadValue}
 use Rattle.codec.specs.declared.Status.{Status}
 use Rattle.codec.specs.declared.Status.TheVariants.{Passed, HeldForLaboratory, Condemned}
 use Rattle.codec.specs.declared.HookRecord.{HookRecord}
-use Rattle.codec.specs.declared.Tested.TheVariants.{InCode, NotInCode, Refused}
 use Rattle.machine.specs.declared.Reads.{Reads}
 use Rattle.machine.specs.declared.Reads.TheVariants.{Data, Record}
-use Rattle.machine.specs.declared.Beside.{Beside}
-use Rattle.machine.specs.declared.Beside.TheVariants.{Absent, Entries}
 use Rattle.machine.specs.declared.Manner.{Manner}
 use Rattle.machine.specs.declared.Counts.{Counts}
 use Rattle.queue.specs.Queue.{Step}
@@ -404,11 +401,11 @@ codec_rows =
     ∷ encodes tied_book (1 ∷ 2 ∷ []) (replicate 4 7) 9 (replicate 4 7)
     ∷ encodes tied_book (2 ∷ []) (replicate 4 7) 7 (replicate 4 7)
     ∷ encodes [] (2 ∷ []) [] 1 []
-    ∷ tests tied_book (to_bits 4 0b1001) InCode
-    ∷ tests tied_book (to_bits 4 0b1000) NotInCode
-    ∷ tests tied_book (to_bits 4 0b0011) NotInCode
-    ∷ tests tied_book (to_bits 3 0b100) (Refused Mismatch)
-    ∷ tests tied_book (2 ∷ 0 ∷ 0 ∷ 0 ∷ []) (Refused BadValue)
+    ∷ tests tied_book (to_bits 4 0b1001) (Ok true)
+    ∷ tests tied_book (to_bits 4 0b1000) (Ok false)
+    ∷ tests tied_book (to_bits 4 0b0011) (Ok false)
+    ∷ tests tied_book (to_bits 3 0b100) (Err Mismatch)
+    ∷ tests tied_book (2 ∷ 0 ∷ 0 ∷ 0 ∷ []) (Err BadValue)
     ∷ reads_data tied_book (to_bits 4 0b1001) (replicate 2 7) 0 (to_bits 2 0b11)
     ∷ reads_data tied_book (to_bits 4 0b1000) (replicate 2 7) 0 (to_bits 2 0b00)
     ∷ reads_data tied_book (to_bits 4 0b1001) (replicate 3 7) 7 (replicate 3 7)
@@ -481,23 +478,23 @@ hook_rows =
     ∷ []
 
 -- calls in other manners: step records too few, as many as asked, more; counts and record at a wrong size; 8 before that 7, and that 7 before 9
-unfoldable pub manner : Reads → Beside → Beside → Beside → Manner
+unfoldable pub manner : Reads → Beside ℕ → Beside ℕ → Beside ℕ → Manner
 manner r s n h = record { reads = r; steps = s; counts = n; hook = h }
 
 unfoldable pub manner_rows : List Row
 manner_rows =
-    answers (manner Data (Entries 12) Absent Absent) (hook_run 4 8 100) hook_room 7
-    ∷ answers (manner Data (Entries 13) Absent Absent) (hook_run 4 8 100) hook_room 0
-    ∷ answers (manner Data (Entries 14) Absent Absent) (hook_run 4 8 100) hook_room 0
-    ∷ answers (manner Data (Entries 12) Absent Absent) (hook_run 4 1 100) hook_room 8
-    ∷ answers (manner Data (Entries 12) Absent Absent) (asks hook_book 4 8 0 (replicate 15 (pos 2047) ++ pos 2048 ∷ [])) hook_room 7
-    ∷ answers (manner Data (Entries 13) Absent Absent) (asks hook_book 4 8 0 (replicate 15 (pos 2047) ++ pos 2048 ∷ [])) hook_room 9
-    ∷ answers (manner Data Absent (Entries 3) Absent) (hook_run 4 8 100) hook_room 7
-    ∷ answers (manner Data Absent (Entries 4) Absent) (hook_run 4 8 100) hook_room 0
-    ∷ answers (manner Data Absent (Entries 5) Absent) (hook_run 4 8 100) hook_room 7
-    ∷ answers (manner Record Absent (Entries 4) (Entries 3)) (asks record_book 1 4 0 (plainly held_word)) record_room 7
-    ∷ answers (manner Record Absent (Entries 4) (Entries 4)) (asks record_book 1 4 0 (plainly held_word)) record_room 0
-    ∷ answers (manner Record Absent (Entries 4) (Entries 5)) (asks record_book 1 4 0 (plainly held_word)) record_room 7
+    answers (manner Data (Some 12) None None) (hook_run 4 8 100) hook_room 7
+    ∷ answers (manner Data (Some 13) None None) (hook_run 4 8 100) hook_room 0
+    ∷ answers (manner Data (Some 14) None None) (hook_run 4 8 100) hook_room 0
+    ∷ answers (manner Data (Some 12) None None) (hook_run 4 1 100) hook_room 8
+    ∷ answers (manner Data (Some 12) None None) (asks hook_book 4 8 0 (replicate 15 (pos 2047) ++ pos 2048 ∷ [])) hook_room 7
+    ∷ answers (manner Data (Some 13) None None) (asks hook_book 4 8 0 (replicate 15 (pos 2047) ++ pos 2048 ∷ [])) hook_room 9
+    ∷ answers (manner Data None (Some 3) None) (hook_run 4 8 100) hook_room 7
+    ∷ answers (manner Data None (Some 4) None) (hook_run 4 8 100) hook_room 0
+    ∷ answers (manner Data None (Some 5) None) (hook_run 4 8 100) hook_room 7
+    ∷ answers (manner Record None (Some 4) (Some 3)) (asks record_book 1 4 0 (plainly held_word)) record_room 7
+    ∷ answers (manner Record None (Some 4) (Some 4)) (asks record_book 1 4 0 (plainly held_word)) record_room 0
+    ∷ answers (manner Record None (Some 4) (Some 5)) (asks record_book 1 4 0 (plainly held_word)) record_room 7
     ∷ []
 
 -- the whole table

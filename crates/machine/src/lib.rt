@@ -12,20 +12,14 @@ pub enum Reads {
     Record,
 }
 
-// A slice beside the buffers that every decoding call is lent: none, or one of so many entries.
-#[derive(Clone, Copy)]
-pub enum Beside {
-    Absent,
-    Entries(usize),
-}
-
-// The manner of a decoding call: what it reads, and what it is lent beside word, data, workspace and walk: step records, and counts and record as slices.
+// The manner of a decoding call: what it reads, and what it is lent beside word, data, workspace and walk: step records, and counts and record as slices; of
+// each its length, if it is lent.
 #[derive(Clone, Copy)]
 pub struct Manner {
     pub reads: Reads,
-    pub steps: Beside,
-    pub counts: Beside,
-    pub hook: Beside,
+    pub steps: Option<usize>,
+    pub counts: Option<usize>,
+    pub hook: Option<usize>,
 }
 
 // The lengths of what is given and lent: values, word and data; the workspace's numbers and bytes; the walk's paths, blocks and scores.
@@ -63,8 +57,8 @@ pub struct Walk<'a> {
     pub score: &'a mut [i32],
 }
 
-// The counts of a run: extractions, paths crowded out, paths outrun, and the discrepancy of the final word. Zeros where no run was made.
-#[derive(Clone, Copy)]
+// The counts of a run: extractions, paths crowded out, paths outrun, and the discrepancy of the final word. Zeros, the default, where no run was made.
+#[derive(Clone, Copy, Default)]
 pub struct Counts {
     pub extractions: u32,
     pub crowded: u32,

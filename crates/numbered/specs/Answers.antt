@@ -1,15 +1,17 @@
 -- What the calls but for decoding answer C, and what their lent slices then hold: the numbers of document 01's refusal table, 0 for success. A
 -- shape and a record are written with every answer, zeros on a refusal; but one that is lent at another length is refused as 7, where 7 stands
 -- in the table's order, and keeps what it held. Assumes nothing.
-use Rattle.std.specs.Prelude.{cond, List, [], ◌∷◌, ℕ, length, eqb}
+use Rattle.std.specs.Prelude.{cond, List, [], ◌∷◌, ℕ, length, eqb, Result, Ok, Err}
 use Rattle.std.proofs.Math.Option.{Option, none, some}
+use Rattle.codebook.specs.declared.Refusal.{Refusal}
 use Rattle.codebook.specs.declared.Refusal.TheVariants.{Mismatch, BadValue}
+use Rattle.codebook.specs.declared.Shape.{Shape}
 use Rattle.codebook.specs.Refusals.{outcome_number}
 use Rattle.codebook.specs.Loading.{Load, refused, loaded, load, shape_of}
 use Rattle.codec.specs.declared.Status.{Status}
 use Rattle.codec.specs.declared.Status.TheVariants.{Passed}
 use Rattle.codec.specs.declared.HookRecord.{HookRecord}
-use Rattle.codec.specs.Calls.{Wrote, kept, holds_record, make_record_call, read_record_call}
+use Rattle.codec.specs.Calls.{Wrote, kept, holds_record, make_record_call, read_record_call, hook_read}
 use Rattle.answers.specs.Slices.{record_slice}
 use Rattle.answers.specs.Numbers.{length_mismatch}
 
@@ -18,12 +20,17 @@ pub record Answer : Type 0 where
   pub number : ℕ
   pub slice : List ℕ
 
--- load: the shape is n, k and V
+-- n, k and V of a loaded book; zeros where it is refused
+unfoldable pub shape_slice : Result Shape Refusal → List ℕ
+shape_slice (Ok s) = s.n ∷ s.k ∷ s.blocks ∷ []
+shape_slice (Err r) = 0 ∷ 0 ∷ 0 ∷ []
+
+-- load
 unfoldable pub load_answer : List ℕ → List ℕ → Answer
 load_answer book shape =
     let s = shape_of (load book) in
-    let written : Answer = record { number = outcome_number s.outcome; slice = s.n ∷ s.k ∷ s.blocks ∷ [] } in
-    let left : Answer = record { number = length_mismatch s.outcome; slice = shape } in
+    let written : Answer = record { number = outcome_number s; slice = shape_slice s } in
+    let left : Answer = record { number = length_mismatch s; slice = shape } in
     cond (eqb (length shape) 3) written left
 
 -- make record, where the status is above 4: a field too large for its bits
@@ -46,6 +53,6 @@ record_from plant carcass side (some s) = record { plant = plant; carcass = carc
 unfoldable pub read_record_answer : List ℕ → List ℕ → List ℕ → Answer
 read_record_answer book ds hook =
     let x = read_record_call book ds in
-    let written : Answer = record { number = outcome_number x.outcome; slice = record_slice x.hook } in
-    let left : Answer = record { number = length_mismatch (shape_of (load book)).outcome; slice = hook } in
+    let written : Answer = record { number = outcome_number x; slice = record_slice (hook_read x) } in
+    let left : Answer = record { number = length_mismatch (shape_of (load book)); slice = hook } in
     cond (eqb (length hook) 4) written left

@@ -15,20 +15,13 @@ use loading::load;
 fn record_from(plant: u32, carcass: u32, side: u32, status: u32) -> HookRecord
     ensures { result ≡ record_from plant carcass side (status_of status) }
 {
-    let status = match status {
-        0 => Status::Passed,
-        1 => Status::HeldForLaboratory,
-        2 => Status::HeldForVeterinarian,
-        3 => Status::HeldForOwner,
-        4 => Status::Condemned,
-        _ => {
-            return HookRecord {
-                plant: 64,
-                carcass,
-                side,
-                status: Status::Passed,
-            };
-        }
+    let Ok(status) = Status::try_from(status) else {
+        return HookRecord {
+            plant: 64,
+            carcass,
+            side,
+            status: Status::Passed,
+        };
     };
     HookRecord {
         plant,
@@ -54,19 +47,17 @@ pub fn make_record_number(
 }
 
 // Reads the record of data bits.
-#[tactic(auto, using(crate::proofs::Answered::record_early))]
 pub fn read_record_answer(book: &[u8], bits: &[u8], hook: &mut [u32]) -> u32
     ensures { let a = read_record_answer book.now bits.now hook.old in
         (result ≡ a.number) × (hook.new ≡ a.slice) }
 {
     if hook.len() != 4 {
-        let s = load(book);
-        let fault = s.outcome;
-        return length_mismatch(fault);
+        return length_mismatch(load(book));
     }
-    let x = read_record(book, bits);
-    let h = x.hook;
+    let (number, h) = match read_record(book, bits) {
+        Ok(h) => (0, h),
+        Err(r) => (u32::from(r), HookRecord::default()),
+    };
     put_hook(hook, h);
-    let outcome = x.outcome;
-    outcome_number(outcome)
+    number
 }

@@ -16,13 +16,6 @@ pub struct Settings {
     pub limit: u32,
 }
 
-// Settings, or why there are none.
-#[derive(Clone, Copy)]
-pub enum Checked {
-    Good(Settings),
-    Bad(Refusal),
-}
-
 impl Settings {
     pub const LEAST_VISITS: u32 = 1;
 
@@ -37,18 +30,18 @@ impl Settings {
     pub const MOST_LIMIT: u32 = 1048576;
 
     // These settings, if each is in its range.
-    pub fn checked(s: Settings) -> Checked
-        ensures { result ≡ checked_as s }
+    pub fn checked(self) -> Result<Settings, Refusal>
+        ensures { result ≡ checked_as self }
     {
-        if s.visits < Settings::LEAST_VISITS || Settings::MOST_VISITS < s.visits {
-            return Checked::Bad(Refusal::BadSetting);
+        if self.visits < Settings::LEAST_VISITS || Settings::MOST_VISITS < self.visits {
+            return Err(Refusal::BadSetting);
         }
-        if s.paths < Settings::LEAST_PATHS || Settings::MOST_PATHS < s.paths {
-            return Checked::Bad(Refusal::BadSetting);
+        if self.paths < Settings::LEAST_PATHS || Settings::MOST_PATHS < self.paths {
+            return Err(Refusal::BadSetting);
         }
-        if s.limit < Settings::LEAST_LIMIT || Settings::MOST_LIMIT < s.limit {
-            return Checked::Bad(Refusal::BadSetting);
+        if self.limit < Settings::LEAST_LIMIT || Settings::MOST_LIMIT < self.limit {
+            return Err(Refusal::BadSetting);
         }
-        Checked::Good(s)
+        Ok(self)
     }
 }

@@ -13,12 +13,12 @@ use Rattle.coding.proofs.in_code.Goals.{After-transform}
 
 -- u is what the word turns back into
 back : (c : After-transform) → c.transform.new.c ≡ transform c.args.m c.args.word.now
-back c = c.transform.ensures ∙ ap (transform c.args.m) c.copy.ensures
+back c = c.transform.ensures ∙ ap (transform c.args.m) c.copy_from_slice.ensures.after
 
 pub transform-requires : goal.transform-requires
 transform-requires c =
     let r = c.requires.word_len in
-    subst (λ l. (length l ≡ 2 ^ c.args.m) × All Bit l) (sym c.copy.ensures) (r.1, r.2)
+    subst (λ l. (length l ≡ 2 ^ c.args.m) × All Bit l) (sym c.copy_from_slice.ensures.after) (r.1, r.2)
 
 pub obeys_all-requires : goal.obeys_all-requires
 obeys_all-requires c =
@@ -28,7 +28,7 @@ obeys_all-requires c =
     let w = a.word.now in
     let b = back (goal.at.obeys_all-requires c).After-transform in
     record {
-      some = subst (λ l. Some (λ ks. Tabled ks a.kinds.now a.terms.now × (length ks ≡ length l))) (sym b) (s.0, (s.1.0, s.1.1 ∙ r.1 ∙ sym (transform-length a.m w r.1)));
+      some = subst (λ l. Some (λ ks. Tabled ks a.tables.now.kinds a.tables.now.terms × (length ks ≡ length l))) (sym b) (s.0, (s.1.0, s.1.1 ∙ r.1 ∙ sym (transform-length a.m w r.1)));
       all = subst (All Bit) (sym b) (transform-bits a.m w r.2);
     }
 

@@ -1,88 +1,76 @@
--- `coding::read_data` meets its contract: by loading's outcome and the tests. Assumes nothing.
-use mathlib.Core.Path.{◌≡◌, sym, ap, ap₂, ◌∙◌}
-use mathlib.Core.Bool.{◌&&◌}
-use Prim.Native.Nat.{◌^◌, ◌≤◌}
-use native.Mathlib.Omega.{arith}
+-- `coding::read_data` meets its contract: by loading's answer and the tests. Assumes nothing.
+use mathlib.Core.Path.{◌≡◌, sym, ap, ◌∙◌}
+use Prim.Native.Nat.{◌^◌}
 use lib.ListN.{length}
-use lib.Dec.{eqb}
+use Rattle.std.specs.Prelude.{Ok}
 use Rattle.laws.specs.Lists.{All}
 use Rattle.polar.specs.Bits.{Bit}
 use Rattle.polar.specs.Transform.{transform}
-use Rattle.codebook.specs.declared.Outcome.TheVariants.{Done}
 use Rattle.codebook.specs.Book.{free_count}
 use Rattle.codec.specs.Code.{free_bits, read_data}
 use Rattle.codec.specs.Tabled.{Tabled}
 use Rattle.codec.proofs.Numbers.{read-data-number}
-use Rattle.coding.proofs.Told.{Known, known_small, shape-refused, shape-known, zeros-part, both-fit, are-bits, told, read-refused, read-mismatch, read-bad, read-good}
+use Rattle.coding.proofs.Told.{Known, known_small, shape-refused, shape-known, load-tabled, zeros-part, are-bits, handed, told, read-refused, read-mismatch, read-bad, read-good}
 use Rattle.coding.proofs.read_data.Goals as goal
-use Rattle.coding.proofs.read_data.Goals.{In_default, After-both_fit, Else-not-are_bits}
+use Rattle.coding.proofs.read_data.Goals.{In_ok-x, Else-not-are_bits, then-word-n-via-then-word-n, then-word-n-via-else-word-n+then-bits-x}
 
--- the book that is loaded, and its test of the lengths
-known : (c : In_default) → let x = c.load_kinds-x.result in Known c.args.book.now x.m x.n x.k
-known c = shape-known c.args.book.now c.load_kinds-x.result c.load_kinds-x.ensures.value c.in_default.is
-
-fits : (c : After-both_fit) → (K : let x = c.load_kinds-x.result in Known c.args.book.now x.m x.n x.k) →
-    c.both_fit.result ≡ (eqb (length c.args.word.now) (2 ^ K.is.m) && eqb (length c.args.bits.now) (free_count K.is.kinds))
-fits c K = c.both_fit.ensures ∙ ap₂ (λ n k. eqb (length c.args.word.now) n && eqb (length c.args.bits.now) k) K.size K.free
+-- the book that is loaded
+known : (c : In_ok-x) → Known c.args.book.now c.in_ok-x.x.m c.in_ok-x.x.n c.in_ok-x.x.k
+known c = shape-known c.args.book.now c.in_ok-x.x c.in_ok-x.ensures.answer
 
 -- where the tests are passed: the tables hold the book's kinds, the lengths are right, and the word is of bits
-passed : (c : Else-not-are_bits) → (K : let x = c.load_kinds-x.result in Known c.args.book.now x.m x.n x.k) →
-    c.both_fit.result ≡ (eqb (length c.args.word.now) (2 ^ K.is.m) && eqb (length c.args.bits.now) (free_count K.is.kinds)) →
-    Tabled K.is.kinds c.load_kinds-x.new.kinds c.load_kinds-x.new.terms × (length K.is.kinds ≡ length c.args.word.now) × (free_count K.is.kinds ≡ length c.args.bits.now) × All Bit c.args.word.now
-passed c K t =
-    let f = both-fit _ _ _ _ (sym t ∙ c.if-not-both_fit.false) in
-    (c.load_kinds-x.ensures.tabled K.is K.loads, K.valid.indices ∙ sym f.0, sym f.1, are-bits _ (sym c.are_bits.ensures ∙ c.if-not-are_bits.false))
+passed : (c : Else-not-are_bits) → (K : Known c.args.book.now c.in_ok-x.x.m c.in_ok-x.x.n c.in_ok-x.x.k) →
+    Tabled K.is.kinds c.load_tables.new.tables.kinds c.load_tables.new.tables.terms × (length c.args.word.now ≡ 2 ^ K.is.m) × (length c.args.bits.now ≡ free_count K.is.kinds) × All Bit c.args.word.now
+passed c K = (
+  load-tabled c.args.book.now K.is _ _ K.loads c.in_ok-x.ensures.filled,
+  c.if-word-n.false ∙ K.size,
+  c.if-bits-x.false ∙ K.free,
+  are-bits _ (sym c.are_bits.ensures ∙ c.if-not-are_bits.false),
+)
 
-inside : (c : Else-not-are_bits) → (K : let x = c.load_kinds-x.result in Known c.args.book.now x.m x.n x.k) →
-    length K.is.kinds ≡ length c.args.word.now → length c.args.word.now ≤ 512
-inside c K e = omega (arith, e, K.valid.indices, K.size, known_small K)
-
-pub returns-in-Refused : goal.returns-in-Refused
-returns-in-Refused c =
+pub returns-in_err-x : goal.returns-in_err-x
+returns-in_err-x c =
     let a = c.args in
-    let o = c.in-Refused in
-    let t = told _ a.bits.now (read-data-number a.book.now a.word.now a.bits.now)
-    (read-refused a.book.now a.bits.now a.word.now o.r (shape-refused a.book.now c.load_kinds-x.result o.r c.load_kinds-x.ensures.value o.is)) in
+    let r = c.in_err-x.field-0.0 in
+    let t = told c.from_residual.result a.bits.now (read-data-number a.book.now a.word.now a.bits.now)
+    (read-refused a.book.now a.bits.now a.word.now r (shape-refused a.book.now r c.in_err-x.ensures.answer)
+    ∙ ap (λ o. record { outcome = o; buffer = a.bits.now }) (sym (handed c.from_residual.result c.from_residual.ensures.1))) in
     record { fact = t.0; number = t.1 }
 
-pub returns-then-not-both_fit : goal.returns-then-not-both_fit
-returns-then-not-both_fit c =
+pub returns-then-word-n : goal.returns-then-word-n
+returns-then-word-n c =
     let a = c.args in
-    let x = goal.at.returns-then-not-both_fit c in
-    let K = known x.In_default in
+    let K = known (goal.at.returns-then-word-n c).In_ok-x in
     let t = told _ a.bits.now (read-data-number a.book.now a.word.now a.bits.now)
-    (read-mismatch a.book.now a.bits.now a.word.now K.is K.loads (fits x.After-both_fit K) c.if-not-both_fit.true) in
+    (read-mismatch a.book.now a.bits.now a.word.now K.is K.loads
+    (λ f. elim c.then-word-n.branch [
+      | then-word-n-via-then-word-n w ↦ w.if-word-n.true (f.0 ∙ sym K.size)
+      | then-word-n-via-else-word-n+then-bits-x w ↦ w.if-bits-x.true (f.1 ∙ sym K.free)
+    ])) in
     record { fact = t.0; number = t.1 }
 
 pub returns-then-not-are_bits : goal.returns-then-not-are_bits
 returns-then-not-are_bits c =
     let a = c.args in
-    let x = goal.at.returns-then-not-are_bits c in
-    let K = known x.In_default in
+    let K = known (goal.at.returns-then-not-are_bits c).In_ok-x in
     let t = told _ a.bits.now (read-data-number a.book.now a.word.now a.bits.now)
-    (read-bad a.book.now a.bits.now a.word.now K.is K.loads (fits x.After-both_fit K) c.if-not-both_fit.false (sym c.are_bits.ensures ∙ c.if-not-are_bits.true)) in
+    (read-bad a.book.now a.bits.now a.word.now K.is K.loads (c.if-bits-x.false ∙ K.free) (c.if-word-n.false ∙ K.size) (sym c.are_bits.ensures ∙ c.if-not-are_bits.true)) in
     record { fact = t.0; number = t.1 }
 
 pub slice_bounds-u-end : goal.slice_bounds-u-end
-slice_bounds-u-end c =
-    let x = goal.at.slice_bounds-u-end c in
-    let K = known x.In_default in
-    inside x.Else-not-are_bits K (passed x.Else-not-are_bits K (fits x.After-both_fit K)).1
+slice_bounds-u-end c = known_small (known (goal.at.slice_bounds-u-end c).In_ok-x)
 
 pub slice_bounds-data_of-end : goal.slice_bounds-data_of-end
-slice_bounds-data_of-end c =
-    let x = goal.at.slice_bounds-data_of-end c in
-    let K = known x.In_default in
-    zeros-part _ (inside x.Else-not-are_bits K (passed x.Else-not-are_bits K (fits x.After-both_fit K)).1)
+slice_bounds-data_of-end c = zeros-part _ (known_small (known (goal.at.slice_bounds-data_of-end c).In_ok-x))
 
 pub data_of-requires : goal.data_of-requires
 data_of-requires c =
     let x = goal.at.data_of-requires c in
-    let K = known x.In_default in
-    let z = passed x.Else-not-are_bits K (fits x.After-both_fit K) in
+    let K = known x.In_ok-x in
+    let z = passed x.Else-not-are_bits K in
     record {
-      some = (_, (z.0.coded, z.1, z.2));
-      word_len = (zeros-part _ (inside x.Else-not-are_bits K z.1), sym z.1 ∙ K.valid.indices ∙ ap (λ n. 2 ^ n) (sym K.height), z.3);
+      some = (_, (z.0.coded, K.valid.indices ∙ sym z.1, sym z.2));
+      word_len = (c.if-word-n.false ∙ zeros-part _ (known_small K), z.1 ∙ ap (λ n. 2 ^ n) (sym K.height), z.3);
     }
 
 pub returns : goal.returns
@@ -90,11 +78,10 @@ unfolding read_data
 returns c =
     let a = c.args in
     let x = goal.at.returns c in
-    let K = known x.In_default in
-    let q = fits x.After-both_fit K in
-    let z = passed x.Else-not-are_bits K q in
-    let e = c.data_of.ensures.bits_after _ z.0.coded z.1 z.2 ∙ ap (λ m. free_bits K.is.kinds (transform m a.word.now)) K.height in
-    let t = told Done c.data_of.new.bits (read-data-number a.book.now a.word.now a.bits.now)
-    (read-good a.book.now a.bits.now a.word.now K.is K.loads q c.if-not-both_fit.false (sym c.are_bits.ensures ∙ c.if-not-are_bits.false)
-    ∙ ap (λ v. record { outcome = Done; buffer = v }) (sym e)) in
+    let K = known x.In_ok-x in
+    let z = passed x.Else-not-are_bits K in
+    let e = c.data_of.ensures.bits_after _ z.0.coded (K.valid.indices ∙ sym z.1) (sym z.2) ∙ ap (λ m. free_bits K.is.kinds (transform m a.word.now)) K.height in
+    let t = told (Ok tt) c.data_of.new.bits (read-data-number a.book.now a.word.now a.bits.now)
+    (read-good a.book.now a.bits.now a.word.now K.is K.loads z.2 z.1 (sym c.are_bits.ensures ∙ c.if-not-are_bits.false)
+    ∙ ap (λ v. record { outcome = Ok tt; buffer = v }) (sym e)) in
     record { fact = t.0; number = t.1 }

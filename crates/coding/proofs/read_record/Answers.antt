@@ -1,68 +1,49 @@
--- `coding::read_record` meets its contract: by loading's outcome and the tests. Assumes nothing.
-use mathlib.Core.Path.{◌≡◌, sym, ap, ◌∙◌}
-use mathlib.Core.Bool.{◌&&◌}
-use lib.ListN.{length}
-use lib.Dec.{eqb}
-use Rattle.codebook.specs.Book.{free_count}
-use Rattle.coding.proofs.Told.{Known, shape-refused, shape-known, both-fit, are-bits, record-told, record-refused, record-mismatch, record-bad, record-good}
+-- `coding::read_record` meets its contract: by loading's answer and the tests. Assumes nothing.
+use mathlib.Core.Path.{sym, ◌∙◌}
+use Rattle.coding.proofs.Told.{Known, shape-refused, shape-known, are-bits, handed, record-told, record-refused, record-mismatch, record-bad, record-good}
 use Rattle.coding.proofs.read_record.Goals as goal
-use Rattle.coding.proofs.read_record.Goals.{In_default, After-both_fit, Else-not-both_fit}
+use Rattle.coding.proofs.read_record.Goals.{In_ok-x, then-x-ne32-via-then-x-ne32, then-x-ne32-via-else-x-ne32+then-bits-ne32}
 
--- the book that is loaded, and its test of the length
-known : (c : In_default) → let x = c.load-x.result in Known c.args.book.now x.m x.n x.k
-known c = shape-known c.args.book.now c.load-x.result c.load-x.ensures.value c.in_default.is
+-- the book that is loaded
+known : (c : In_ok-x) → Known c.args.book.now c.in_ok-x.x.m c.in_ok-x.x.n c.in_ok-x.x.k
+known c = shape-known c.args.book.now c.in_ok-x.x c.in_ok-x.ensures.value
 
-fits : (c : After-both_fit) → (K : let x = c.load-x.result in Known c.args.book.now x.m x.n x.k) →
-    let k = free_count K.is.kinds in c.both_fit.result ≡ (eqb k 32 && eqb (length c.args.bits.now) k)
-fits c K = c.both_fit.ensures ∙ ap (λ k. eqb k 32 && eqb (length c.args.bits.now) k) K.free
-
--- where the test is passed there are 32 bits
-holds : (c : Else-not-both_fit) → (K : let x = c.load-x.result in Known c.args.book.now x.m x.n x.k) →
-    (let k = free_count K.is.kinds in c.both_fit.result ≡ (eqb k 32 && eqb (length c.args.bits.now) k)) → length c.args.bits.now ≡ 32
-holds c K q =
-    let k = free_count K.is.kinds in
-    let f = both-fit k 32 _ k (sym q ∙ c.if-not-both_fit.false) in
-    f.1 ∙ f.0
-
-pub returns-in-Refused : goal.returns-in-Refused
-returns-in-Refused c =
+pub returns-in_err-x : goal.returns-in_err-x
+returns-in_err-x c =
     let a = c.args in
-    let o = c.in-Refused in
+    let r = c.in_err-x.field-0.0 in
     let t = record-told a.book.now a.bits.now
-    (c.not_read.ensures ∙ record-refused a.book.now a.bits.now o.r (shape-refused a.book.now c.load-x.result o.r c.load-x.ensures.value o.is)) in
+    (handed c.from_residual.result c.from_residual.ensures.1 ∙ record-refused a.book.now a.bits.now r (shape-refused a.book.now r c.in_err-x.ensures.value)) in
     record { value = t.0; number = t.1 }
 
-pub returns-then-not-both_fit : goal.returns-then-not-both_fit
-returns-then-not-both_fit c =
+pub returns-then-x-ne32 : goal.returns-then-x-ne32
+returns-then-x-ne32 c =
     let a = c.args in
-    let x = goal.at.returns-then-not-both_fit c in
-    let K = known x.In_default in
+    let K = known (goal.at.returns-then-x-ne32 c).In_ok-x in
     let t = record-told a.book.now a.bits.now
-    (c.not_read-then-not-both_fit.ensures ∙ record-mismatch a.book.now a.bits.now K.is K.loads (fits x.After-both_fit K) c.if-not-both_fit.true) in
+    (record-mismatch a.book.now a.bits.now K.is K.loads
+    (λ f. elim c.then-x-ne32.branch [
+      | then-x-ne32-via-then-x-ne32 w ↦ w.if-x-ne32.true (K.free ∙ f.0)
+      | then-x-ne32-via-else-x-ne32+then-bits-ne32 w ↦ w.if-bits-ne32.true f.1
+    ])) in
     record { value = t.0; number = t.1 }
 
 pub returns-then-not-are_bits : goal.returns-then-not-are_bits
 returns-then-not-are_bits c =
     let a = c.args in
-    let x = goal.at.returns-then-not-are_bits c in
-    let K = known x.In_default in
+    let K = known (goal.at.returns-then-not-are_bits c).In_ok-x in
     let t = record-told a.book.now a.bits.now
-    (c.not_read-then-not-are_bits.ensures
-    ∙ record-bad a.book.now a.bits.now K.is K.loads (fits x.After-both_fit K) c.if-not-both_fit.false (sym c.are_bits.ensures ∙ c.if-not-are_bits.true)) in
+    (record-bad a.book.now a.bits.now K.is K.loads (sym K.free ∙ c.if-x-ne32.false) c.if-bits-ne32.false (sym c.are_bits.ensures ∙ c.if-not-are_bits.true)) in
     record { value = t.0; number = t.1 }
 
 pub record_of-requires : goal.record_of-requires
-record_of-requires c =
-    let x = goal.at.record_of-requires c in
-    let K = known x.In_default in
-    (holds x.Else-not-both_fit K (fits x.After-both_fit K), are-bits _ (sym c.are_bits.ensures ∙ c.if-not-are_bits.false))
+record_of-requires c = (c.if-bits-ne32.false, are-bits _ (sym c.are_bits.ensures ∙ c.if-not-are_bits.false))
 
 pub returns : goal.returns
 returns c =
     let a = c.args in
-    let x = goal.at.returns c in
-    let K = known x.In_default in
+    let K = known (goal.at.returns c).In_ok-x in
     let t = record-told a.book.now a.bits.now
     (c.record_of.ensures
-    ∙ record-good a.book.now a.bits.now K.is K.loads (fits x.After-both_fit K) c.if-not-both_fit.false (sym c.are_bits.ensures ∙ c.if-not-are_bits.false)) in
+    ∙ record-good a.book.now a.bits.now K.is K.loads (sym K.free ∙ c.if-x-ne32.false) c.if-bits-ne32.false (sym c.are_bits.ensures ∙ c.if-not-are_bits.false)) in
     record { value = t.0; number = t.1 }

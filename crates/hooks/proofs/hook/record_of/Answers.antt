@@ -1,39 +1,35 @@
--- `hooks::hook::record_of` meets its contract: by the status's number. Assumes nothing.
-use mathlib.Core.Path.{◌≡◌, sym, ap, ◌∙◌}
-use mathlib.Core.List.{List}
-use Prim.Native.Nat.{ℕ}
-use native.Mathlib.Omega.{arith}
-use Rattle.codec.specs.Record.{field_at, status_of, record_with, read_record}
-use Rattle.codec.specs.Calls.{record_read}
-use Rattle.hooks.proofs.Parts.{status-none}
+-- `hooks::hook::record_of` meets its contract: by the status's number and the spare bits. Assumes nothing.
+use mathlib.Core.Path.{sym, ◌∙◌}
+use Rattle.codec.specs.Record.{field_at}
+use Rattle.hooks.proofs.Parts.{part_bits, no-status, not-spare, read}
 use Rattle.hooks.proofs.hook.record_of.Goals as goal
 
--- with this number, that status's record is read
-by-status : (bits : List ℕ) (m n : ℕ) → m ≡ field_at bits 27 3 → m ≡ n → record_read (record_with bits (status_of n)) ≡ record_read (read_record bits)
-unfolding read_record
-by-status bits m n f e = ap (λ k. record_read (record_with bits (status_of k))) (sym e ∙ f)
+pub field-requires-clause-bits : goal.field-requires-clause-bits
+field-requires-clause-bits c = part_bits c.args.bits.now 27 3 c.requires.1
 
-pub returns-in-0 : goal.returns-in-0
-unfolding read_record status_of
-returns-in-0 c = c.record_with.ensures ∙ by-status _ _ 0 c.field_at.ensures c.in-0.is
+pub field-requires-2-clause-bits : goal.field-requires-2-clause-bits
+field-requires-2-clause-bits c = part_bits c.args.bits.now 30 2 c.requires.1
 
-pub returns-in-1 : goal.returns-in-1
-unfolding read_record status_of
-returns-in-1 c = c.record_with-in-1.ensures ∙ by-status _ _ 1 c.field_at.ensures c.in-1.is
+pub field-requires-3-clause-bits : goal.field-requires-3-clause-bits
+field-requires-3-clause-bits c = part_bits c.args.bits.now 0 6 c.requires.1
 
-pub returns-in-2 : goal.returns-in-2
-unfolding read_record status_of
-returns-in-2 c = c.record_with-in-2.ensures ∙ by-status _ _ 2 c.field_at.ensures c.in-2.is
+pub field-requires-4-clause-bits : goal.field-requires-4-clause-bits
+field-requires-4-clause-bits c = part_bits c.args.bits.now 6 20 c.requires.1
 
-pub returns-in-3 : goal.returns-in-3
-unfolding read_record status_of
-returns-in-3 c = c.record_with-in-3.ensures ∙ by-status _ _ 3 c.field_at.ensures c.in-3.is
-
-pub returns-in-4 : goal.returns-in-4
-unfolding read_record status_of
-returns-in-4 c = c.record_with-in-4.ensures ∙ by-status _ _ 4 c.field_at.ensures c.in-4.is
+pub field-requires-5-clause-bits : goal.field-requires-5-clause-bits
+field-requires-5-clause-bits c = part_bits c.args.bits.now 26 1 c.requires.1
 
 pub returns-in_default : goal.returns-in_default
-unfolding read_record record_with record_read
-returns-in_default c =
-    c.not_read.ensures ∙ ap (λ o. record_read (record_with c.args.bits.now o)) (sym (status-none (field_at c.args.bits.now 27 3) (omega (arith, c.field_at.ensures))))
+unfolding field_at
+returns-in_default c = no-status c.args.bits.now c.field.result c.field.ensures c.in_default.ensures
+
+pub returns-then-field-ne0 : goal.returns-then-field-ne0
+unfolding field_at
+returns-then-field-ne0 c =
+    not-spare c.args.bits.now c.field.result c.field.ensures c.in-Ok.status c.in-Ok.ensures (λ e. c.if-field-ne0.true (c.field-2.ensures ∙ e))
+
+pub returns : goal.returns
+unfolding field_at
+returns c =
+    rw (c.field-3.ensures, c.field-4.ensures, c.field-5.ensures)
+    (read c.args.bits.now c.field.result c.field.ensures c.in-Ok.status c.in-Ok.ensures (sym c.field-2.ensures ∙ c.if-field-ne0.false))
