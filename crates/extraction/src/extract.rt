@@ -21,7 +21,7 @@ use order::moves::insert;
 use outer::{Candidate, Scratch};
 use settings::Settings;
 use standing::Memory;
-use standing::row::{cost_of, parities_of, put, spent_of};
+use standing::row::{RowCells, cells_of, put};
 use steps::copies::copy;
 use steps::{Queue, Tally};
 use words::{Block, nearest_words, score};
@@ -95,23 +95,20 @@ fn third(
     calculate(memory, layout, paths, e, last, at);
     let slot = slot_of(e);
     let rows = &mut *memory.rows;
-    let spent = spent_of(rows, slot) + cost_of(rows, slot);
-    let parities = parities_of(rows, slot);
+    let own = cells_of(rows, slot);
+    let spent = own.spent + own.cost;
     let found = nearest_words(memory, tables, layout.m, slot, at, scratch);
     let near = found.first;
-    let cost = near.cost;
-    let rows = &mut *memory.rows;
-    put(
-        rows,
-        slot,
+    let cells = RowCells {
         spent,
-        cost,
-        near.number,
-        parities,
-        near.parities,
-    );
+        cost: near.cost,
+        word: near.number,
+        earlier: own.parities,
+        parities: near.parities,
+    };
+    put(&mut *memory.rows, slot, cells);
     let d = entry(
-        score(spent, cost, at.bias),
+        score(spent, near.cost, at.bias),
         blocks_of(e) + 1,
         number_of(e),
         slot,

@@ -6,6 +6,7 @@ use mathlib.Core.Logic.{◌⊎◌, inl, inr}
 use Prim.Native.Nat.{ℕ, ◌+◌, ◌-◌, ◌≤◌}
 use native.Mathlib.Omega.{arith}
 use lib.ListN.{length, take, drop, length-append, length-drop}
+use borrow.Rule.Slice.PartMut.{put_mid}
 use lib.Seq.{length-take-le, take-take, take-append-le, take_at, drop-append-le, drop_at, drop-drop}
 use Rattle.laws.proofs.Lists.{drop-take}
 use Rattle.polar.specs.Layers.{part, over_at}
@@ -50,3 +51,10 @@ module _ {A : Type 0} (to : ℕ) (new l : List A) (h : to + length new ≤ lengt
       ∙ ap (λ x. take n (drop k x)) rest_over
       ∙ ap (take n) (drop-drop k (to + length new) l)
       ∙ ap (λ x. take n (drop x l)) e
+
+-- another list in the place of as many elements
+pub mid-over : {A : Type 0} (to n : ℕ) (new l : List A) → length new ≡ n → put_mid to n l new ≡ over_at to new l
+unfolding over_at
+mid-over to n new l e =
+    ap (λ x. take to l ++ (new ++ x)) (drop-drop n to l ∙ ap (λ k. drop (to + k) l) (sym e))
+    ∙ sym (append_assoc (take to l) new (drop (to + length new) l))

@@ -27,7 +27,7 @@ use order::entries::{blocks_of, entry, slot_of};
 use outer::{Candidate, Scratch};
 use settings::Settings;
 use standing::Memory;
-use standing::row::{cost_of, id_of, spent_of, word_of};
+use standing::row::{cells_of, id_of};
 use start::{begin, block_at, fill_vacant, note, receive};
 use steps::{Queue, Tally};
 use views::view::commit;
@@ -45,15 +45,15 @@ fn finish(memory: &mut Memory, layout: Layout, s: Settings, stage: Stage, last: 
 {
     let slot = slot_of(stage.entry);
     let rows = &mut *memory.rows;
-    let word = word_of(rows, slot);
-    commit(memory, layout, slot, last.height, last.place, word);
-    let rows = &mut *memory.rows;
+    let own = cells_of(rows, slot);
+    commit(memory, layout, slot, last.height, last.place, own.word);
     let counts = Counts {
         extractions: stage.tally.extractions + 1,
         crowded: stage.tally.crowded,
         outrun: stage.tally.outrun,
-        discrepancy: spent_of(rows, slot) + cost_of(rows, slot),
+        discrepancy: own.spent + own.cost,
     };
+    let rows = &mut *memory.rows;
     Ran {
         counts,
         id: id_of(rows, slot, layout.m),

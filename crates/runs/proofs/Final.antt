@@ -16,7 +16,6 @@ use Rattle.laws.proofs.Tests.{and_in, and_left, neqb→ne}
 use Rattle.laws.proofs.Lists.{all_take}
 use Rattle.polar.specs.Bits.{Bit, to_bits}
 use Rattle.polar.specs.Transform.{transform}
-use Rattle.polar.specs.Soft.{discrepancy}
 use Rattle.polar.proofs.Bits.{to_bits-bits}
 use Rattle.polar.proofs.Transform.{transform-length, transform-bits, transform-twice}
 use Rattle.polar.proofs.Value.{R-discrepancy}

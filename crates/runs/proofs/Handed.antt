@@ -1,6 +1,7 @@
 -- Demand 2 of every decoding call, for every input: a call that is done, or refused with 10 or 11, made a run; the run is exact (Final.antt), and
 -- by cases of the limit and of the record the call's definition says the rest. Assumes nothing.
 use mathlib.Core.Path.{◌≡◌, refl, sym, ap, ◌∙◌, subst}
+use Rattle.std.specs.Prelude.{Result, Ok, Err, is_ok}
 use mathlib.Core.Bool.{Bool, true, false}
 use mathlib.Core.List.{List}
 use mathlib.Core.Logic.{◌↔◌, ◌⊎◌, inl, inr}
@@ -13,8 +14,6 @@ use Rattle.laws.specs.Lists.{All, May}
 use Rattle.laws.proofs.Tests.{lt-or}
 use Rattle.codebook.specs.declared.Refusal.{Refusal}
 use Rattle.codebook.specs.declared.Refusal.TheVariants.{AboveLimit, Unreadable}
-use Rattle.codebook.specs.declared.Outcome.{Outcome}
-use Rattle.codebook.specs.declared.Outcome.TheVariants.{Done, Refused}
 use Rattle.codebook.specs.Refusals.{refusal_number, outcome_number, unless}
 use Rattle.codebook.specs.Book.{Book}
 use Rattle.codebook.specs.Loading.{Load, refused, loaded, load, book_shape}
@@ -29,7 +28,7 @@ use Rattle.machine.specs.declared.HookDecoded.{HookDecoded}
 use Rattle.queue.specs.Queue.{Step, Final, End, found, end_as}
 use Rattle.machine.specs.Machine.{run_of}
 use Rattle.machine.specs.Calls.{Input, Lent, lengths_of, first_failed, tests_before, barred, readied, final_of, end_of, machine_run, final_in, within, is_read, record_tests, verdicts, verdict}
-use Rattle.machine.specs.Calls.{outcome_of, is_done, record_or, hook_of, counts_of, after_run, Called, refused_as, refused_call, ran_call, unbarred, call_with, call_by, call_of}
+use Rattle.machine.specs.Calls.{outcome_of, record_or, hook_of, counts_of, after_run, Called, refused_as, refused_call, ran_call, unbarred, call_with, call_by, call_of}
 use Rattle.machine.specs.Numbers.{final_end, final_word}
 use Rattle.machine.proofs.Unbarred.{failed-may, Free, nothing-bars}
 use Rattle.runs.specs.Runs.{Ended}
@@ -69,9 +68,9 @@ record_is Record f h = let e = h.1 in rw e refl
 -- ---- which calls make a run
 
 -- no refusal with 1 to 9
-unfoldable Late : Outcome → Type 0
-Late Done = Unit {0}
-Late (Refused r) = 9 < refusal_number r
+unfoldable Late : Result (Unit {0}) Refusal → Type 0
+Late (Ok x) = Unit {0}
+Late (Err r) = 9 < refusal_number r
 
 module _ (k : Manner) (c : Input) (l : Lent) where
   -- what bars a call is 7, 8 or 9
@@ -135,7 +134,7 @@ module _ (k : Manner) (c : Input) (l : Lent) (B : Book) (m : Made k c l B) where
   ended v =
       record {
         answer = record { outcome = outcome_of v; counts = counts_of steps final; hook = hook_of k.reads v final };
-        lent = after_run (book_shape B) c.settings l steps final (is_done (outcome_of v));
+        lent = after_run (book_shape B) c.settings l steps final (is_ok (outcome_of v));
         steps = steps;
       }
 
@@ -163,23 +162,23 @@ module _ (k : Manner) (c : Input) (l : Lent) (B : Book) (m : Made k c l B) where
 -- ---- the theorem
 
 -- two outcomes with different numbers
-differ : {A : Type 0} {o p : Outcome} → o ≡ p → (outcome_number o ≡ outcome_number p → ⊥) → A
+differ : {A : Type 0} {o p : Result (Unit {0}) Refusal} → o ≡ p → (outcome_number o ≡ outcome_number p → ⊥) → A
 differ e f = absurd (f (ap outcome_number e))
 
 pub handed : (k : Manner) (c : Input) (l : Lent) → Handed k c l (call_of k c l).answer (call_of k c l).lent
-unfolding Late outcome_of is_done counts_of after_run
+unfolding Late outcome_of counts_of after_run
 handed k c l =
     record {
       done = λ q.
           let (B, m) = makes k c l (subst Late (sym q) tt) in
-          let (x, r) = call-by k c l B m (λ x. x.answer.outcome ≡ Done → HandedOut k B c x.answer.counts x.lent × RecordIs k.reads x.lent.bits x.answer.hook)
+          let (x, r) = call-by k c l B m (λ x. x.answer.outcome ≡ Ok tt → HandedOut k B c x.answer.counts x.lent × RecordIs k.reads x.lent.bits x.answer.hook)
           (λ h r _. (handed_out k c l B m h, record_is k.reads (final_word k B c) r))
           (λ _ e. differ e (λ z. omega (arith, z)))
           (λ _ _ e. differ e (λ z. omega (arith, z))) q in
           (B, m, x, r);
       above = λ q.
           let (B, m) = makes k c l (subst Late (sym q) (omega arith)) in
-          let (w, h) = call-by k c l B m (λ x. x.answer.outcome ≡ Refused AboveLimit → Withheld k B c l x.answer.counts x.lent × (c.settings.limit < x.answer.counts.discrepancy))
+          let (w, h) = call-by k c l B m (λ x. x.answer.outcome ≡ Err AboveLimit → Withheld k B c l x.answer.counts x.lent × (c.settings.limit < x.answer.counts.discrepancy))
           (λ _ _ e. differ e (λ z. omega (arith, z)))
           (λ h _. (withheld k c l B m, h))
           (λ _ _ e. differ e (λ z. omega (arith, z))) q in
@@ -187,24 +186,24 @@ handed k c l =
       unreadable = λ q.
           let (B, m) = makes k c l (subst Late (sym q) (omega arith)) in
           let (w, h, n) = call-by k c l B m
-          (λ x. x.answer.outcome ≡ Refused Unreadable
+          (λ x. x.answer.outcome ≡ Err Unreadable
           → Withheld k B c l x.answer.counts x.lent × (x.answer.counts.discrepancy ≤ c.settings.limit) × Unread k.reads (final_word k B c).bits)
           (λ _ _ e. differ e (λ z. omega (arith, z)))
           (λ _ e. differ e (λ z. omega (arith, z)))
           (λ h n _. (withheld k c l B m, h, n)) q in
           (B, m, w, h, n);
       exactly-done = λ B m.
-          call-by k c l B m (λ x. (x.answer.outcome ≡ Done) ↔ (((final_word k B c).discrepancy ≤ c.settings.limit) × Readable k.reads (final_word k B c).bits))
+          call-by k c l B m (λ x. (x.answer.outcome ≡ Ok tt) ↔ (((final_word k B c).discrepancy ≤ c.settings.limit) × Readable k.reads (final_word k B c).bits))
           (λ h r. (λ _. (h, r), λ _. refl))
           (λ h. (λ e. differ e (λ z. omega (arith, z)), λ p. absurd (omega (arith, p.0))))
           (λ h n. (λ e. differ e (λ z. omega (arith, z)), λ p. read-apart k.reads (final_word k B c).bits p.1 n));
       exactly-above = λ B m.
-          call-by k c l B m (λ x. (x.answer.outcome ≡ Refused AboveLimit) ↔ (c.settings.limit < (final_word k B c).discrepancy))
+          call-by k c l B m (λ x. (x.answer.outcome ≡ Err AboveLimit) ↔ (c.settings.limit < (final_word k B c).discrepancy))
           (λ h _. (λ e. differ e (λ z. omega (arith, z)), λ p. absurd (omega arith)))
           (λ h. (λ _. h, λ _. refl))
           (λ h _. (λ e. differ e (λ z. omega (arith, z)), λ p. absurd (omega arith)));
       exactly-unreadable = λ B m.
-          call-by k c l B m (λ x. (x.answer.outcome ≡ Refused Unreadable) ↔ (((final_word k B c).discrepancy ≤ c.settings.limit) × Unread k.reads (final_word k B c).bits))
+          call-by k c l B m (λ x. (x.answer.outcome ≡ Err Unreadable) ↔ (((final_word k B c).discrepancy ≤ c.settings.limit) × Unread k.reads (final_word k B c).bits))
           (λ h r. (λ e. differ e (λ z. omega (arith, z)), λ p. read-apart k.reads (final_word k B c).bits r p.1))
           (λ h. (λ e. differ e (λ z. omega (arith, z)), λ p. absurd (omega (arith, p.0))))
           (λ h n. (λ _. (h, n), λ _. refl));

@@ -1,13 +1,12 @@
 -- Demand 2 of a decoding call: a word that is handed out is in the code, with its own data and its exact discrepancy, and it is handed out exactly when
 -- that is within the limit and, where a record is read, the data hold one. Said of the answer and of the lent buffers afterwards, for every manner and every input:
 -- proofs/Handed.antt. Assumes nothing.
-use Rattle.std.specs.Prelude.{◌≡◌, List, ◌↔◌, ℕ, ◌^◌, ◌≤◌, ◌<◌, length, T}
+use Rattle.std.specs.Prelude.{◌≡◌, List, ◌↔◌, ℕ, ◌^◌, ◌≤◌, ◌<◌, length, T, Ok, Err}
 use Rattle.std.proofs.Math.Option.{none, some}
 use Rattle.laws.specs.Lists.{All}
 use Rattle.polar.specs.Bits.{Bit}
 use Rattle.polar.specs.Soft.{discrepancy}
 use Rattle.codebook.specs.declared.Refusal.TheVariants.{AboveLimit, Unreadable}
-use Rattle.codebook.specs.declared.Outcome.TheVariants.{Done, Refused}
 use Rattle.codebook.specs.Book.{Book}
 use Rattle.codebook.specs.Loading.{loaded, load}
 use Rattle.codec.specs.declared.HookRecord.{HookRecord}
@@ -81,21 +80,21 @@ pub record Withheld (k : Manner) (B : Book) (c : Input) (l : Lent) (counts : Cou
 
 -- Of its answer and of the buffers afterwards; a plain call's answer has a record of zeros.
 pub record Handed (k : Manner) (c : Input) (l : Lent) (answer : HookDecoded) (after : Lent) : Type 0 where
-  -- Done: a run was made, and its word is handed out, with the record of its data where one is read
-  pub done : answer.outcome ≡ Done →
+  -- done: a run was made, and its word is handed out, with the record of its data where one is read
+  pub done : answer.outcome ≡ Ok tt →
       (B : Book) × Made k c l B × HandedOut k B c answer.counts after × RecordIs k.reads after.bits answer.hook
   -- 10: a run was made, its word is above the limit and not handed out
-  pub above : answer.outcome ≡ Refused AboveLimit →
+  pub above : answer.outcome ≡ Err AboveLimit →
       (B : Book) × Made k c l B × Withheld k B c l answer.counts after × (c.settings.limit < answer.counts.discrepancy)
   -- 11: a run was made, its word is within the limit, its data hold no record to be read, and it is not handed out
-  pub unreadable : answer.outcome ≡ Refused Unreadable →
+  pub unreadable : answer.outcome ≡ Err Unreadable →
       (B : Book) × Made k c l B × Withheld k B c l answer.counts after × (answer.counts.discrepancy ≤ c.settings.limit)
       × Unread k.reads (final_word k B c).bits
-  -- a run that is made ends in Done exactly when its discrepancy is within the limit and its data hold what is to be read
+  -- a run that is made is done exactly when its discrepancy is within the limit and its data hold what is to be read
   pub exactly-done : (B : Book) → Made k c l B →
-      (answer.outcome ≡ Done) ↔ (((final_word k B c).discrepancy ≤ c.settings.limit) × Readable k.reads (final_word k B c).bits)
+      (answer.outcome ≡ Ok tt) ↔ (((final_word k B c).discrepancy ≤ c.settings.limit) × Readable k.reads (final_word k B c).bits)
   -- in 10 exactly when it is above the limit
-  pub exactly-above : (B : Book) → Made k c l B → (answer.outcome ≡ Refused AboveLimit) ↔ (c.settings.limit < (final_word k B c).discrepancy)
+  pub exactly-above : (B : Book) → Made k c l B → (answer.outcome ≡ Err AboveLimit) ↔ (c.settings.limit < (final_word k B c).discrepancy)
   -- and in 11 exactly when it is within the limit but its data hold no record to be read
   pub exactly-unreadable : (B : Book) → Made k c l B →
-      (answer.outcome ≡ Refused Unreadable) ↔ (((final_word k B c).discrepancy ≤ c.settings.limit) × Unread k.reads (final_word k B c).bits)
+      (answer.outcome ≡ Err Unreadable) ↔ (((final_word k B c).discrepancy ≤ c.settings.limit) × Unread k.reads (final_word k B c).bits)

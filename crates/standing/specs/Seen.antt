@@ -26,6 +26,10 @@ abbrev pub SameMemory : Lending → Lending → Type 0
 SameMemory new old =
     (new.rows.ghost_name ≡ old.rows.ghost_name) × (new.numbers.ghost_name ≡ old.numbers.ghost_name) × (new.bytes.ghost_name ≡ old.bytes.ghost_name)
 
+-- it holds what it held, but for the holders
+abbrev pub HoldersOnly : Lending → Lending → Type 0
+HoldersOnly new old = (new.rows.now ≡ old.rows.now) × (new.numbers.now ≡ old.numbers.now) × (new.bytes.now ≡ old.bytes.now)
+
 -- the table of holders and the workspace have N arrays of each height up to m
 pub record HasArrays (m N : ℕ) (x : Memory) : Type 0 where
   pub deep : m ≤ 9

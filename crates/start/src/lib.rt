@@ -3,7 +3,7 @@
 
 #![tactic(auto)]
 
-ghost use Rattle.std.specs.Prelude.{◌≡◌, List, ℕ, suc, ◌+◌, ◌^◌, ◌≤◌, ◌<◌, pos, length, get_or, set, replicate};
+ghost use Rattle.std.specs.Prelude.{◌≡◌, ℕ, suc, ◌+◌, ◌^◌, ◌≤◌, ◌<◌, pos, length, get_or, set, replicate};
 ghost use Rattle.polar.specs.Layers.{over_at};
 ghost use Rattle.codebook.specs.Book.{Book};
 ghost use Rattle.codebook.specs.Limits.{Valid};
@@ -35,8 +35,8 @@ pub fn begin(rows: &mut [u32], holders: &mut [u16; 2580], m: usize)
 
 // Slots 1 to D - 1 are vacant, the lowest to be taken last.
 pub fn fill_vacant(vacant: &mut [u8; 256], paths: usize)
-    requires { (length vacant.old ≡ 256) × (1 ≤ paths) × (paths ≤ 256) }
-    ensures { (length vacant.new ≡ 256) × ((k : ℕ) → k + 1 < paths → get_or vacant.new k 0 ≡ k + 1) }
+    requires { (1 ≤ paths) × (paths ≤ 256) }
+    ensures { (k : ℕ) → k + 1 < paths → get_or vacant.new k 0 ≡ k + 1 }
 {
     for i in 1..paths {
         vacant[i - 1] = i as u8;

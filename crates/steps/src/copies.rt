@@ -18,7 +18,7 @@ use outer::{Candidate, Next, Scratch};
 use settings::Settings;
 use sharing::holders::share;
 use standing::Memory;
-use standing::row::{earlier_of, put, spent_of};
+use standing::row::{RowCells, cells_of, put};
 use views::view::claim;
 use words::{Block, other_word, score};
 
@@ -53,19 +53,16 @@ fn fork(
     let slot = slot_of(e);
     let cost = found.first.cost;
     let rows = &mut *memory.rows;
-    let spent = spent_of(rows, slot);
-    let earlier = earlier_of(rows, slot);
-    let d = entry(score(spent, cost, last.bias), blocks, number, to);
+    let own = cells_of(rows, slot);
+    let d = entry(score(own.spent, cost, last.bias), blocks, number, to);
     share(rows, &mut memory.holders, layout.m, slot, to);
-    put(
-        rows,
-        to,
-        spent,
+    let cells = RowCells {
         cost,
-        found.first.number,
-        earlier,
-        found.first.parities,
-    );
+        word: found.first.number,
+        parities: found.first.parities,
+        ..own
+    };
+    put(rows, to, cells);
     claim(memory, layout, to, last.height, last.place);
     insert(&mut queue.order, queued, d);
     kept[to] = found.known.then_some(found.second);

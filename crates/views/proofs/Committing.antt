@@ -6,13 +6,15 @@ use Prim.Native.Nat.{ℕ, ◌+◌, ◌-◌, ◌^◌, ◌≤◌, ◌<◌}
 use native.Mathlib.Omega.{arith}
 use lib.ListN.{length}
 use lib.Pow.{pow_mono}
+use borrow.Rule.Slice.PartMut.{mid_of, put_mid}
 use Rattle.laws.specs.Lists.{All}
 use Rattle.polar.specs.Bits.{Bit}
 use Rattle.polar.specs.Layers.{part, over_at}
+use Rattle.polar.proofs.Writes.{part_length}
 use Rattle.reader.specs.Arrays.{View, sums_of, put_sums, joined}
 use Rattle.sharing.specs.Sharing.{id_at, HasRow}
 use Rattle.heights.specs.Workspace.{spot, Room, Id, bits_of}
-use Rattle.heights.proofs.Over.{part-over}
+use Rattle.heights.proofs.Over.{part-over, mid-over}
 use Rattle.heights.proofs.Spots.{spot-room}
 use Rattle.heights.proofs.Words.{bits-length}
 use Rattle.standing.specs.Seen.{Memory, memory, HasArrays, Seen}
@@ -21,26 +23,39 @@ use Rattle.views.proofs.Seeing.{Took, took-other, seen-some, seen-sums, seen-put
 use Rattle.views.proofs.Inside.{joined-on, over-joined, joined-apart, joined-parts}
 use Rattle.views.proofs.Joining.{joined_same}
 
--- ---- the word at the end of the cells of an array
+-- ---- the word put into the last cells of an array
 
-module _ {m N h i j : ℕ} (g : h ≤ m) (d : Id N i) (a : j ≤ h) (old : List ℕ) (r : Room m N old) (w : ℕ) {at n : ℕ} {new : List ℕ}
-    (e : at ≡ spot m i h + 2 ^ h - 2 ^ j) (f : n ≡ 2 ^ j) (q : new ≡ over_at at (bits_of n w) old) where
-  -- it lies within them
-  end_fits : (spot m i h ≤ at) × (at + length (bits_of n w) ≤ spot m i h + 2 ^ h)
-  end_fits = let l = bits-length n w in let b = pow_mono a in (omega arith, omega arith)
+module _ {m N h i j : ℕ} (g : h ≤ m) (d : Id N i) (a : j ≤ h) (old : List ℕ) (r : Room m N old) (w : ℕ) {at n : ℕ} {bits : List ℕ}
+    (e : at ≡ spot m i h + 2 ^ h - 2 ^ j) (f : n ≡ 2 ^ j) (q : bits ≡ bits_of (length (mid_of at n old)) w) where
+  -- they lie within the bytes
+  fits : at + n ≤ length old
+  fits = let b = pow_mono a in let k = spot-room g d old r in omega arith
 
-  pub put-joined : Joined m h i old new
-  put-joined = over-joined at (bits_of n w) old q end_fits.0 end_fits.1 (spot-room g d old r)
+  bits_are : bits ≡ bits_of (2 ^ j) w
+  unfolding part
+  bits_are = q ∙ ap (λ k. bits_of k w) (part_length at n old fits ∙ f)
 
-  pub put_word : part (spot m i h + (2 ^ h - 2 ^ j)) (2 ^ j) new ≡ bits_of (2 ^ j) w
+  size : length bits ≡ 2 ^ j
+  size = ap length bits_are ∙ bits-length (2 ^ j) w
+
+  over-is : put_mid at n old bits ≡ over_at at bits old
+  over-is = mid-over at n bits old (size ∙ sym f)
+
+  pub put-joined : Joined m h i old (put_mid at n old bits)
+  put-joined =
+      let b = pow_mono a in
+      let s = size in
+      over-joined at bits old over-is (omega arith) (omega arith) (spot-room g d old r)
+
+  pub put_word : part (spot m i h + (2 ^ h - 2 ^ j)) (2 ^ j) (put_mid at n old bits) ≡ bits_of (2 ^ j) w
   put_word =
       let b = pow_mono a in
       let s : spot m i h + (2 ^ h - 2 ^ j) ≡ at = omega arith in
-      let l = end_fits in
-      let k = spot-room g d old r in
-      ap₂ (λ x y. part x (2 ^ j) y) s q
-      ∙ part-over at (bits_of n w) old (omega arith) (2 ^ j) (bits-length n w ∙ f)
-      ∙ ap (λ x. bits_of x w) f
+      let z = size in
+      let k = fits in
+      ap₂ (λ x y. part x (2 ^ j) y) s over-is
+      ∙ part-over at bits old (omega arith) (2 ^ j) size
+      ∙ bits_are
 
 -- ---- what the path sees
 

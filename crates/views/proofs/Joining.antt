@@ -167,8 +167,8 @@ module _ {m N h i j : ℕ} {ids : ℕ → ℕ} {old : List ℕ} {k : ℕ} {new :
   -- the same by the code's numbers: the place of the sums, the end of the cells and the size of the word
   module _ {low end n : ℕ} (a : low ≡ spot m (ids k) k) (b : end ≡ spot m i h + 2 ^ h) (e : n ≡ 2 ^ k) where
     pub turn-needs : All Bit (part (spot m (ids k) k) (2 ^ k) old) →
-        Clear low n (end - (n + n)) n new × (Clear (end - n) n (end - (n + n)) n new × (All Bit (part low n new) × All Bit (part (end - n) n new)))
-    turn-needs c = rw (a, b, e) (turn_low, (turn-high, (subst (All Bit) (sym low_same) c, p.bits)))
+        Clear low n (end - (n + n)) n new × Clear (end - n) n (end - (n + n)) n new × All Bit (part low n new) × All Bit (part (end - n) n new)
+    turn-needs c = rw (a, b, e) (turn_low, turn-high, subst (All Bit) (sym low_same) c, p.bits)
 
     pub progress-more : {new' : List ℕ} → new' ≡ over_at (end - (n + n)) (add_bits (part low n new) (part (end - n) n new)) new → Progress m h i j ids old (k + 1) new'
     progress-more q = leaves (rw (a, b, e) at q)

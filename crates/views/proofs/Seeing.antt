@@ -27,13 +27,10 @@ pub record Took (N s h : ℕ) (rows holders rows' holders' : List ℕ) (r : ℕ)
   pub exchanged : Exchanged h (id_at rows s h) r holders holders'
   pub chosen : (x : Shared holders h N (id_at rows s h)) → r ≡ own_of (id_at rows s h) x.others
 
-pub took : {N r : ℕ} (s h : ℕ) (rows holders : List ℕ) {rows' holders' : List ℕ} →
-    (Held holders' × (1 ≤ r) × (r ≤ N))
-    × ((rows' ≡ set rows (s * 16 + h) r)
-    × (Exchanged h (id_at rows s h) r holders holders' × ((x : Shared holders h N (id_at rows s h)) → r ≡ own_of (id_at rows s h) x.others))) →
+pub took : {N s h r : ℕ} {rows holders rows' holders' : List ℕ} → Held holders' × (1 ≤ r) × (r ≤ N) → rows' ≡ set rows (s * 16 + h) r →
+    Exchanged h (id_at rows s h) r holders holders' → ((x : Shared holders h N (id_at rows s h)) → r ≡ own_of (id_at rows s h) x.others) →
     Took N s h rows holders rows' holders' r
-took s h rows holders e =
-    record { held = e.0.0; id = record { some = e.0.1; most = e.0.2 }; stored = e.1.0; exchanged = e.1.1.0; chosen = e.1.1.1 }
+took a stored exchanged chosen = record { held = a.0; id = record { some = a.1; most = a.2 }; stored = stored; exchanged = exchanged; chosen = chosen }
 
 -- its ids of the other heights are as they were
 pub took-other : {N s h r : ℕ} {rows holders rows' holders' : List ℕ} → Took N s h rows holders rows' holders' r → {k : ℕ} → (k ≡ h → ⊥) →

@@ -25,7 +25,7 @@ use order::entries::slot_of;
 use outer::{Candidate, Next, Pair, Scratch};
 use search::find::{nearest_pair, next_after};
 use standing::Memory;
-use standing::row::{cost_of, earlier_of, id_of, parities_of, word_of};
+use standing::row::{cells_of, id_of};
 
 // A block: its first index, its height, its bias, and the height where its word goes.
 #[derive(Clone, Copy)]
@@ -72,7 +72,7 @@ pub fn nearest_words(
         × ((w : Word) → W.nearest B vs x b ≡ some w → result.second ≡ candidate_of B (W.next_after w B vs x b))) }
 {
     let values = values_of(memory, m, slot, at.height);
-    let parities = parities_of(memory.rows, slot);
+    let parities = cells_of(memory.rows, slot).parities;
     nearest_pair(
         values,
         tables,
@@ -101,17 +101,15 @@ fn next_word(
         Nexts B vs p.earlier b (W.next_after (own_word B p b) B vs p.earlier b) result) }
 {
     let values = values_of(memory, m, slot, last.height);
-    let earlier = earlier_of(memory.rows, slot);
-    let cost = cost_of(memory.rows, slot);
-    let number = word_of(memory.rows, slot);
+    let own = cells_of(memory.rows, slot);
     next_after(
         values,
         tables,
         last.start,
         last.height as u32,
-        earlier,
-        cost,
-        number,
+        own.earlier,
+        own.cost,
+        own.word,
         scratch,
     )
 }

@@ -1,6 +1,6 @@
 -- `start::fill_vacant` meets its contract: cell k gets k + 1. Assumes nothing.
 use Prim.Native.Nat.{◌+◌, ◌-◌}
-use mathlib.Core.Path.{◌∙◌, subst}
+use mathlib.Core.Path.{subst}
 use native.Mathlib.Nat.{zero-add}
 use native.Mathlib.Omega.{arith}
 use lib.ListN.{set}
@@ -17,4 +17,4 @@ loop-i-preserved c =
     subst (Stored c.args.vacant.now (set c.loop-i.vacant (i - 1) i) 0 (λ k. k + 1)) (omega arith) s
 
 pub returns : goal.returns
-returns c = let s = c.loop-i.invariant in (s.size ∙ c.requires.0, λ k h. rw zero-add at (s.done k (omega arith)))
+returns c k h = rw zero-add at (c.loop-i.invariant.done k (omega arith))

@@ -33,17 +33,9 @@ bias-back z h = to_z-of_z (abs-fits z (omega arith))
 score-back : (z : ℤ) → Within 2096640 z → back z ≡ z
 score-back z h = to_z-of_z (abs-fits z (omega arith))
 
-pub spent_of-requires : goal.spent_of-requires
+pub cells_of-own-requires : goal.cells_of-own-requires
 unfolding memory
-spent_of-requires c = there c.requires.by_index.1 c.calculate.ensures.lent_2.0 c.slot_of-slot.ensures.0
-
-pub cost_of-requires : goal.cost_of-requires
-unfolding memory
-cost_of-requires c = there c.requires.by_index.1 c.calculate.ensures.lent_2.0 c.slot_of-slot.ensures.0
-
-pub parities_of-parities-requires : goal.parities_of-parities-requires
-unfolding memory
-parities_of-parities-requires c = there c.requires.by_index.1 c.calculate.ensures.lent_2.0 c.slot_of-slot.ensures.0
+cells_of-own-requires c = there c.requires.by_index.1 c.calculate.ensures.lent_2.0 c.slot_of-slot.ensures.0
 
 pub put-requires : goal.put-requires
 unfolding memory
@@ -54,8 +46,8 @@ unfolding memory
 overflow_add-spent c =
     let o = c.requires.by_index.1 in
     let st = c.calculate.ensures.by_index_2 _ _ o.moving in
-    let spent = rw c.slot_of-slot.ensures.0 at c.spent_of.ensures in
-    let cost = rw c.slot_of-slot.ensures.0 at c.cost_of.ensures in
+    let spent = rw c.slot_of-slot.ensures.0 at c.cells_of-own.ensures.spent in
+    let cost = rw c.slot_of-slot.ensures.0 at c.cells_of-own.ensures.cost in
     record { fits = omega (arith, spent, cost, third-spent o st, third-cost o st, o.total) }
 
 pub nearest_words-found-requires-clause-has_row : goal.nearest_words-found-requires-clause-has_row
@@ -78,8 +70,8 @@ score-requires c =
     let o = c.requires.by_index.1 in
     let st = c.calculate.ensures.by_index_2 _ _ o.moving in
     let slot = c.slot_of-slot.ensures.0 in
-    let spent = rw slot at c.spent_of.ensures in
-    let cost = rw slot at c.cost_of.ensures in
+    let spent = rw slot at c.cells_of-own.ensures.spent in
+    let cost = rw slot at c.cells_of-own.ensures.cost in
     let total = third-total o st (third-words o st slot c.nearest_words-found.ensures.fact).0 in
     (omega (arith, spent, cost, total), rw (bias-back _ (third-bias o)) (third-bias o))
 
@@ -117,12 +109,12 @@ unfolding memory
 returns-clause-by_index_2 c vs o =
     let st = c.calculate.ensures.by_index_2 _ vs o.moving in
     let slot = c.slot_of-slot.ensures.0 in
-    let spent = rw slot at c.spent_of.ensures in
-    let cost = rw slot at c.cost_of.ensures in
+    let spent = rw slot at c.cells_of-own.ensures.spent in
+    let cost = rw slot at c.cells_of-own.ensures.cost in
     let both = third-words o st slot c.nearest_words-found.ensures.fact in
     let near : ℕ = c.nearest_words-found.result.first.cost in
     let score = score-back _ c.score.ensures.1 ∙ c.score.ensures.0 ∙ ap₂ (λ (n : ℕ) (z : ℤ). neg_ℤ (pos n) -ℤ z) (ap₂ (λ (a b : ℕ). a + b + near) spent cost) (bias-back _ (third-bias o)) in
     let packed = rw (slot, c.number_of.ensures, c.blocks_of.ensures) at c.entry-d.ensures in
     let d = third-packed o st both.0 score packed in
-    let row = rw (slot, spent, cost, rw slot at c.parities_of-parities.ensures) at c.put.ensures in
+    let row = rw (slot, spent, cost, rw slot at c.cells_of-own.ensures.parities) at c.put.ensures in
     rw c.insert.ensures.order_len_2.1 (third-queued o st both.0 d row, rw slot (third-kept o both.1 d (omega (arith, slot-low o.moving.hand.stands, c.requires.lent.2))))

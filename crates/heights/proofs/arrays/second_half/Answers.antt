@@ -26,7 +26,7 @@ lower_p-requires c = record {
 pub returns : goal.returns
 returns c = let a = c.args in
     let l = a.numbers.now in
-    let g : a.h ≤ a.m = omega arith in
+    let g : a.h ≤ a.layout.m = omega arith in
     let n = c.power-n.ensures in record {
       numbers_len_unchanged = search rules;
       by_index = λ vals sums p q.

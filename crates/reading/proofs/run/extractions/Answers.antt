@@ -44,7 +44,7 @@ loop-stage-init c =
           let first =
           run-first r a.s.visits a.s.paths a.arrays c.begin.new.rows c.begin.new.holders c.fill_vacant.new.vacant (received a.x.m a.values.now old.numbers.now) old.bytes.now c.entry.result
           a.queue.now.order a.kept.now a.walk.now.path.now a.walk.now.blocks.now a.walk.now.score.now (omega arith) q.2 q.3 old.rows.now c.requires.rows.1 (omega arith) c.begin.ensures.0
-          c.begin.ensures.2 c.fill_vacant.ensures.1 c.entry.ensures (received-root a.x.m a.arrays a.values.now old.numbers.now q.0 some r.size old.bytes.now) in
+          c.begin.ensures.2 c.fill_vacant.ensures c.entry.ensures (received-root a.x.m a.arrays a.values.now old.numbers.now q.0 some r.size old.bytes.now) in
           rw (new, c.requires.holders_value.1) (run-before r first (rising_none _) 0 (omega arith) (λ k. absurd (omega arith)));
       bound = omega arith;
     }

@@ -19,15 +19,9 @@ use Rattle.steps.proofs.Forks.{lent-on, has-held, fork-blocks, fork-total, fork-
 use Rattle.steps.proofs.copies.fork.Goals.{After-put}
 use Rattle.steps.proofs.copies.fork.Goals as goal
 
-pub spent_of-spent-requires : goal.spent_of-spent-requires
+pub cells_of-own-requires : goal.cells_of-own-requires
 unfolding memory
-spent_of-spent-requires c = let l = c.requires.lent.0 in
-    let low = fork-slot c.requires.by_index.3 in
-    (omega (arith, low, l.few, c.slot_of-slot.ensures.0), omega (arith, low, l.rows, c.slot_of-slot.ensures.0))
-
-pub earlier_of-earlier-requires : goal.earlier_of-earlier-requires
-unfolding memory
-earlier_of-earlier-requires c = let l = c.requires.lent.0 in
+cells_of-own-requires c = let l = c.requires.lent.0 in
     let low = fork-slot c.requires.by_index.3 in
     (omega (arith, low, l.few, c.slot_of-slot.ensures.0), omega (arith, low, l.rows, c.slot_of-slot.ensures.0))
 
@@ -36,7 +30,7 @@ unfolding memory
 score-requires c =
     let o = c.requires.by_index.3 in
     let at = c.slot_of-slot.ensures.0 in
-    (omega (arith, rw at at c.spent_of-spent.ensures, fork-total o), omega (arith, ints, fork-bias o))
+    (omega (arith, rw at at c.cells_of-own.ensures.spent, fork-total o), omega (arith, ints, fork-bias o))
 
 pub entry-d-requires : goal.entry-d-requires
 entry-d-requires c =
@@ -80,8 +74,8 @@ entry-is : (c : After-put) (b : ℕ) (vs : List ℕ) (o : Fork c b vs) → c.arg
 unfolding memory
 entry-is c b vs o q =
     let a = c.args in
-    let score : to_z w32 (of_z w32 c.score.result) ≡ neg_ℤ (pos (c.spent_of-spent.result + a.found.first.cost)) -ℤ a.last.bias = omega (arith, ints, c.score.ensures, fork-bias o) in
-    fork-entry o c.slot_of-slot.ensures.0 c.spent_of-spent.ensures q score c.entry-d.ensures
+    let score : to_z w32 (of_z w32 c.score.result) ≡ neg_ℤ (pos (c.cells_of-own.result.spent + a.found.first.cost)) -ℤ a.last.bias = omega (arith, ints, c.score.ensures, fork-bias o) in
+    fork-entry o c.slot_of-slot.ensures.0 c.cells_of-own.ensures.spent q score c.entry-d.ensures
 
 written : (c : After-put) (b : ℕ) (vs : List ℕ) (o : Fork c b vs) → c.args.blocks ≡ suc b →
     Written o c.args.number c.entry-d.result (memory c.put.new.rows c.share.new.holders c.args.memory.now.numbers.now c.args.memory.now.bytes.now)
@@ -89,7 +83,7 @@ unfolding memory
 written c b vs o q =
     let l = c.requires.lent.0 in
     let r = c.share.ensures in
-    fork-written o l.enough c.args.number (entry-is c b vs o q) c.share.new.holders c.slot_of-slot.ensures.0 c.spent_of-spent.ensures c.earlier_of-earlier.ensures l r.copied r.more_by c.put.ensures
+    fork-written o l.enough c.args.number (entry-is c b vs o q) c.share.new.holders c.slot_of-slot.ensures.0 c.cells_of-own.ensures.spent c.cells_of-own.ensures.earlier l r.copied r.more_by c.put.ensures
 
 pub claim-requires-clause-has_arrays : goal.claim-requires-clause-has_arrays
 unfolding memory

@@ -7,7 +7,7 @@ use native.Mathlib.Omega.{arith}
 use lib.ListN.{length}
 use Rattle.reader.specs.Arrays.{descend, by_p}
 use Rattle.order.specs.Entries.{slot_at}
-use Rattle.standing.specs.Seen.{Memory, memory, Enough, HasArrays, Lent, Seen, StepSeen, IdsOnly}
+use Rattle.standing.specs.Seen.{Memory, memory, contents, Enough, HasArrays, Lent, Seen, StepSeen, IdsOnly}
 use Rattle.standing.proofs.Sizes.{slot-low}
 use Rattle.views.specs.Steps.{Upper, Turning}
 use Rattle.views.proofs.Seeing.{ids-on}
@@ -15,8 +15,8 @@ use Rattle.words.specs.declared.Block.{Block}
 use Rattle.steps.specs.Steps.{committed, Moving}
 use Rattle.steps.proofs.Commits.{own-viewed, commit-seen}
 use Rattle.advance.proofs.Onward.{away, reached, next-heights, first-viewed, first-seen, later-own, later-heights, committed-turning, turned-upper, down-seen, reached-claimable, claimed-stands, Gone}
-use Rattle.advance.proofs.values.calculate_of_parts.Goals as goal
-use Rattle.advance.proofs.values.calculate_of_parts.Goals.{then-at-eq0, else-at-eq0}
+use Rattle.advance.proofs.values.calculate.Goals as goal
+use Rattle.advance.proofs.values.calculate.Goals.{Joined-at-eq0, then-at-eq0, else-at-eq0}
 
 -- the slot of a path in hand has a row, and so it has in rows of that length
 hand-row : {m D N : ℕ} {x : Memory} {e : ℕ} {es vs : List ℕ} {last at : Block} → Lent m D N x → Moving m D N x e es vs last at →
@@ -45,9 +45,9 @@ module _ {m D N e s : ℕ} {x : Memory} {last at : Block} where
             down-seen h r n z u (turned (away h.hand) (committed h.hand) (sums _ _ h) (committed-turning h r n)) down;
       }
 
-pub go_down_of_parts-requires : goal.go_down_of_parts-requires
+pub go_down-requires : goal.go_down-requires
 unfolding memory
-go_down_of_parts-requires c =
+go_down-requires c =
     let l = c.requires.lent in
     let h = c.requires.by_index.2 in
     let r = c.slot_of-slot.ensures.0 in
@@ -56,13 +56,13 @@ go_down_of_parts-requires c =
       viewed = first-viewed h r c.if-at-eq0.true l.enough;
     }
 
-pub word_of-word-requires : goal.word_of-word-requires
+pub cells_of-word-requires : goal.cells_of-word-requires
 unfolding memory
-word_of-word-requires c = hand-row c.requires.lent c.requires.by_index.2 c.slot_of-slot.ensures.0 refl
+cells_of-word-requires c = hand-row c.requires.lent c.requires.by_index.2 c.slot_of-slot.ensures.0 refl
 
-pub commit_of_parts-requires : goal.commit_of_parts-requires
+pub commit-requires : goal.commit-requires
 unfolding memory
-commit_of_parts-requires c =
+commit-requires c =
     let l = c.requires.lent in
     let h = c.requires.by_index.2 in
     let r = c.slot_of-slot.ensures.0 in
@@ -74,33 +74,33 @@ commit_of_parts-requires c =
     }
 
 -- the last word in the sums
-pub turn_over_of_parts-requires : goal.turn_over_of_parts-requires
+pub turn_over-requires : goal.turn_over-requires
 unfolding memory
-turn_over_of_parts-requires c =
+turn_over-requires c =
     let l = c.requires.lent in
     let h = c.requires.by_index.2 in
     let r = c.slot_of-slot.ensures.0 in
     let n = c.if-at-eq0.false in
-    let f = c.commit_of_parts.ensures in
-    let summed = commit-seen h.hand l.enough r h.valid (later-own h r n) _ _ c.word_of-word.ensures f.step_seen in
+    let f = c.commit.ensures in
+    let summed = commit-seen h.hand l.enough r h.valid (later-own h r n) _ _ c.cells_of-word.ensures.word f.step_seen in
     record {
       has_arrays = (f.has_arrays_2.0, hand-row l h r f.has_arrays_2.1.size, (later-heights h r n).1);
       viewed = record { others = away h.hand; view = committed h.hand; seen = summed; met = committed-turning h r n };
     }
 
 -- and the values are turned
-pub go_down_of_parts-requires-else-at-eq0 : goal.go_down_of_parts-requires-else-at-eq0
+pub go_down-requires-else-at-eq0 : goal.go_down-requires-else-at-eq0
 unfolding memory StepSeen
-go_down_of_parts-requires-else-at-eq0 c =
+go_down-requires-else-at-eq0 c =
     let a = c.args in
     let l = c.requires.lent in
     let h = c.requires.by_index.2 in
     let r = c.slot_of-slot.ensures.0 in
     let n = c.if-at-eq0.false in
     let k = later-heights h r n in
-    let f = c.commit_of_parts.ensures in
-    let g = c.turn_over_of_parts.ensures in
-    let summed = commit-seen h.hand l.enough r h.valid (later-own h r n) _ _ c.word_of-word.ensures f.step_seen in
+    let f = c.commit.ensures in
+    let g = c.turn_over.ensures in
+    let summed = commit-seen h.hand l.enough r h.valid (later-own h r n) _ _ c.cells_of-word.ensures.word f.step_seen in
     record {
       has_arrays = (g.has_arrays_2.0, hand-row l h r (g.has_arrays_2.1.size ∙ f.has_arrays_2.1.size), k.2, omega (arith, k.1));
       viewed =
@@ -112,59 +112,54 @@ go_down_of_parts-requires-else-at-eq0 c =
           };
     }
 
--- an array for the block's word
-pub claim_of_parts-requires : goal.claim_of_parts-requires
+-- where the ways join, the path is at its next block
+gone : (c : Joined-at-eq0) → let a = c.args in
+    Gone a.layout.m a.paths a.layout.arrays a.e c.slot_of-slot.result a.last a.at (contents a.memory.now) (contents c.if-at-eq0.memory)
 unfolding memory
-claim_of_parts-requires c =
-    let a = c.args in
+gone c =
     let l = c.requires.lent in
+    let r = c.slot_of-slot.ensures.0 in
+    elim c.if-at-eq0.branch [
+      | then-at-eq0 w ↦ rw w.memory-is (gone-first r w.if-at-eq0.true l.enough w.go_down.ensures.has_arrays_2 w.go_down.ensures.step_seen)
+      | else-at-eq0 w ↦
+          let n = w.if-at-eq0.false in
+          let f = w.commit.ensures in
+          let g = w.turn_over.ensures in
+          let d = w.go_down-else-at-eq0.ensures in
+          let y = contents w.commit.new.memory in
+          rw w.memory-is
+          (gone-later y (contents w.turn_over.new.memory) r n (λ es vs h. commit-seen h.hand l.enough r h.valid (later-own h r n) y _ w.cells_of-word.ensures.word f.step_seen)
+          f.has_arrays_2.1 g.step_seen g.has_arrays_2.1 d.step_seen d.has_arrays_2)
+    ]
+
+-- an array for the block's word
+pub claim-requires : goal.claim-requires
+unfolding memory
+claim-requires c =
     let h = c.requires.by_index.2 in
     let r = c.slot_of-slot.ensures.0 in
-    let gone : Gone a.m a.paths a.arrays a.e c.slot_of-slot.result a.last a.at (memory a.rows.now a.holders.now a.numbers.now a.bytes.now)
-    (memory c.if-at-eq0.rows c.if-at-eq0.holders c.if-at-eq0.numbers c.if-at-eq0.bytes) =
-    elim c.if-at-eq0.branch [
-      | then-at-eq0 w ↦ rw (w.rows-is, w.holders-is, w.numbers-is, w.bytes-is) (gone-first r w.if-at-eq0.true l.enough w.go_down_of_parts.ensures.has_arrays_2 w.go_down_of_parts.ensures.step_seen)
-      | else-at-eq0 w ↦
-          let n = w.if-at-eq0.false in
-          let f = w.commit_of_parts.ensures in
-          let g = w.turn_over_of_parts.ensures in
-          let d = w.go_down_of_parts-else-at-eq0.ensures in
-          let y = memory w.commit_of_parts.new.rows w.commit_of_parts.new.holders a.numbers.now w.commit_of_parts.new.bytes in
-          let z = memory w.turn_over_of_parts.new.rows w.turn_over_of_parts.new.holders w.turn_over_of_parts.new.numbers w.commit_of_parts.new.bytes in
-          rw (w.rows-is, w.holders-is, w.numbers-is, w.bytes-is)
-          (gone-later y z r n (λ es vs h. commit-seen h.hand l.enough r h.valid (later-own h r n) y _ w.word_of-word.ensures f.step_seen) f.has_arrays_2.1 g.step_seen g.has_arrays_2.1 d.step_seen d.has_arrays_2)
-    ] in
+    let g = gone (goal.at.claim-requires c).Joined-at-eq0 in
     record {
-      has_arrays = (gone.has, hand-row l h r gone.only.size, (next-heights h r).1);
-      viewed = record { others = away h.hand; view = reached h.hand; seen = gone.seen h; met = reached-claimable h r };
+      has_arrays = (g.has, hand-row c.requires.lent h r g.only.size, (next-heights h r).1);
+      viewed = record { others = away h.hand; view = reached h.hand; seen = g.seen h; met = reached-claimable h r };
     }
 
-pub returns : goal.returns
+pub returns-clause-lent_2 : goal.returns-clause-lent_2
 unfolding memory
-returns c =
+returns-clause-lent_2 c =
     let a = c.args in
     let l = c.requires.lent in
-    let r = c.slot_of-slot.ensures.0 in
-    let f = c.claim_of_parts in
-    let gone : Gone a.m a.paths a.arrays a.e c.slot_of-slot.result a.last a.at (memory a.rows.now a.holders.now a.numbers.now a.bytes.now)
-    (memory c.if-at-eq0.rows c.if-at-eq0.holders c.if-at-eq0.numbers c.if-at-eq0.bytes) =
-    elim c.if-at-eq0.branch [
-      | then-at-eq0 w ↦ rw (w.rows-is, w.holders-is, w.numbers-is, w.bytes-is) (gone-first r w.if-at-eq0.true l.enough w.go_down_of_parts.ensures.has_arrays_2 w.go_down_of_parts.ensures.step_seen)
-      | else-at-eq0 w ↦
-          let n = w.if-at-eq0.false in
-          let f = w.commit_of_parts.ensures in
-          let g = w.turn_over_of_parts.ensures in
-          let d = w.go_down_of_parts-else-at-eq0.ensures in
-          let y = memory w.commit_of_parts.new.rows w.commit_of_parts.new.holders a.numbers.now w.commit_of_parts.new.bytes in
-          let z = memory w.turn_over_of_parts.new.rows w.turn_over_of_parts.new.holders w.turn_over_of_parts.new.numbers w.commit_of_parts.new.bytes in
-          rw (w.rows-is, w.holders-is, w.numbers-is, w.bytes-is)
-          (gone-later y z r n (λ es vs h. commit-seen h.hand l.enough r h.valid (later-own h r n) y _ w.word_of-word.ensures f.step_seen) f.has_arrays_2.1 g.step_seen g.has_arrays_2.1 d.step_seen d.has_arrays_2)
-    ] in
-    let only = ids-on a.rows.now c.if-at-eq0.rows gone.only f.ensures.has_arrays_2.1 in
-    record {
-      lent_2 = (
-        record { few = l.few; rows = omega (arith, l.rows, only.size); has = f.ensures.has_arrays_2.0; enough = l.enough },
-        subst (λ (k : ℕ). IdsOnly a.m k a.rows.now f.new.rows) r only,
-      );
-      by_index_2 = λ es vs h. claimed-stands h r _ _ l.has.deep (gone.seen h) f.ensures.step_seen only;
-    }
+    let f = c.claim in
+    let g = gone (goal.at.returns-clause-lent_2 c).Joined-at-eq0 in
+    let only = ids-on a.memory.now.rows.now c.if-at-eq0.memory.rows.now g.only f.ensures.has_arrays_2.1 in (
+      record { few = l.few; rows = omega (arith, l.rows, only.size); has = f.ensures.has_arrays_2.0; enough = l.enough },
+      subst (λ (k : ℕ). IdsOnly a.layout.m k a.memory.now.rows.now f.new.memory.rows.now) c.slot_of-slot.ensures.0 only,
+    )
+
+pub returns-clause-by_index_2 : goal.returns-clause-by_index_2
+unfolding memory
+returns-clause-by_index_2 c = λ es vs h.
+    let f = c.claim.ensures in
+    let g = gone (goal.at.returns-clause-by_index_2 c).Joined-at-eq0 in
+    claimed-stands h c.slot_of-slot.ensures.0 _ _ c.requires.lent.has.deep (g.seen h) f.step_seen
+    (ids-on c.args.memory.now.rows.now c.if-at-eq0.memory.rows.now g.only f.has_arrays_2.1)
