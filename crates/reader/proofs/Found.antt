@@ -1,4 +1,4 @@
--- The words that the reader finds: each is the word of its setting, one of those that the block has; the next block always has a nearest word; and
+-- The words that the reader finds: each is the word of its setting; the next block always has a nearest word; and
 -- with a word found the path's total stays within range. A word found matches the machine's, so that the total is the costs of the machine's
 -- bits. Assumes nothing.
 use mathlib.Core.Path.{◌≡◌, refl, sym, ap, ◌∙◌, subst}
@@ -52,13 +52,6 @@ module _ (test : Word → Bool) (B : Book) (vs : List ℤ) (x : Parities) (b : �
       Made : Word → Type 0
       Made z = z ≡ word_of B vs x b z.setting
 
-  pub made-few : y.setting < 2 ^ free_count (kinds_of B b)
-  unfolding nearest_with word_of May
-  made-few = subst (May Few) e (first-may nearer test (word_of B vs x b) Few (2 ^ free_count (kinds_of B b)) (λ w l _. l))
-    where
-      Few : Word → Type 0
-      Few z = z.setting < 2 ^ free_count (kinds_of B b)
-
   pub made-number : y.number ≡ number (transform (block_at B b).j (fill_block B x b y.setting).bits)
   unfolding word_of
   made-number = ap (λ (z : Word). z.number) word_made
@@ -73,10 +66,6 @@ module _ (B : Book) (vs : List ℤ) (x : Parities) (b : ℕ) (y : Word) where
       y.number ≡ number (transform (block_at B b).j (fill_block B x b y.setting).bits)
   unfolding next_after
   next-number own e = made-number _ B vs x b y e
-
-  pub next-few : (own : Word) → next_after own B vs x b ≡ some y → y.setting < 2 ^ free_count (kinds_of B b)
-  unfolding next_after
-  next-few own e = made-few _ B vs x b y e
 
 -- the next block of p has a nearest word, at what p sees of it among others, and the total with that word is within range
 abbrev pub MoveFound : Book → List (ℕ → ℕ) → Arrays → Path → Type 0

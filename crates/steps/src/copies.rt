@@ -37,7 +37,7 @@ fn fork(
     number: u32,
     kept: &mut [Option<Candidate>],
 )
-    requires lent { Lent layout.m paths layout.arrays (contents memory.old) × (queued + 2 ≤ paths) × (number < 32768) × Cells paths kept.old }
+    requires lent { Lent layout.m paths layout.arrays (contents memory.old) × (to < paths) × (queued + 2 ≤ paths) × (number < 32768) × Cells paths kept.old }
     requires by_index { (b : ℕ) × (blocks ≡ suc b) × (vs : List ℕ) × Forking layout.m paths layout.arrays (contents memory.old) e to (queue_of queue.old.order queued) vs last found b }
     requires rising { Rising queue.old.order queued }
     ensures lent_2 { Lent layout.m paths layout.arrays (contents memory.new) × (queue.new.vacant ≡ queue.old.vacant) × Cells paths kept.new }

@@ -3,7 +3,7 @@ ghost use Rattle.std.specs.Prelude.{◌≡◌, List, ◌∷◌, ℕ, ◌+◌, �
 ghost use Rattle.queue.specs.Queue.{room_for};
 ghost use Rattle.order.specs.Entries.{queue_of, Rising};
 ghost use Rattle.sharing.specs.Sharing.{Held, Rows};
-ghost use Rattle.standing.specs.Seen.{contents, SameMemory};
+ghost use Rattle.standing.specs.Seen.{contents, SameMemory, HoldersOnly};
 ghost use Rattle.standing.specs.Standing.{Stands, InHand};
 
 use crate::Queue;
@@ -26,7 +26,7 @@ pub fn crowd(memory: &mut Memory, queue: &mut Queue, m: usize, paths: usize, que
         × Stands c.book paths arrays (contents memory.new) (e ∷ queue_of queue.new.order result) (queue_of queue.new.vacant (paths - (result + 1)))
         c.arrays (c.taken ∷ room_for paths c.rest) }
     ensures rising_2 { Rising queue.new.order result }
-    ensures others_as_before { (memory.new.rows.now ≡ memory.old.rows.now) × (memory.new.numbers.now ≡ memory.old.numbers.now) × (memory.new.bytes.now ≡ memory.old.bytes.now) }
+    ensures others_as_before { HoldersOnly memory.new memory.old }
     ensures same_memory { SameMemory memory.new memory.old }
 {
     if queued + 2 <= paths {

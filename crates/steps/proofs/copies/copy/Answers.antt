@@ -13,7 +13,7 @@ use Rattle.order.proofs.Queues.{queue-first, queue-length}
 use Rattle.standing.specs.Seen.{memory, contents}
 use Rattle.standing.proofs.Sizes.{slot-low}
 use Rattle.steps.specs.Steps.{Forking, Copying}
-use Rattle.steps.proofs.Forks.{lent-on}
+use Rattle.steps.proofs.Forks.{lent-on, fork-apart}
 use Rattle.steps.proofs.Nexts.{copy-low, copy-id, copy-searchable, copy-cost, copy-found, copy-none, copy-fork, copy_done}
 use Rattle.steps.proofs.copies.copy.Goals.{After-crowd-left}
 use Rattle.steps.proofs.copies.copy.Goals as goal
@@ -46,15 +46,6 @@ returns-then-not-found-clause-by_index_2 c = λ b o q.
 pub crowd-left-requires-clause-rows : goal.crowd-left-requires-clause-rows
 unfolding memory
 crowd-left-requires-clause-rows c = let l = c.requires.lent.0 in (l.rows, l.has.held, l.has.deep)
-
-pub fork-requires-clause-lent : goal.fork-requires-clause-lent
-unfolding memory
-fork-requires-clause-lent c =
-    let l = c.requires.lent.0 in
-    let has = l.has in
-    let f = c.crowd-left.ensures in
-    let others = f.others_as_before in
-    (lent-on l (ap length others.0) (record { deep = has.deep; many = has.many; held = f.held.0; numbers = rw others.1 has.numbers; bytes = rw others.2 has.bytes }), f.held.2, c.requires.le_paths.2, c.requires.lent.1)
 
 -- ---- once the queue is cut
 
@@ -89,6 +80,22 @@ forking c b o there =
     let f = c.crowd-left.ensures in
     let left = f.by_index_2 a.layout.arrays a.e o.hand c.requires.lent.0.has.many in
     copy-fork o (copy-found o c.other_word-found.ensures.nexts) there left.0 f.held.2 (rw (vacant-is c) at left.1)
+
+pub fork-requires-clause-lent : goal.fork-requires-clause-lent
+unfolding memory
+fork-requires-clause-lent c =
+    let l = c.requires.lent.0 in
+    let has = l.has in
+    let p = c.requires.by_index in
+    let f = c.crowd-left.ensures in
+    let others = f.others_as_before in
+    let apart = fork-apart (forking (goal.at.fork-requires-clause-lent c).After-crowd-left p.0 p.2 (not-false _ c.if-not-found.false)) in (
+      lent-on l (ap length others.0) (record { deep = has.deep; many = has.many; held = f.held.0; numbers = rw others.1 has.numbers; bytes = rw others.2 has.bytes }),
+      apart.1,
+      f.held.2,
+      c.requires.le_paths.2,
+      c.requires.lent.1,
+    )
 
 pub fork-requires-clause-by_index : goal.fork-requires-clause-by_index
 fork-requires-clause-by_index c =

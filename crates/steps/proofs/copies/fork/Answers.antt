@@ -37,8 +37,8 @@ entry-d-requires c =
     let o = c.requires.by_index.3 in (
       omega (arith, ints, c.score.ensures.1),
       omega (arith, c.requires.by_index.1, fork-blocks o),
-      c.requires.lent.2,
-      omega (arith, (fork-apart o).1, c.requires.lent.0.few),
+      c.requires.lent.3,
+      omega (arith, c.requires.lent.0.few),
     )
 
 pub share-requires-clause-held : goal.share-requires-clause-held
@@ -47,7 +47,7 @@ share-requires-clause-held c =
     let o = c.requires.by_index.3 in
     let l = c.requires.lent.0 in
     let low = fork-slot o in
-    let to = (fork-apart o).1 in
+    let to = c.requires.lent.1 in
     let at = c.slot_of-slot.ensures.0 in
     (l.has.held, l.has.deep, (omega (arith, low, l.few, at), omega (arith, low, l.rows, at)), (omega (arith, to, l.few), omega (arith, to, l.rows)))
 
@@ -62,7 +62,7 @@ pub put-requires : goal.put-requires
 unfolding memory
 put-requires c =
     let l = c.requires.lent.0 in
-    let to = (fork-apart c.requires.by_index.3).1 in
+    let to = c.requires.lent.1 in
     (omega (arith, to, l.few), omega (arith, to, l.rows, c.share.ensures.held_2.1))
 
 -- a state that memory stands for where the call began
@@ -90,7 +90,7 @@ unfolding memory
 claim-requires-clause-has_arrays c =
     let o = c.requires.by_index.3 in
     let l = c.requires.lent.0 in
-    let to = (fork-apart o).1 in
+    let to = c.requires.lent.1 in
     (has-held c.put.new.rows l.has c.share.ensures.held_2.0, (omega (arith, to, l.few), omega (arith, to, l.rows, c.put.ensures.size, c.share.ensures.held_2.1)), fork-place o)
 
 pub claim-requires-clause-viewed : goal.claim-requires-clause-viewed
@@ -100,17 +100,11 @@ claim-requires-clause-viewed c =
     let d = (goal.at.claim-requires-clause-viewed c).After-put in
     fork-viewed p.3 c.requires.lent.0.enough c.args.number (entry-is d p.0 p.2 p.3 p.1) (written d p.0 p.2 p.3 p.1)
 
-pub bounds-kept-to : goal.bounds-kept-to
-bounds-kept-to c = omega (arith, (fork-apart c.requires.by_index.3).1, c.requires.lent.3)
-
-pub offset_bounds-kept-to : goal.offset_bounds-kept-to
-offset_bounds-kept-to c = omega (arith, (fork-apart c.requires.by_index.3).1, c.requires.lent.0.few)
-
 pub returns-clause-lent_2 : goal.returns-clause-lent_2
 unfolding memory
 returns-clause-lent_2 c =
     let f = c.claim.ensures.has_arrays_2 in
-    (lent-on c.requires.lent.0 (omega (arith, f.1.size, c.put.ensures.size, c.share.ensures.held_2.1)) f.0, refl, simp length-set c.requires.lent.3)
+    (lent-on c.requires.lent.0 (omega (arith, f.1.size, c.put.ensures.size, c.share.ensures.held_2.1)) f.0, refl, simp length-set c.requires.lent.4)
 
 pub returns-clause-by_index_2 : goal.returns-clause-by_index_2
 unfolding memory
@@ -121,5 +115,5 @@ returns-clause-by_index_2 c = λ b vs o q.
     let enough = c.requires.lent.0.enough in
     let e = entry-is d b vs o q in (
       rw c.insert.ensures.order_len_2.1 (fork-queued o enough c.args.number e (written d b vs o q) f.has_arrays_2.1 f.step_seen),
-      λ k. rw c.insert.ensures.order_len_2.1 (fork-kepts o enough c.args.number e (one_kept a.to a.kept.now c.then_some.result) (keeps_set a.kept.now (omega (arith, (fork-apart o).1, c.requires.lent.3)) (λ w s. fork-known o w (sym c.then_some.ensures ∙ s))) k),
+      λ k. rw c.insert.ensures.order_len_2.1 (fork-kepts o enough c.args.number e (one_kept a.to a.kept.now c.then_some.result) (keeps_set a.kept.now (omega (arith, c.requires.lent.4)) (λ w s. fork-known o w (sym c.then_some.ensures ∙ s))) k),
     )
