@@ -24,6 +24,7 @@ fn copy_input(bytes: &[u8], count: usize, input: &mut [u8]) -> usize
 // So many bytes of a value after the input, as many as fit: the whole length.
 fn pad(input: &mut [u8], size: usize, count: usize, value: u8) -> usize
     requires { size ≤ length input.old }
+    ensures { (size ≤ result) × (result ≤ length input.old) }
 {
     let end = size + count.min(input.len() - size);
     input[size..end].fill(value);
