@@ -11,10 +11,13 @@
 #include <stdlib.h>
 #include <time.h>
 
-typedef void search(const int32_t *numbers, size_t count, size_t at, const uint8_t *kinds, const uint32_t *terms, size_t start, uint32_t j,
-                    uint32_t parities, uint32_t *words, uint32_t *sums, uint32_t *out);
+/* Room for the loader's tables (6,144 bytes) and for a search (2,560), which only the proved code reads and writes. */
+typedef struct {
+    uint64_t room[1024];
+} tables;
 
-search measured_pair;
+void measured_tables(const uint8_t *kinds, const uint32_t *terms, tables *made);
+void measured_pair(const int32_t *values, size_t count, const tables *by, size_t start, uint32_t j, uint32_t parities, tables *scratch, uint32_t *out);
 
 enum { BLOCKS = 512, LONGEST = 32, MOST = 8, TURNS = 15, ROUNDS = 20 };
 
@@ -22,7 +25,8 @@ enum { BLOCKS = 512, LONGEST = 32, MOST = 8, TURNS = 15, ROUNDS = 20 };
 
 static int32_t numbers[BLOCKS * LONGEST];
 static uint8_t kinds[512];
-static uint32_t terms[512], words[256], sums[128];
+static uint32_t terms[512];
+static tables loaded, scratch;
 static uint32_t expected[BLOCKS], following[BLOCKS], out[8];
 
 static uint32_t state = 20261115;
@@ -161,6 +165,7 @@ INLINE int measure(const char *name, const uint32_t *rows, uint32_t parities, ui
     double plain[TURNS], table[TURNS], proved[TURNS];
     const unsigned length = 1u << j, settings = 1u << free;
     int differ = 0;
+    measured_tables(kinds, terms, &loaded);
     for (unsigned b = 0; b < BLOCKS; b++) {
         uint32_t best = plain_nearest(numbers + b * length, rows, first, length, settings, 0, 0);
         following[b] = plain_nearest(numbers + b * length, rows, first, length, settings, 1, best);
@@ -177,7 +182,7 @@ INLINE int measure(const char *name, const uint32_t *rows, uint32_t parities, ui
         double n = now();
         for (unsigned r = 0; r < ROUNDS; r++)
             for (unsigned b = 0; b < BLOCKS; b++) {
-                measured_pair(numbers, BLOCKS * LONGEST, b * length, kinds, terms, 0, j, parities, words, sums, out);
+                measured_pair(numbers + b * length, length, &loaded, 0, j, parities, &scratch, out);
                 differ |= out[0] != expected[b] || out[4] != following[b];
             }
         double z = now();
