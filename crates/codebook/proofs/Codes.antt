@@ -1,7 +1,7 @@
 -- The codes of kinds and the sets of ties, as kinds are put last or the last tie changes. A set of ties stays below the bit of the next tie,
 -- so the last tie's bit is a set's highest. By induction on the kinds. Assumes nothing.
 use mathlib.Core.Path.{◌≡◌, refl, sym, ap, ◌∙◌}
-use mathlib.Core.Bool.{Bool, cond, ◌||◌, or-false, or_assoc}
+use mathlib.Core.Bool.{Bool, false, cond, ◌||◌, or-false, or_assoc}
 use mathlib.Core.List.{List, [], ◌∷◌, ◌++◌}
 use Prim.Native.Nat.{ℕ, zero, suc, ◌+◌, ◌-◌, ◌^◌, ◌≤◌, ◌<◌}
 use native.Mathlib.Nat.{two-pow-succ, add-suc, suc-add, add-zero, zero-add, one-mul}
@@ -10,11 +10,14 @@ use lib.ListN.{length, get_or, take, drop, set, replicate, length-append, drop_o
 use lib.Seq.{split_at, set_split, get_or_at}
 use lib.Bits.{bit_or, or_shifted_r}
 use lib.Dec.{eqb}
+use borrow.Author.Tests.{ne_eqb}
 use Rattle.laws.proofs.Tests.{cond-case}
+use Rattle.std.specs.Prelude.{count_by}
+use Rattle.std.proofs.lemmas.List.Sums.{sum_by-cons}
 use Rattle.codebook.specs.Book.{Kind, free, frozen, tied, tied_count, free_count}
 use Rattle.codebook.specs.Loading.{member, terms_of, last_terms}
 use Rattle.codebook.specs.Tables.{kind_codes, tie_set}
-use Rattle.codebook.specs.Progress.{kind_of, free_codes}
+use Rattle.codebook.specs.Progress.{kind_of}
 use Rattle.codebook.proofs.Indices.{tied-append}
 
 -- ---- codes
@@ -40,18 +43,22 @@ codes-run t (suc n) zero h = ap (λ l. 0 ∷ l) (codes-run t n zero h)
 codes-run t (suc n) (suc zero) h = ap (λ l. 1 ∷ l) (codes-run t n (suc zero) h)
 codes-run t (suc n) (suc (suc code)) h = absurd (omega arith)
 
-codes-free : (t n : ℕ) (ks : List Kind) → free_codes (take n (kind_codes t ks)) ≡ free_count (take n ks)
-unfolding kind_codes free_codes free_count
+-- one code more is counted where it is that of a free index
+counted : (c : ℕ) (cs : List ℕ) → count_by (λ x. eqb x 0) (c ∷ cs) ≡ cond (eqb c 0) 1 0 + count_by (λ x. eqb x 0) cs
+counted c cs = sum_by-cons (λ x. cond (eqb x 0) 1 0) c cs
+
+codes-free : (t n : ℕ) (ks : List Kind) → count_by (λ c. eqb c 0) (take n (kind_codes t ks)) ≡ free_count (take n ks)
+unfolding kind_codes free_count
 codes-free t zero ks = refl
 codes-free t (suc n) [] = refl
-codes-free t (suc n) (free ∷ ks) = ap suc (codes-free t n ks)
-codes-free t (suc n) (frozen ∷ ks) = codes-free t n ks
+codes-free t (suc n) (free ∷ ks) = omega (arith, counted 0 (take n (kind_codes t ks)), codes-free t n ks)
+codes-free t (suc n) (frozen ∷ ks) = omega (arith, counted 1 (take n (kind_codes t ks)), codes-free t n ks)
 codes-free t (suc n) (tied ts ∷ ks) =
-    let e : 2 + t ≡ suc (suc t) = omega arith in
-    rw e (codes-free (suc t) n ks)
+    let other : eqb (2 + t) 0 ≡ false = ne_eqb (2 + t) 0 (omega arith) in
+    omega (arith, rw other at (counted (2 + t) (take n (kind_codes (suc t) ks))), codes-free (suc t) n ks)
 
 -- the free codes of a part are the free kinds of it
-pub codes-part : (t a n : ℕ) (ks : List Kind) → free_codes (take n (drop a (kind_codes t ks))) ≡ free_count (take n (drop a ks))
+pub codes-part : (t a n : ℕ) (ks : List Kind) → count_by (λ c. eqb c 0) (take n (drop a (kind_codes t ks))) ≡ free_count (take n (drop a ks))
 unfolding kind_codes
 codes-part t zero n ks = codes-free t n ks
 codes-part t (suc a) n [] = codes-free t n []

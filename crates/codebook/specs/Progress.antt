@@ -1,6 +1,6 @@
 -- What the loader's own functions promise to each other: what is read at a place of a book, when the loader's numbers and tables stand for
 -- what is loaded so far, and what a command comes to. Assumes nothing.
-use Rattle.std.specs.Prelude.{◌≡◌, Bool, cond, true, false, ◌&&◌, ◌||◌, List, [], ◌∷◌, ◌++◌, map, ℕ, zero, suc, ◌+◌, ◌-◌, ◌^◌, ◌%◌, ◌<◌, ◌≤◌, length, get_or, take, drop, ℤ, nat_abs, T, leb, eqb, Option as Maybe, Some, None, Result, Ok, Err}
+use Rattle.std.specs.Prelude.{◌≡◌, Bool, cond, true, false, ◌&&◌, ◌||◌, List, [], map, ℕ, zero, suc, ◌+◌, ◌-◌, ◌^◌, ◌%◌, ◌<◌, length, get_or, take, drop, ℤ, nat_abs, T, leb, ltb, eqb, not, Option as Maybe, Some, None, Result, Ok, Err}
 use Rattle.std.proofs.Math.Option.{Option, none, some}
 use Rattle.laws.specs.Lists.{tab, over}
 use Rattle.codebook.specs.declared.Refusal.{Refusal}
@@ -49,20 +49,20 @@ verdict s c whole = unless (placed s (byte_of c)) Misplaced (unless (is_end c ||
 
 -- ---- what the numbers and tables stand for
 
--- the numbers keep within the tables
-pub record Safe (p : Progress) : Type 0 where
-  pub small : p.n ≤ 512
-  pub within : p.filled ≤ p.n
-  pub few : p.ties ≤ 32
-  pub tie : T p.tying → 0 < p.ties
-  pub room : p.blocks ≤ p.covered
-  pub reach : p.covered ≤ p.n
-  pub free : p.free ≤ p.covered
+-- a is m and b is n, and no index is loaded
+pub record Begun (a b : ℕ) (p : Progress) : Type 0 where
+  pub m : p.m ≡ a
+  pub n : p.n ≡ b
+  pub filled : p.filled ≡ 0
+  pub ties : p.ties ≡ 0
+  pub tying : p.tying ≡ false
+  pub free : p.free ≡ 0
+  pub blocks : p.blocks ≡ 0
+  pub covered : p.covered ≡ 0
 
 -- The numbers are those of what is loaded: k is counted as far as the blocks go. After a tie or a term the last kind is tied and there is no
 -- block; where there is a block, all indices are filled.
 pub record CountsLoaded (p : Progress) (s : Loading) : Type 0 where
-  pub safe : Safe p
   pub m : p.m ≡ s.m
   pub n : p.n ≡ total s
   pub filled : p.filled ≡ length s.kinds
@@ -77,18 +77,9 @@ pub record CountsLoaded (p : Progress) (s : Loading) : Type 0 where
   pub free : p.free ≡ free_count (take s.covered s.kinds)
   pub order : 0 < length s.blocks → length s.kinds ≡ total s
 
--- the arrays are as long as their types say
-pub record Sized (t : Tables) : Type 0 where
-  pub kinds : length t.kinds ≡ 512
-  pub terms : length t.terms ≡ 512
-  pub heights : length t.heights ≡ 512
-  pub starts : length t.starts ≡ 512
-  pub biases : length t.biases ≡ 512
-
 -- the tables t, which were old at first, are those of what is loaded, as far as it goes
 pub record HoldsLoaded (p : Progress) (t old : Tables) (s : Loading) : Type 0 where
   pub counts : CountsLoaded p s
-  pub sized : Sized old
   pub kinds : t.kinds ≡ over (kind_codes 0 s.kinds) old.kinds
   pub terms : t.terms ≡ over (tab (total s) (tie_set 0 s.kinds)) old.terms
   pub heights : t.heights ≡ over (map (λ (x : Block). x.j) s.blocks) old.heights
@@ -101,21 +92,36 @@ shape_at p = record { m = p.m; n = p.n; k = p.free; blocks = p.blocks }
 
 -- ---- what a command comes to
 
--- a step where nothing is refused: the end or not, with numbers that have the property P
-unfoldable pub Goes : Bool → (Progress → Type 0) → Result Step Refusal → Type 0
-Goes true P x = (q : Progress) × (x ≡ Ok (Ended q)) × P q
-Goes false P x = (q : Progress) × (x ≡ Ok (Next q)) × P q
+-- whether a command may stand after what these numbers count
+unfoldable pub stands : Progress → Command → Bool
+stands p (Length m) = eqb p.m 0
+stands p (Free count) = ltb p.filled p.n
+stands p (Zero count) = ltb p.filled p.n
+stands p (Tie i) = ltb p.filled p.n
+stands p (Term i) = p.tying
+stands p (NextBlock j bias) = eqb p.filled p.n && ltb p.covered p.n
+stands p End = not (eqb p.m 0) && eqb p.covered p.n
 
--- a step: the refusal, where there is one, and then K
-unfoldable pub Judged : Option Refusal → Bool → Type 0 → (Progress → Type 0) → Result Step Refusal → Type 0
-Judged none end K P x = Goes end P x
-Judged (some r) end K P x = (x ≡ Err r) × K
+-- the refusal, where there is one, and then K; else an answer that has the property P
+unfoldable pub Settled : {A : Type 0} → Option Refusal → Type 0 → (A → Type 0) → Result A Refusal → Type 0
+Settled {A} none K P x = (y : A) × (x ≡ Ok y) × P y
+Settled {A} (some r) K P x = (x ≡ Err r) × K
 
--- A function's promise: at the numbers p, the command c and its operands, whole or cut, are judged, and the tables t become u, the same where it is
+-- A function's promise: at the numbers p, a command that may stand is settled by its faults, and the tables t become u, the same where it is
 -- refused; whatever is loaded so far, and whatever the tables first held.
+abbrev pub Grows : Progress → Command → Tables → Tables → Result Progress Refusal → Type 0
+Grows p c t u x =
+    (old : Tables) (s : Loading) → HoldsLoaded p t old s → Settled (fault s c) (u ≡ t) (λ (q : Progress). HoldsLoaded q u old (next s c)) x
+
+-- a step: the end or not, with numbers that have the property P
+unfoldable pub Goes : Bool → (Progress → Type 0) → Step → Type 0
+Goes true P y = (q : Progress) × (y ≡ Ended q) × P q
+Goes false P y = (q : Progress) × (y ≡ Next q) × P q
+
+-- A function's promise: the same of any command and its operands, whole or cut.
 abbrev pub Obeys : Progress → Command → Bool → Tables → Tables → Result Step Refusal → Type 0
 Obeys p c whole t u x =
-    (old : Tables) (s : Loading) → HoldsLoaded p t old s → Judged (verdict s c whole) (is_end c) (u ≡ t) (λ q. HoldsLoaded q u old (next s c)) x
+    (old : Tables) (s : Loading) → HoldsLoaded p t old s → Settled (verdict s c whole) (u ≡ t) (Goes (is_end c) (λ (q : Progress). HoldsLoaded q u old (next s c))) x
 
 -- the command of a run of indices with this code, 0 free or 1 zero
 unfoldable pub run_command : ℕ → ℕ → Command
@@ -126,27 +132,7 @@ run_command (suc code) count = Zero count
 unfoldable pub block_fits : ℕ → ℕ → ℕ → ℤ → Bool
 block_fits start n j bias = leb j 5 && eqb (start % 2 ^ j) 0 && leb (start + 2 ^ j) n && leb (nat_abs bias) 1048576
 
--- ---- parts of the tables
-
--- the five tables as one record
-abbrev pub tables : List ℕ → List ℕ → List ℕ → List ℕ → List ℤ → Tables
-tables kinds terms heights starts biases = record { kinds = kinds; terms = terms; heights = heights; starts = starts; biases = biases }
-
--- tables with other kinds and sets of ties
-abbrev pub with_indices : Tables → List ℕ → List ℕ → Tables
-with_indices t kinds terms = tables kinds terms t.heights t.starts t.biases
-
--- after: what before becomes as the values vs are written behind the first ones, whatever these are
-unfoldable pub Extends : {A : Type 0} → List A → List A → ℕ → List A → Type 0
-Extends {A} before after from vs = (xs old : List A) → length xs ≡ from → length old ≡ 512 → before ≡ over xs old → after ≡ over (xs ++ vs) old
-
 -- the kind of a code below 2
 unfoldable pub kind_of : ℕ → Kind
 kind_of zero = free
 kind_of (suc c) = frozen
-
--- how many of these codes are those of free indices
-unfoldable pub free_codes : List ℕ → ℕ
-free_codes [] = 0
-free_codes (zero ∷ cs) = suc (free_codes cs)
-free_codes (suc c ∷ cs) = free_codes cs

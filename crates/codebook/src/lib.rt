@@ -3,8 +3,7 @@
 
 #![tactic(auto)]
 
-ghost use Rattle.std.specs.Prelude.{◌≡◌};
-ghost use Rattle.codebook.specs.Tables.{empty};
+ghost use Rattle.std.specs.Prelude.{◌≡◌, ◌<◌, ◌≤◌, IsTrue};
 
 // Why a call is refused: document 01, "Refusal table".
 #[derive(Clone, Copy, Debug, PartialEq, Eq)]
@@ -62,6 +61,13 @@ pub struct Shape {
     pub blocks: u32,
 }
 
+// The codes of the kinds of indices: free, zero, and the first tie, the next ones following.
+pub const FREE: u8 = 0;
+
+pub const ZERO: u8 = 1;
+
+pub const TIED: u8 = 2;
+
 // What the loader fills: of each index the code of its kind and the set of the ties that it is a term of; of each block its j, its first index and its
 // bias. specs/Tables.antt says what they are for a book.
 #[derive(Drop)]
@@ -74,6 +80,8 @@ pub struct Tables {
 }
 
 impl Tables {
+    ghost use Rattle.codebook.specs.Tables.{empty};
+
     // Tables that nothing is loaded into yet.
     pub fn empty() -> Tables
         ensures { result ≡ empty }
@@ -109,6 +117,34 @@ pub struct Progress {
     pub free: u32,
     pub blocks: u32,
     pub covered: u32,
+    // All of them keep within the tables, and a tie or a term belongs to a tie.
+    pub ghost small: { n ≤ 512 },
+    pub ghost within: { filled ≤ n },
+    pub ghost few: { ties ≤ 32 },
+    pub ghost tie: { IsTrue tying → 0 < ties },
+    pub ghost room: { blocks ≤ covered },
+    pub ghost reach: { covered ≤ n },
+    pub ghost most: { free ≤ covered },
+}
+
+impl Progress {
+    ghost use Rattle.codebook.specs.Progress.{Begun};
+
+    // Nothing is loaded yet.
+    pub fn start() -> Progress
+        ensures { Begun 0 0 result }
+    {
+        Progress {
+            m: 0,
+            n: 0,
+            filled: 0,
+            ties: 0,
+            tying: false,
+            free: 0,
+            blocks: 0,
+            covered: 0,
+        }
+    }
 }
 
 // What one command that is not refused comes to.

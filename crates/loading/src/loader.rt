@@ -30,17 +30,7 @@ pub fn load_tables(book: &[u8], tables: &mut Tables) -> Result<Shape, Refusal>
     ensures answer { result ≡ shape_of (load book.now) }
     ensures filled { Filled (load book.now) (loaded_up_to book.now) tables.old tables.new }
 {
-    let _first = tables.kinds[0];
-    let mut p = Progress {
-        m: 0,
-        n: 0,
-        filled: 0,
-        ties: 0,
-        tying: false,
-        free: 0,
-        blocks: 0,
-        covered: 0,
-    };
+    let mut p = Progress::start();
     let mut at = 0;
     while at < book.len() {
         let Some(

@@ -1,4 +1,3 @@
-pub mod Range
 pub mod Over
 pub mod Growing
 pub mod Verdicts

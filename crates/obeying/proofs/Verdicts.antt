@@ -1,79 +1,58 @@
--- Why a command is refused, and that it may not stand here, from the loader's numbers: each test of the definitions has the answer of the
--- code's. By cases on the command. Assumes nothing.
+-- What a command is judged by, from the loader's numbers: each test of the definitions has the answer of the code's. By cases on the command.
+-- Assumes nothing.
 use mathlib.Core.Path.{◌≡◌, refl, sym, ap, ◌∙◌, subst}
-use mathlib.Core.Bool.{Bool, true, false, not, ◌&&◌}
-use mathlib.Core.List.{[], ◌∷◌}
+use mathlib.Core.Bool.{Bool, true, false, not}
 use mathlib.Core.Option.{Option, none, some}
-use Prim.Native.Nat.{ℕ, zero, suc, ◌+◌, ◌-◌, ◌^◌, ◌%◌, ◌≤◌, ◌<◌}
+use mathlib.Core.Logic.{◌⊎◌, inl, inr}
+use Prim.Native.Nat.{ℕ, zero, suc, ◌+◌, ◌-◌, ◌^◌, ◌≤◌, ◌<◌}
 use native.Mathlib.Omega.{arith}
 use lib.ListN.{length, take, drop, replicate}
-use lib.IntN.{ℤ, nat_abs}
-use lib.Dec.{T, leb, eqb, leb→le}
-use borrow.Author.Tests.{eq-eqb, ne_eqb, lt-ltb, le-ltb, le-leb, lt-leb, eqb-false}
-use denote.Enum.Declared.{tag_of}
-use types.Run.{OneOf, miss}
-use Rattle.laws.proofs.Tests.{and_left, and_right}
+use lib.IntN.{ℤ}
+use lib.Dec.{leb, ltb, eqb}
+use borrow.Author.Tests.{eq-eqb, ne_eqb, lt-ltb, le-ltb, le-leb, lt-leb}
+use Rattle.std.specs.Prelude.{Result, Ok, Err}
+use Rattle.laws.proofs.Tests.{lt-or}
 use Rattle.codebook.specs.declared.Refusal.{Refusal}
-use Rattle.codebook.specs.declared.Refusal.TheVariants.{Truncated, Misplaced, OutOfRange, TooManyTied, TooManyFree}
+use Rattle.codebook.specs.declared.Refusal.TheVariants.{Truncated, Misplaced, OutOfRange, TooManyFree}
 use Rattle.codebook.specs.declared.Command.{Command}
 use Rattle.codebook.specs.declared.Command.TheVariants.{Length, Free, Zero, Tie, Term, Block as NextBlock, End}
 use Rattle.codebook.specs.declared.Progress.{Progress}
-use Rattle.std.specs.Prelude.{Ok, Err}
 use Rattle.codebook.specs.declared.Step.TheVariants.{Next, End as Ended}
 use Rattle.codebook.specs.Refusals.{unless}
 use Rattle.codebook.specs.Book.{free_count}
 use Rattle.codebook.specs.Loading.{Loading, total, last_terms, member, placed, fault, grown, next}
-use Rattle.codebook.specs.declared.Tables.{Tables}
-use Rattle.codebook.specs.Progress.{byte_of, is_end, verdict, CountsLoaded, Goes, Judged, run_command, block_fits, kind_of}
-use Rattle.codebook.specs.contracts.Command.{the_type}
+use Rattle.codebook.specs.Progress.{byte_of, is_end, verdict, CountsLoaded, stands, Settled, Goes, run_command, block_fits, kind_of}
 
--- ---- steps
+-- ---- what is settled
 
--- a refusal leaves the tables
-pub refuse : (t : Tables) (o : Option Refusal) (end : Bool) (P : Progress → Type 0) (r : Refusal) → o ≡ some r → Judged o end (t ≡ t) P (Err r)
-unfolding Judged
-refuse t o end P r e = rw e (refl, refl)
+module _ {A : Type 0} where
+  pub refuse : {K : Type 0} (o : Option Refusal) (P : A → Type 0) (r : Refusal) → o ≡ some r → K → Settled o K P (Err r)
+  unfolding Settled
+  refuse o P r e k = rw e (refl, k)
 
-pub proceed : (K : Type 0) (o : Option Refusal) (P : Progress → Type 0) (q : Progress) → o ≡ none → P q → Judged o false K P (Ok (Next q))
-unfolding Judged Goes
-proceed K o P q e h = rw e (q, refl, h)
+  pub proceed : (K : Type 0) (o : Option Refusal) (P : A → Type 0) (y : A) → o ≡ none → P y → Settled o K P (Ok y)
+  unfolding Settled
+  proceed K o P y e h = rw e (y, refl, h)
 
-pub ends : (K : Type 0) (o : Option Refusal) (P : Progress → Type 0) (q : Progress) → o ≡ none → P q → Judged o true K P (Ok (Ended q))
-unfolding Judged Goes
-ends K o P q e h = rw e (q, refl, h)
+  pub refused : (K : Type 0) (o : Option Refusal) (P : A → Type 0) (r : Refusal) → Settled o K P (Err r) → (o ≡ some r) × K
+  unfolding Settled
+  refused K none P r h = let e : ◌≡◌ {A = Result A Refusal} (Err r) (Ok h.0) = h.1 in absurd (let z : ◌≡◌ {A = ℕ} 0 1 = cc in omega arith)
+  refused K (some f) P r h = let e : ◌≡◌ {A = Result A Refusal} (Err r) (Err f) = h.0 in (let g : some f ≡ some r = cc in g, h.1)
 
--- ---- operands that are cut, or whole
+  pub proceeded : (K : Type 0) (o : Option Refusal) (P : A → Type 0) (y : A) → Settled o K P (Ok y) → (o ≡ none) × P y
+  unfolding Settled
+  proceeded K none P y h = let e : ◌≡◌ {A = Result A Refusal} (Ok y) (Ok h.0) = h.1 in (refl, subst P (let f : h.0 ≡ y = cc in f) h.2)
+  proceeded K (some f) P y h = let e : ◌≡◌ {A = Result A Refusal} (Ok y) (Err f) = h.0 in absurd (let z : ◌≡◌ {A = ℕ} 0 1 = cc in omega arith)
 
-pub operands-cut : (whole : Bool) (o : Option Refusal) → whole ≡ false → unless whole Truncated o ≡ some Truncated
-unfolding unless
-operands-cut whole o e = rw e
-
-pub operands-whole : (whole : Bool) (o : Option Refusal) → whole ≡ true → unless whole Truncated o ≡ o
-unfolding unless
-operands-whole whole o e = rw e
-
--- ---- verdicts
-
-module _ (s : Loading) (c : Command) (whole : Bool) where
-  pub verdict-misplaced : placed s (byte_of c) ≡ false → verdict s c whole ≡ some Misplaced
-  unfolding verdict unless
-  verdict-misplaced e = rw e
-
--- what a block that fits has passed
-pub fits-facts : (start n j : ℕ) (bias : ℤ) → block_fits start n j bias ≡ true → (j ≤ 5) × (start + 2 ^ j ≤ n)
-unfolding block_fits
-fits-facts start n j bias e =
-    let short = leb j 5 in
-    let aligned = eqb (start % 2 ^ j) 0 in
-    let within = leb (start + 2 ^ j) n in
-    let t = and_left (short && aligned && within) (leb (nat_abs bias) 1048576) (subst T (sym e) tt) in
-    (leb→le j 5 (and_left short aligned (and_left (short && aligned) within t)), leb→le (start + 2 ^ j) n (and_right (short && aligned) within t))
-
--- a run is not the end, and puts its kinds last
-pub run-goes : (s : Loading) (code count : ℕ) → is_end (run_command code count) ≡ false × next s (run_command code count) ≡ grown s (replicate count (kind_of code))
-unfolding is_end byte_of next run_command kind_of
+-- a run has the faults of free indices, and puts its kinds last
+pub run-goes : (s : Loading) (code count : ℕ) → fault s (run_command code count) ≡ fault s (Free count) × next s (run_command code count) ≡ grown s (replicate count (kind_of code))
+unfolding fault next run_command kind_of
 run-goes s zero count = (refl, refl)
 run-goes s (suc code) count = (refl, refl)
+
+twice : (b : Bool) → b ≡ not (not b)
+twice true = refl
+twice false = refl
 
 module _ (p : Progress) (s : Loading) (c : CountsLoaded p s) where
   -- ---- faults
@@ -81,10 +60,6 @@ module _ (p : Progress) (s : Loading) (c : CountsLoaded p s) where
   pub length-low : (m : ℕ) → m < 2 → fault s (Length m) ≡ some OutOfRange
   unfolding fault unless
   length-low m h = rw (lt-leb 2 m h)
-
-  pub length_high : (m : ℕ) → 2 ≤ m → 9 < m → fault s (Length m) ≡ some OutOfRange
-  unfolding fault unless
-  length_high m l h = rw (le-leb 2 m l, lt-leb m 9 h)
 
   pub length-fits : (m : ℕ) → 2 ≤ m → m ≤ 9 → fault s (Length m) ≡ none
   unfolding fault unless
@@ -105,10 +80,6 @@ module _ (p : Progress) (s : Loading) (c : CountsLoaded p s) where
   pub tie-later : (i : ℕ) → p.filled ≤ i → fault s (Tie i) ≡ some OutOfRange
   unfolding fault unless
   tie-later i h = rw (le-ltb i (length s.kinds) (omega (arith, c.filled)))
-
-  pub tie-many : (i : ℕ) → i < p.filled → 32 ≤ p.ties → fault s (Tie i) ≡ some TooManyTied
-  unfolding fault unless
-  tie-many i h m = rw (lt-ltb i (length s.kinds) (omega (arith, c.filled)), le-ltb s.ties 32 (omega (arith, c.ties)))
 
   pub tie-fits : (i : ℕ) → i < p.filled → p.ties < 32 → fault s (Tie i) ≡ none
   unfolding fault unless
@@ -136,118 +107,61 @@ module _ (p : Progress) (s : Loading) (c : CountsLoaded p s) where
 
   -- ---- places
 
-  begun : 0 < p.n → eqb s.m 0 ≡ false
-  unfolding total
-  begun l = ne_eqb s.m 0 (λ z. let e : p.n ≡ 0 = c.n ∙ rw z in omega arith)
+  -- before all are filled or covered the tests of equality fail
+  apart : (a b x y : ℕ) → a ≡ x → b ≡ y → a ≤ b → ltb a b ≡ not (eqb x y)
+  apart a b x y ea eb h = go (lt-or a b)
+    where
+      go : (a < b) ⊎ (b ≤ a) → ltb a b ≡ not (eqb x y)
+      go (inl l) = rw (lt-ltb a b l, ne_eqb x y (λ e. omega arith))
+      go (inr l) = rw (le-ltb a b l, eq-eqb x y (omega arith))
 
-  -- the tests of where a command stands
-  open-indices : p.filled < p.n → eqb (length s.kinds) (total s) ≡ false
-  open-indices l = ne_eqb (length s.kinds) (total s) (λ e. omega (arith, c.filled, c.n))
+  -- the numbers say where a command may stand
+  pub stands-placed : (k : Command) → stands p k ≡ placed s (byte_of k)
+  unfolding stands placed byte_of
+  stands-placed (Length m) = ap (λ (n : ℕ). eqb n 0) c.m ∙ twice (eqb s.m 0)
+  stands-placed (Free count) = apart p.filled p.n (length s.kinds) (total s) c.filled c.n p.within
+  stands-placed (Zero count) = apart p.filled p.n (length s.kinds) (total s) c.filled c.n p.within
+  stands-placed (Tie i) = apart p.filled p.n (length s.kinds) (total s) c.filled c.n p.within
+  stands-placed (Term i) = c.tying
+  stands-placed (NextBlock j bias) = rw (apart p.covered p.n s.covered (total s) c.covered c.n p.reach, c.filled, c.n)
+  stands-placed End = rw (c.m, c.covered, c.n)
 
-  full-indices : p.filled ≡ p.n → eqb (length s.kinds) (total s) ≡ true
-  full-indices e = eq-eqb (length s.kinds) (total s) (omega (arith, c.filled, c.n))
+  -- ---- a command and its operands, whole or cut
 
-  open_blocks : p.covered < p.n → eqb s.covered (total s) ≡ false
-  open_blocks l = ne_eqb s.covered (total s) (λ e. omega (arith, c.covered, c.n))
+  module _ (k : Command) where
+    pub verdict-misplaced : (whole : Bool) → stands p k ≡ false → verdict s k whole ≡ some Misplaced
+    unfolding verdict unless
+    verdict-misplaced whole e = rw (sym (stands-placed k) ∙ e)
 
-  full-blocks : p.covered ≡ p.n → eqb s.covered (total s) ≡ true
-  full-blocks e = eq-eqb s.covered (total s) (omega (arith, c.covered, c.n))
+    pub verdict-cut : stands p k ≡ true → is_end k ≡ false → verdict s k false ≡ some Truncated
+    unfolding verdict unless
+    verdict-cut e n = rw (sym (stands-placed k) ∙ e, n)
 
-  -- before the length n is 0
-  none_yet : p.m ≡ 0 → p.n ≡ 0
-  unfolding total
-  none_yet e = let z : s.m ≡ 0 = sym c.m ∙ e in c.n ∙ rw z
+    pub verdict-whole : stands p k ≡ true → is_end k ≡ false → verdict s k true ≡ fault s k
+    unfolding verdict unless
+    verdict-whole e n = rw (sym (stands-placed k) ∙ e, n)
 
-  none_filled : p.m ≡ 0 → p.filled ≡ p.n
-  none_filled e = omega (arith, none_yet e, c.safe.within)
+  -- the end needs no operands
+  pub verdict-end : (whole : Bool) → stands p End ≡ true → verdict s End whole ≡ none
+  unfolding verdict unless is_end byte_of fault
+  verdict-end whole e = rw (sym (stands-placed End) ∙ e)
 
-  none-covered : p.m ≡ 0 → p.covered ≡ p.n
-  none-covered e = omega (arith, none_yet e, c.safe.reach)
+-- numbers that go on are no end, or are the end's
+pub goes-next : (k : Bool) (P : Progress → Type 0) (q : Progress) → k ≡ false → P q → Goes k P (Next q)
+unfolding Goes
+goes-next k P q e h = rw e (q, refl, h)
 
-  -- a command that may stand here has its operands and their faults left to judge
-  module _ (whole : Bool) where
-    pub length-stands : p.m ≡ 0 → (m : ℕ) → verdict s (Length m) whole ≡ unless whole Truncated (fault s (Length m))
-    unfolding verdict unless byte_of is_end placed
-    length-stands e m = rw (eq-eqb s.m 0 (sym c.m ∙ e))
+pub goes-end : (k : Bool) (P : Progress → Type 0) (q : Progress) → k ≡ true → P q → Goes k P (Ended q)
+unfolding Goes
+goes-end k P q e h = rw e (q, refl, h)
 
-    pub run-stands : p.filled < p.n → (code count : ℕ) → verdict s (run_command code count) whole ≡ unless whole Truncated (fault s (Free count))
-    unfolding verdict unless byte_of is_end placed fault run_command
-    run-stands l zero count = rw (open-indices l)
-    run-stands l (suc code) count = rw (open-indices l)
-
-    pub tie-stands : p.filled < p.n → (i : ℕ) → verdict s (Tie i) whole ≡ unless whole Truncated (fault s (Tie i))
-    unfolding verdict unless byte_of is_end placed
-    tie-stands l i = rw (open-indices l)
-
-    pub term-stands : p.tying ≡ true → (i : ℕ) → verdict s (Term i) whole ≡ unless whole Truncated (fault s (Term i))
-    unfolding verdict unless byte_of is_end placed
-    term-stands e i = rw (sym c.tying ∙ e)
-
-    pub term-misplaced : p.tying ≡ false → (i : ℕ) → verdict s (Term i) whole ≡ some Misplaced
-    unfolding verdict unless byte_of is_end placed
-    term-misplaced e i = rw (sym c.tying ∙ e)
-
-    pub block-stands : p.filled ≡ p.n → p.covered < p.n → (j : ℕ) (bias : ℤ) → verdict s (NextBlock j bias) whole ≡ unless whole Truncated (fault s (NextBlock j bias))
-    unfolding verdict unless byte_of is_end placed
-    block-stands e l j bias = rw (full-indices e, open_blocks l)
-
-    pub end-stands : (p.m ≡ 0 → ⊥) → p.covered ≡ p.n → verdict s End whole ≡ none
-    unfolding verdict unless byte_of is_end placed fault
-    end-stands b e = rw (ne_eqb s.m 0 (λ z. b (c.m ∙ z)), full-blocks e)
-
-  -- before the length, any other command
-  pub begin-misplaced : p.m ≡ 0 → (k : Command) → OneOf (1 ∷ 2 ∷ 3 ∷ 4 ∷ 5 ∷ 6 ∷ []) (tag_of the_type k) → (byte_of k ≡ 4 → ⊥) → placed s (byte_of k) ≡ false
-  unfolding placed byte_of
-  begin-misplaced e (Length m) o n = absurd (miss (1 ∷ 2 ∷ 3 ∷ 4 ∷ 5 ∷ 6 ∷ []) 0 tt o)
-  begin-misplaced e (Free count) o n = ap not (full-indices (none_filled e))
-  begin-misplaced e (Zero count) o n = ap not (full-indices (none_filled e))
-  begin-misplaced e (Tie i) o n = ap not (full-indices (none_filled e))
-  begin-misplaced e (Term i) o n = absurd (n refl)
-  begin-misplaced e (NextBlock j bias) o n = rw (full-indices (none_filled e), full-blocks (none-covered e))
-  begin-misplaced e End o n = rw (eq-eqb s.m 0 (sym c.m ∙ e))
-
-  -- while indices are left to fill, any command but an index command
-  pub index-misplaced : p.filled < p.n → p.covered < p.n → (k : Command)
-      → OneOf (0 ∷ 2 ∷ 3 ∷ 4 ∷ 5 ∷ 6 ∷ []) (tag_of the_type k) → OneOf (0 ∷ 1 ∷ 3 ∷ 4 ∷ 5 ∷ 6 ∷ []) (tag_of the_type k) → OneOf (0 ∷ 1 ∷ 2 ∷ 4 ∷ 5 ∷ 6 ∷ []) (tag_of the_type k)
-      → (byte_of k ≡ 4 → ⊥) → placed s (byte_of k) ≡ false
-  unfolding placed byte_of
-  index-misplaced f v (Length m) o₁ o₂ o₃ n = rw (begun (omega arith))
-  index-misplaced f v (Free count) o₁ o₂ o₃ n = absurd (miss (0 ∷ 2 ∷ 3 ∷ 4 ∷ 5 ∷ 6 ∷ []) 1 tt o₁)
-  index-misplaced f v (Zero count) o₁ o₂ o₃ n = absurd (miss (0 ∷ 1 ∷ 3 ∷ 4 ∷ 5 ∷ 6 ∷ []) 2 tt o₂)
-  index-misplaced f v (Tie i) o₁ o₂ o₃ n = absurd (miss (0 ∷ 1 ∷ 2 ∷ 4 ∷ 5 ∷ 6 ∷ []) 3 tt o₃)
-  index-misplaced f v (Term i) o₁ o₂ o₃ n = absurd (n refl)
-  index-misplaced f v (NextBlock j bias) o₁ o₂ o₃ n = rw (open-indices f)
-  index-misplaced f v End o₁ o₂ o₃ n = rw (begun (omega arith), open_blocks v)
-
-  -- while indices are left to cover, any command but a block command
-  pub block-misplaced : p.filled ≡ p.n → p.covered < p.n → (k : Command) → OneOf (0 ∷ 1 ∷ 2 ∷ 3 ∷ 4 ∷ 6 ∷ []) (tag_of the_type k) → (byte_of k ≡ 4 → ⊥) → placed s (byte_of k) ≡ false
-  unfolding placed byte_of
-  block-misplaced f v (Length m) o n = rw (begun (omega arith))
-  block-misplaced f v (Free count) o n = ap not (full-indices f)
-  block-misplaced f v (Zero count) o n = ap not (full-indices f)
-  block-misplaced f v (Tie i) o n = ap not (full-indices f)
-  block-misplaced f v (Term i) o n = absurd (n refl)
-  block-misplaced f v (NextBlock j bias) o n = absurd (miss (0 ∷ 1 ∷ 2 ∷ 3 ∷ 4 ∷ 6 ∷ []) 5 tt o)
-  block-misplaced f v End o n = rw (begun (omega arith), open_blocks v)
-
-  -- when all indices are covered, any command but the end
-  pub end-misplaced : (p.m ≡ 0 → ⊥) → p.filled ≡ p.n → p.covered ≡ p.n → (k : Command) → OneOf (0 ∷ 1 ∷ 2 ∷ 3 ∷ 4 ∷ 5 ∷ []) (tag_of the_type k) → (byte_of k ≡ 4 → ⊥) → placed s (byte_of k) ≡ false
-  unfolding placed byte_of
-  end-misplaced b f v (Length m) o n = rw (ne_eqb s.m 0 (λ z. b (c.m ∙ z)))
-  end-misplaced b f v (Free count) o n = ap not (full-indices f)
-  end-misplaced b f v (Zero count) o n = ap not (full-indices f)
-  end-misplaced b f v (Tie i) o n = ap not (full-indices f)
-  end-misplaced b f v (Term i) o n = absurd (n refl)
-  end-misplaced b f v (NextBlock j bias) o n = rw (full-indices f, full-blocks v)
-  end-misplaced b f v End o n = absurd (miss (0 ∷ 1 ∷ 2 ∷ 3 ∷ 4 ∷ 5 ∷ []) 6 tt o)
-
--- a command that is no term
-pub not-term : (k : Command) → OneOf (0 ∷ 1 ∷ 2 ∷ 3 ∷ 5 ∷ 6 ∷ []) (tag_of the_type k) → byte_of k ≡ 4 → ⊥
-unfolding byte_of
-not-term (Length m) o e = eqb-false 16 4 refl e
-not-term (Free count) o e = eqb-false 1 4 refl e
-not-term (Zero count) o e = eqb-false 2 4 refl e
-not-term (Tie i) o e = eqb-false 3 4 refl e
-not-term (Term i) o e = miss (0 ∷ 1 ∷ 2 ∷ 3 ∷ 5 ∷ 6 ∷ []) 4 tt o
-not-term (NextBlock j bias) o e = eqb-false 5 4 refl e
-not-term End o e = eqb-false 127 4 refl e
+-- a command that is not the end
+pub not-end : (k : Command) → (k ≡ End → ⊥) → is_end k ≡ false
+unfolding is_end byte_of
+not-end (Length m) n = refl
+not-end (Free count) n = refl
+not-end (Zero count) n = refl
+not-end (Tie i) n = refl
+not-end (Term i) n = refl
+not-end (NextBlock j bias) n = refl
+not-end End n = absurd (n refl)

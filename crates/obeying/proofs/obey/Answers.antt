@@ -1,42 +1,43 @@
--- `obeying::obey` meets its contract: each command goes where the numbers say, and the end may stand when all indices are covered.
+-- `obeying::obey` meets its contract: a command that may not stand is misplaced, the end needs no operands, and any other that lacks some is cut.
 -- Assumes nothing.
-use native.Mathlib.Omega.{arith}
-use borrow.Author.Rules.{rules}
-use Rattle.codebook.specs.declared.Refusal.TheVariants.{Misplaced}
+use mathlib.Core.Path.{refl, sym, ◌∙◌}
+use Rattle.std.proofs.lemmas.Result.{err_from_is_err_and}
+use Rattle.codebook.specs.declared.Refusal.TheVariants.{Truncated, Misplaced}
 use Rattle.codebook.specs.Loading.{next}
 use Rattle.codebook.specs.Progress.{byte_of, is_end}
-use Rattle.obeying.proofs.Verdicts.{refuse, ends, verdict-misplaced, not-term, end-misplaced, end-stands}
+use Rattle.obeying.proofs.Verdicts.{refuse, proceed, refused, proceeded, verdict-misplaced, verdict-cut, verdict-whole, verdict-end, goes-next, goes-end, not-end}
 use Rattle.obeying.proofs.obey.Goals as goal
 
-pub returns-in-Term : goal.returns-in-Term
-returns-in-Term c old s h =
+pub returns-then-not-stands : goal.returns-then-not-stands
+returns-then-not-stands c old s h =
     let a = c.args in
-    rw c.in-Term.is (c.term.ensures old s h)
+    refuse _ _ Misplaced (verdict-misplaced a.p s h.counts a.c a.whole (sym c.stands.ensures ∙ c.if-not-stands.true)) refl
 
-pub returns-then-p-eq0 : goal.returns-then-p-eq0
-returns-then-p-eq0 c old s h =
+pub returns-in-End : goal.returns-in-End
+unfolding is_end byte_of next
+returns-in-End c old s h =
     let a = c.args in
-    c.begin.ensures (not-term a.c (search rules)) old s h
+    let stands = rw c.in-End.is at (sym c.stands.ensures ∙ c.if-not-stands.false) in
+    rw c.in-End.is (proceed _ _ _ _ (verdict-end a.p s h.counts a.whole stands) (goes-end _ _ _ refl h))
 
-pub returns-then-p : goal.returns-then-p
-returns-then-p c old s h =
+pub returns-then-not-whole : goal.returns-then-not-whole
+returns-then-not-whole c old s h =
     let a = c.args in
-    c.index.ensures (not-term a.c (search rules)) old s h
+    let other = not-end a.c c.in_default.not-End in
+    rw c.if-not-whole.true (refuse _ _ Truncated (verdict-cut a.p s h.counts a.c (sym c.stands.ensures ∙ c.if-not-stands.false) other) refl)
 
-pub returns-then-p-2 : goal.returns-then-p-2
-returns-then-p-2 c old s h =
+pub returns-in_err-grow : goal.returns-in_err-grow
+returns-in_err-grow c old s h =
     let a = c.args in
-    c.block.ensures (not-term a.c (search rules)) old s h
-
-pub returns-in_default-c : goal.returns-in_default-c
-returns-in_default-c c old s h =
-    let a = c.args in
-    let begun = c.if-p-eq0.false in
-    refuse _ _ _ _ Misplaced (verdict-misplaced s a.c a.whole (end-misplaced a.p s h.counts begun (omega (arith, c.requires, c.if-p.false)) (omega (arith, c.requires, c.if-p-2.false)) a.c (search rules) (not-term a.c (search rules))))
+    let p = err_from_is_err_and c.from_residual.result c.from_residual.ensures.1 in
+    let whole = verdict-whole a.p s h.counts a.c (sym c.stands.ensures ∙ c.if-not-stands.false) (not-end a.c c.in_default.not-End) in
+    let fault = refused _ _ _ _ (rw c.in_err-grow.was at (c.grow.ensures old s h)) in
+    rw (p.1, p.2, c.if-not-whole.false) (refuse _ _ _ (whole ∙ fault.0) fault.1)
 
 pub returns : goal.returns
-unfolding is_end byte_of next
 returns c old s h =
     let a = c.args in
-    let begun = c.if-p-eq0.false in
-    rw c.in-End.is (ends _ _ _ _ (end-stands a.p s h.counts a.whole begun (omega (arith, c.requires, c.if-p-2.false))) h)
+    let other = not-end a.c c.in_default.not-End in
+    let whole = verdict-whole a.p s h.counts a.c (sym c.stands.ensures ∙ c.if-not-stands.false) other in
+    let grown = proceeded _ _ _ _ (rw c.in_ok-grow.was at (c.grow.ensures old s h)) in
+    rw c.if-not-whole.false (proceed _ _ _ _ (whole ∙ grown.0) (goes-next _ _ _ other grown.1))

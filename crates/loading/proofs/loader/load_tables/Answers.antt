@@ -2,15 +2,13 @@
 -- and loading goes on from there (Running.antt). The measure is what is left of the book. Assumes nothing.
 use mathlib.Core.Path.{sym, ◌∙◌}
 use native.Mathlib.Omega.{arith}
-use borrow.Author.Rules.{rules}
 use Rattle.std.proofs.lemmas.Result.{err_from_is_err_and}
 use Rattle.codebook.specs.declared.Refusal.TheVariants.{Truncated, Unknown}
 use Rattle.loading.proofs.Running.{reached-none, reached-end, reached-unlisted, reached-refused, reached-next, reached-last, refused-answer}
 use Rattle.loading.proofs.loader.load_tables.Goals as goal
 
 pub loop-at-init : goal.loop-at-init
-loop-at-init c =
-    reached-none _ _ (record { kinds = search rules; terms = search rules; heights = search rules; starts = search rules; biases = search rules })
+loop-at-init c = reached-none _ _ _ c.start-p.ensures
 
 pub read_command-requires : goal.read_command-requires
 read_command-requires c = c.loop-at-test.true
@@ -20,9 +18,6 @@ returns-in_default c =
     let read = sym c.read_command.ensures ∙ c.in_default.is in
     let end = refused-answer _ _ _ Unknown (reached-unlisted _ _ _ _ _ c.loop-at.invariant c.loop-at-test.true read) in
     record { answer = end.0; filled = end.1 }
-
-pub obey-requires : goal.obey-requires
-obey-requires c = c.loop-at.invariant.holds.counts.safe
 
 pub loop-at-smaller : goal.loop-at-smaller
 loop-at-smaller c =
@@ -47,7 +42,7 @@ returns-in_err-q c =
     let r = c.loop-at.invariant in
     let step = c.obey.ensures _ r.s r.holds in
     let p = err_from_is_err_and c.from_residual.result c.from_residual.ensures.1 in
-    let end = refused-answer _ _ _ _ (reached-refused _ _ _ _ _ r c.loop-at-test.true x.field-0 read _ _ _ (rw c.in_err-q.was at step)) in
+    let end = refused-answer _ _ _ _ (reached-refused _ _ _ _ _ r c.loop-at-test.true x.field-0 read _ _ (rw c.in_err-q.was at step)) in
     rw (p.1, p.2) (record { answer = end.0; filled = end.1 })
 
 pub returns-in-End : goal.returns-in-End
