@@ -56,7 +56,7 @@ pub fn read_record_answer(book: &[u8], bits: &[u8], hook: &mut [u32]) -> u32
     }
     let (number, h) = match read_record(book, bits) {
         Ok(h) => (0, h),
-        Err(r) => (u32::from(r), HookRecord { plant: 1, carcass: 0, side: 0, status: Status::Passed }),
+        Err(r) => (u32::from(r), HookRecord::default()),
     };
     put_hook(hook, h);
     number
