@@ -76,12 +76,12 @@ module _ {m D N : ℕ} {x : Memory} {e : ℕ} {es vs kinds terms : List ℕ} {la
   abbrev height : ℕ
   height = (block_at book path.blocks).j
 
-  pub third-tabled : BlockTabled book path.blocks kinds terms at.start at.height
+  third-tabled : BlockTabled book path.blocks kinds terms at.start at.height
   third-tabled =
       let o = c.moving.next in
       record { valid = c.booked.valid; inside = o.within; tabled = c.booked.tabled; first = o.start; height = o.height }
 
-  pub third-parities : Bits path.parities
+  third-parities : Bits path.parities
   third-parities = fit-parities book c.moving.hand.arrays path path.blocks c.moving.fit
 
   pub third-bias : Within 1048576 at.bias
@@ -118,7 +118,7 @@ module _ {m D N : ℕ} {x : Memory} {e : ℕ} {es vs kinds terms : List ℕ} {la
     unfolding with_ids
     third-cost = row.cost
 
-    pub third-set : cell y.rows (slot_at e) parities_at ≡ parity_set book path.parities
+    third-set : cell y.rows (slot_at e) parities_at ≡ parity_set book path.parities
     unfolding with_ids
     third-set = row.parities
 
@@ -178,7 +178,7 @@ module _ {m D N : ℕ} {x : Memory} {e : ℕ} {es vs kinds terms : List ℕ} {la
 
     module _ {found : Candidate}
         (is : found ≡ candidate_of book (nearest book (part (spot m (id_at y.rows (slot_at e) at.height) at.height) (2 ^ at.height) y.numbers) path.parities path.blocks)) where
-      pub third-found : found ≡ candidate_of book (some c.word)
+      third-found : found ≡ candidate_of book (some c.word)
       third-found =
           is ∙ ap (λ vs. candidate_of book (nearest book vs path.parities path.blocks)) values-are
           ∙ ap (candidate_of book) c.found

@@ -1,5 +1,5 @@
 // The run: extractions until one takes a path that has all blocks; the walk is written as it goes, and the final word is left in the sums of the root.
-ghost use Rattle.std.specs.Prelude.{◌≡◌, List, ℕ, ◌+◌, ◌-◌, ◌^◌, ◌≤◌, ◌<◌, pos, length, get_or, replicate};
+ghost use Rattle.std.specs.Prelude.{◌≡◌, List, ℕ, ◌+◌, ◌-◌, ◌^◌, ◌≤◌, ◌<◌, pos, get_or, replicate};
 ghost use Rattle.polar.specs.Layers.{part};
 ghost use Rattle.queue.specs.Run.{most_extractions};
 ghost use Rattle.queue.specs.Queue.{Step};
@@ -8,6 +8,7 @@ ghost use Rattle.reader.specs.Arrays.{sums_of};
 ghost use Rattle.reader.specs.Reader as R;
 ghost use Rattle.sharing.specs.Sharing.{Rows};
 ghost use Rattle.heights.specs.Workspace.{spot, Room, Id};
+ghost use Rattle.start.specs.Start.{HasEntries};
 ghost use Rattle.standing.specs.Seen.{contents, Enough, Lent, SameMemory};
 ghost use Rattle.words.specs.Kept.{Cells};
 ghost use Rattle.steps.specs.Steps.{committed};
@@ -78,8 +79,7 @@ fn turn(
 ) -> Stage
     requires lent { Lent x.m s.paths arrays (contents memory.old) × Cells s.paths kept.old }
     requires ranged { Ranged s }
-    requires blocks_in_bounds { (most_extractions s.visits x.blocks ≤ length walk.old.path.now) × (most_extractions s.visits x.blocks ≤ length walk.old.blocks.now)
-        × (most_extractions s.visits x.blocks ≤ length walk.old.score.now) }
+    requires blocks_in_bounds { HasEntries (most_extractions s.visits x.blocks) walk.old }
     requires turning { Turning x s arrays tables.now (contents memory.old) queue.old.order queue.old.vacant visits.old
         kept.old stage.tally stage.entry walk.old.path.now walk.old.blocks.now walk.old.score.now }
     ensures lent_2 { Lent x.m s.paths arrays (contents memory.new) × Cells s.paths kept.new }
@@ -133,8 +133,7 @@ pub fn extractions(
     requires holders_value { (memory.old.holders ≡ replicate 2580 0) × (visits.old ≡ replicate 512 0) }
     requires ranged { Ranged s }
     requires room { Room x.m arrays memory.old.numbers.now × Room x.m arrays memory.old.bytes.now × Enough s.paths arrays × (arrays ≤ 256) }
-    requires blocks_in_bounds { (most_extractions s.visits x.blocks ≤ length walk.old.path.now) × (most_extractions s.visits x.blocks ≤ length walk.old.blocks.now)
-        × (most_extractions s.visits x.blocks ≤ length walk.old.score.now) }
+    requires blocks_in_bounds { HasEntries (most_extractions s.visits x.blocks) walk.old }
     requires running { Running x values.now tables.now }
     ensures lent { Lent x.m s.paths arrays (contents memory.new) }
     ensures before { (c : Running x values.now tables.now)
@@ -198,8 +197,7 @@ fn run_with(
     requires rows { Rows s.paths rows.old × ((k : ℕ) → get_or rows.old k 0 ≡ 0) × Cells s.paths kept.old }
     requires ranged { Ranged s }
     requires room { Room x.m arrays numbers.old × Room x.m arrays bytes.old × Enough s.paths arrays × (arrays ≤ 256) }
-    requires blocks_in_bounds { (most_extractions s.visits x.blocks ≤ length walk.old.path.now) × (most_extractions s.visits x.blocks ≤ length walk.old.blocks.now)
-        × (most_extractions s.visits x.blocks ≤ length walk.old.score.now) }
+    requires blocks_in_bounds { HasEntries (most_extractions s.visits x.blocks) walk.old }
     requires running { Running x values.now tables.now }
     ensures ran { (c : Running x values.now tables.now)
         → (let run = R.run_of c.book s.visits s.paths (arrays_of x.m (received x.m values.now numbers.old) bytes.old) in
@@ -255,8 +253,7 @@ pub fn run(
 ) -> Ran
     requires ranged { Ranged s }
     requires room { Room x.m s.paths numbers.old × Room x.m s.paths bytes.old }
-    requires blocks_in_bounds { (most_extractions s.visits x.blocks ≤ length walk.old.path.now) × (most_extractions s.visits x.blocks ≤ length walk.old.blocks.now)
-        × (most_extractions s.visits x.blocks ≤ length walk.old.score.now) }
+    requires blocks_in_bounds { HasEntries (most_extractions s.visits x.blocks) walk.old }
     requires running { Running x values.now tables.now }
     ensures ran { (c : Running x values.now tables.now)
         → (let run = R.run_of c.book s.visits s.paths (arrays_of x.m (received x.m values.now numbers.old) bytes.old) in
