@@ -2,7 +2,7 @@
 -- at the root lies in the array of its id. Assumes nothing.
 use mathlib.Core.Path.{◌≡◌, ap, ◌∙◌}
 use mathlib.Core.List.{List}
-use Prim.Native.Nat.{ℕ, ◌+◌, ◌*◌, ◌^◌, ◌≤◌}
+use Prim.Native.Nat.{ℕ, ◌^◌, ◌≤◌}
 use native.Mathlib.Omega.{arith}
 use Rattle.laws.specs.Pairs.{Paired}
 use Rattle.polar.specs.Layers.{part}
@@ -14,7 +14,7 @@ use Rattle.reader.proofs.Rooted.{commit-has}
 use Rattle.order.specs.Entries.{slot_at}
 use Rattle.sharing.specs.Sharing.{id_at}
 use Rattle.heights.specs.Workspace.{spot, Id}
-use Rattle.standing.specs.Seen.{Memory, Seen, IdsOnly}
+use Rattle.standing.specs.Seen.{Memory, Seen}
 use Rattle.standing.specs.Standing.{cell, spent_at, cost_at, InHand}
 use Rattle.views.proofs.Seeing.{seen-some, seen-sums}
 use Rattle.words.specs.declared.Block.{Block}

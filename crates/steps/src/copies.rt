@@ -1,5 +1,5 @@
 // Step 2: if the last block of the path in hand has a next word, the queue is cut to D - 2 paths and a copy with that word is inserted.
-ghost use Rattle.std.specs.Prelude.{◌≡◌, List, ◌∷◌, ℕ, suc, ◌+◌, ◌-◌, ◌≤◌, ◌<◌, length};
+ghost use Rattle.std.specs.Prelude.{◌≡◌, List, ◌∷◌, ℕ, suc, ◌+◌, ◌-◌, ◌≤◌, ◌<◌};
 ghost use Rattle.std.proofs.Math.Option.{some};
 ghost use Rattle.reader.specs.Reader as R;
 ghost use Rattle.order.specs.Entries.{queue_of, Rising};

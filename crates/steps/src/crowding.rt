@@ -1,5 +1,5 @@
 // Step 2, first part: the queue is cut to D - 2 paths.
-ghost use Rattle.std.specs.Prelude.{◌≡◌, List, ◌∷◌, ℕ, ◌+◌, ◌-◌, ◌≤◌, length};
+ghost use Rattle.std.specs.Prelude.{◌≡◌, ◌∷◌, ℕ, ◌+◌, ◌-◌, ◌≤◌, length};
 ghost use Rattle.queue.specs.Queue.{room_for};
 ghost use Rattle.order.specs.Entries.{queue_of, Rising};
 ghost use Rattle.sharing.specs.Sharing.{Held, Rows};
