@@ -11,7 +11,7 @@ ghost use Rattle.steps.specs.Steps.{Moving};
 use heights::Layout;
 use order::entries::slot_of;
 use standing::Memory;
-use standing::row::word_of;
+use standing::row::cells_of;
 use views::view::{claim, commit, go_down, turn_over};
 use words::Block;
 
@@ -35,7 +35,7 @@ pub fn calculate(memory: &mut Memory, layout: Layout, paths: usize, e: u64, last
     } else {
         let low = last.height;
         let rows = &mut *memory.rows;
-        let word = word_of(rows, slot);
+        let word = cells_of(rows, slot).word;
         commit(memory, layout, slot, low, h, word);
         turn_over(memory, layout, slot, h);
         go_down(memory, layout, slot, h, j);

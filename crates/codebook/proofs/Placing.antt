@@ -56,14 +56,14 @@ module _ (p : Progress) (t old : Tables) (s : Loading) (h : HoldsLoaded p t old 
   x = record { j = j; bias = bias }
 
   -- the free codes of its part of the kinds' table
-  pub block-free : p.filled ≡ p.n → p.covered + 2 ^ j ≤ p.n → count_by (λ c. eqb c 0) (take (2 ^ j) (drop p.covered t.kinds)) ≡ free_count (take (2 ^ j) (drop s.covered s.kinds))
+  pub block-free : (n : ℕ) → n ≡ 2 ^ j → p.filled ≡ p.n → p.covered + n ≤ p.n → count_by (λ c. eqb c 0) (take n (drop p.covered t.kinds)) ≡ free_count (take (2 ^ j) (drop s.covered s.kinds))
   unfolding over
-  block-free full room =
+  block-free n e full room =
       let c = h.counts in
       let l = codes-length 0 s.kinds in
       let after = drop (length (kind_codes 0 s.kinds)) old.kinds in
-      rw (h.kinds, c.covered, drop-append-le s.covered (kind_codes 0 s.kinds) after (omega (arith, l, c.filled, c.covered)), take-append-le (2 ^ j) (drop s.covered (kind_codes 0 s.kinds)) after (rw length-drop (omega (arith, l, c.filled, c.covered))))
-      (codes-part 0 s.covered (2 ^ j) s.kinds)
+      rw (h.kinds, c.covered, drop-append-le s.covered (kind_codes 0 s.kinds) after (omega (arith, l, c.filled, c.covered)), take-append-le n (drop s.covered (kind_codes 0 s.kinds)) after (rw length-drop (omega (arith, l, c.filled, c.covered))), ← e)
+      (codes-part 0 s.covered n s.kinds)
 
   -- what a block's entries in the tables of blocks come to
   pub block-holds : (q : Progress) → length s.kinds ≡ total s → p.blocks < length t.heights → p.blocks < length t.starts → p.blocks < length t.biases

@@ -102,32 +102,26 @@ stands p (Term i) = p.tying
 stands p (NextBlock j bias) = eqb p.filled p.n && ltb p.covered p.n
 stands p End = not (eqb p.m 0) && eqb p.covered p.n
 
--- a command that may stand: the refusal, where it has a fault, and then K, or numbers that have the property P
-unfoldable pub Settled : Option Refusal → Type 0 → (Progress → Type 0) → Result Progress Refusal → Type 0
-Settled none K P x = (q : Progress) × (x ≡ Ok q) × P q
-Settled (some r) K P x = (x ≡ Err r) × K
+-- the refusal, where there is one, and then K; else an answer that has the property P
+unfoldable pub Settled : {A : Type 0} → Option Refusal → Type 0 → (A → Type 0) → Result A Refusal → Type 0
+Settled {A} none K P x = (y : A) × (x ≡ Ok y) × P y
+Settled {A} (some r) K P x = (x ≡ Err r) × K
 
--- A function's promise: at the numbers p, a command that may stand is settled, and the tables t become u, the same where it is refused; whatever
--- is loaded so far, and whatever the tables first held.
+-- A function's promise: at the numbers p, a command that may stand is settled by its faults, and the tables t become u, the same where it is
+-- refused; whatever is loaded so far, and whatever the tables first held.
 abbrev pub Grows : Progress → Command → Tables → Tables → Result Progress Refusal → Type 0
 Grows p c t u x =
-    (old : Tables) (s : Loading) → HoldsLoaded p t old s → Settled (fault s c) (u ≡ t) (λ q. HoldsLoaded q u old (next s c)) x
+    (old : Tables) (s : Loading) → HoldsLoaded p t old s → Settled (fault s c) (u ≡ t) (λ (q : Progress). HoldsLoaded q u old (next s c)) x
 
--- a step where nothing is refused: the end or not, with numbers that have the property P
-unfoldable pub Goes : Bool → (Progress → Type 0) → Result Step Refusal → Type 0
-Goes true P x = (q : Progress) × (x ≡ Ok (Ended q)) × P q
-Goes false P x = (q : Progress) × (x ≡ Ok (Next q)) × P q
+-- a step: the end or not, with numbers that have the property P
+unfoldable pub Goes : Bool → (Progress → Type 0) → Step → Type 0
+Goes true P y = (q : Progress) × (y ≡ Ended q) × P q
+Goes false P y = (q : Progress) × (y ≡ Next q) × P q
 
--- a step: the refusal, where there is one, and then K
-unfoldable pub Judged : Option Refusal → Bool → Type 0 → (Progress → Type 0) → Result Step Refusal → Type 0
-Judged none end K P x = Goes end P x
-Judged (some r) end K P x = (x ≡ Err r) × K
-
--- A function's promise: at the numbers p, the command c and its operands, whole or cut, are judged, and the tables t become u, the same where it is
--- refused; whatever is loaded so far, and whatever the tables first held.
+-- A function's promise: the same of any command and its operands, whole or cut.
 abbrev pub Obeys : Progress → Command → Bool → Tables → Tables → Result Step Refusal → Type 0
 Obeys p c whole t u x =
-    (old : Tables) (s : Loading) → HoldsLoaded p t old s → Judged (verdict s c whole) (is_end c) (u ≡ t) (λ q. HoldsLoaded q u old (next s c)) x
+    (old : Tables) (s : Loading) → HoldsLoaded p t old s → Settled (verdict s c whole) (u ≡ t) (Goes (is_end c) (λ (q : Progress). HoldsLoaded q u old (next s c))) x
 
 -- the command of a run of indices with this code, 0 free or 1 zero
 unfoldable pub run_command : ℕ → ℕ → Command

@@ -19,7 +19,7 @@ use Rattle.standing.specs.Seen.{Memory}
 use Rattle.standing.specs.Standing.{Stands}
 use Rattle.standing.proofs.Taken.{taken-blocks}
 use Rattle.words.specs.declared.Block.{Block}
-use Rattle.words.specs.Kept.{Kepts}
+use Rattle.words.specs.Kept.{Table, Kepts}
 use Rattle.words.proofs.Kepts.{kepts-staying}
 use Rattle.steps.specs.Steps.{CopiedTo}
 use Rattle.advance.specs.Outruns.{Outrunning}
@@ -31,7 +31,7 @@ pub visit-length : (visits : List ℕ) (b : ℕ) → length (visit visits b) ≡
 unfolding visit
 visit-length visits b = length-set visits b (suc (get_or visits b 0))
 
-module _ {m L D N k n : ℕ} {x : Memory} {e : ℕ} {es vs kinds terms : List ℕ} {last at : Block} {kept counts : List ℕ} (c : Extracting m L D N k n x e es vs kinds terms last at kept counts) where
+module _ {m L D N k n : ℕ} {x : Memory} {e : ℕ} {es vs kinds terms : List ℕ} {last at : Block} {kept : Table} {counts : List ℕ} (c : Extracting m L D N k n x e es vs kinds terms last at kept counts) where
   abbrev book : Book
   book = c.hand.book
 
@@ -66,7 +66,7 @@ module _ {m L D N k n : ℕ} {x : Memory} {e : ℕ} {es vs kinds terms : List �
       }
 
   -- the copy; the crowded before and after; and the memory that stands for it
-  module _ (two : 2 ≤ D) (before : ℕ) (kept' : List ℕ) {queued n' crowded : ℕ} {y : Memory} {qs ws : List ℕ}
+  module _ (two : 2 ≤ D) (before : ℕ) (kept' : Table) {queued n' crowded : ℕ} {y : Memory} {qs ws : List ℕ}
       (done : let o = extract-seconding in
       let k = copy o.hand.book D o.hand.arrays o.hand.taken o.hand.rest n o.hand.taken.blocks in
       CopiedTo o.hand.book D N e o.hand.taken k before queued n' crowded y qs ws kept') where
@@ -97,7 +97,7 @@ module _ {m L D N k n : ℕ} {x : Memory} {e : ℕ} {es vs kinds terms : List �
         }
 
     -- the memory and the words kept then, with the entries qs' queued
-    abbrev pub MovedTo : Memory → List ℕ → List ℕ → Type 0
+    abbrev pub MovedTo : Memory → List ℕ → Table → Type 0
     MovedTo z qs' words =
         let h = extract-thirding.moving.hand in
         let k = move h.book h.arrays h.taken h.rest in
@@ -105,10 +105,10 @@ module _ {m L D N k n : ℕ} {x : Memory} {e : ℕ} {es vs kinds terms : List �
         × Kepts h.book k.arrays words qs' (insert (key_of h.book) k.path h.rest)
 
     -- the queue is one longer
-    pub extract-moved : (z : Memory) (order words : List ℕ) (queued : ℕ) → MovedTo z (queue_of order (suc queued)) words → MovedTo z (queue_of order (queued + 1)) words
+    pub extract-moved : (z : Memory) (order : List ℕ) (words : Table) (queued : ℕ) → MovedTo z (queue_of order (suc queued)) words → MovedTo z (queue_of order (queued + 1)) words
     extract-moved z order words queued = subst (λ (i : ℕ). MovedTo z (queue_of order i) words) (omega arith)
 
-    module _ {z : Memory} {qs' : List ℕ} (words : List ℕ) (moved : MovedTo z qs' words) where
+    module _ {z : Memory} {qs' : List ℕ} (words : Table) (moved : MovedTo z qs' words) where
       abbrev third : Moved
       third = move book second.arrays path second.queue
 

@@ -25,9 +25,11 @@ use Rattle.reader.proofs.Found.{nearest-number}
 use Rattle.reader.proofs.Step.{next-kept}
 use Rattle.order.specs.Entries.{key_at, slot_at, Packed}
 use Rattle.standing.specs.Seen.{Memory}
+use Rattle.std.specs.Prelude.{Some}
+use lib.ListN.{length, set}
 use Rattle.words.specs.declared.Block.{Block}
-use Rattle.words.specs.Kept.{kept_at, Keeps, OneKept, KeptFor, Kepts}
-use Rattle.words.proofs.Kepts.{next_small, kepts-other, kepts-frame, kepts-insert}
+use Rattle.words.specs.Kept.{Table, Keeps, KeptFor, Kepts}
+use Rattle.words.proofs.Kepts.{one_kept, keeps_set, kepts-other, kepts-frame, kepts-insert}
 use Rattle.extraction.specs.Extraction.{Thirding}
 use Rattle.extraction.proofs.Moves.{view, moved}
 
@@ -36,7 +38,7 @@ same_next : (v w : Word) (B : Book) (vs : List ℤ) (x : Parities) (b : ℕ) →
 unfolding next_after nearer
 same_next v w B vs x b p q = ap₂ (λ (k n : ℕ). nearest_with (λ (y : Word). ltb k y.cost || eqb k y.cost && ltb n y.number) B vs x b) p q
 
-module _ {m D N : ℕ} {x : Memory} {e : ℕ} {es vs kinds terms : List ℕ} {last at : Block} {kept : List ℕ} (c : Thirding m D N x e es vs kinds terms last at kept) where
+module _ {m D N : ℕ} {x : Memory} {e : ℕ} {es vs kinds terms : List ℕ} {last at : Block} {kept : Table} (c : Thirding m D N x e es vs kinds terms last at kept) where
   abbrev book : Book
   book = c.moving.hand.book
 
@@ -64,27 +66,26 @@ module _ {m D N : ℕ} {x : Memory} {e : ℕ} {es vs kinds terms : List ℕ} {la
     unfolding own_word
     second_is = is ∙ ap (candidate_of book) (same_next c.word (own_word book (moved c) b) book values path.parities b refl own-number)
 
-    pub third-few : second.setting < 1073741824
-    third-few = next_small book values path.parities b c.word (c.booked.valid.blocks b c.moving.next.within).light is
-
     -- kept for the entry d that the path is queued with, and the others' words
-    pub third-kept : {d : ℕ} {new : List ℕ} → Packed d (key_of book (moved c)) (slot_at e) → OneKept (slot_at e) kept new → kept_at new (slot_at e) ≡ second →
+    pub third-kept : {d : ℕ} → Packed d (key_of book (moved c)) (slot_at e) → slot_at e < length kept →
         let k = move book c.moving.hand.arrays path rest in
+        let new = set kept (slot_at e) (Some second) in
         Kepts book k.arrays new (insert key_at d es) (insert (key_of book) k.path rest)
-    unfolding move move_with Keeps All Distinct
-    third-kept {d} {new} packed one at_slot =
+    unfolding move move_with All Distinct
+    third-kept {d} packed low =
         let A = c.moving.hand.arrays in
+        let new = set kept (slot_at e) (Some second) in
         let slots : List ℕ = map slot_at es in
         let apart : All (λ (s : ℕ). slot_at e ≢ s) slots = all-front (λ (s : ℕ). slot_at e ≢ s) slots vs c.moving.hand.stands.apart.0 in
         let own : KeptFor book (view c).arrays new d (moved c) =
         record {
           key = packed.key;
-          next = λ a q l.
+          next = λ a q.
               let same : b ≡ a = omega arith in
-              let Next : ℕ → Type 0 = λ i. second ≡ candidate_of book (next_after (own_word book (moved c) i) book (vals_of (view c) (block_at book i).j) path.parities i) in
-              ap (kept_at new) packed.slot ∙ at_slot ∙ subst Next same second_is;
+              let Next : ℕ → Type 0 = λ i. Keeps new (slot_at d) (candidate_of book (next_after (own_word book (moved c) i) book (vals_of (view c) (block_at book i).j) path.parities i)) in
+              subst Next same (rw packed.slot (keeps_set kept low (λ w f. let s : second ≡ w = cc in sym s ∙ second_is)));
         } in
         let Ends : Option Word → Type 0 = λ o. let k = move_with A path (view c) o in Kepts book k.arrays new (insert key_at d es) (insert (key_of book) k.path rest) in
         subst Ends (sym c.found)
         (kepts-insert book new (view c).arrays d (moved c) es rest own
-        (kepts-frame book new A (view c).arrays es rest (next-kept book (ids_of rest) A path b) (kepts-other book A one es rest apart c.known)))
+        (kepts-frame book new A (view c).arrays es rest (next-kept book (ids_of rest) A path b) (kepts-other book A (one_kept (slot_at e) kept (Some second)) es rest apart c.known)))

@@ -34,6 +34,7 @@ use Rattle.standing.specs.Standing.{cell, spent_at, cost_at, parities_at, Row, S
 use Rattle.standing.proofs.Taken.{taken-row, taken-key, taken-blocks}
 use Rattle.standing.proofs.Places.{stands-insert}
 use Rattle.standing.proofs.Written.{stands-put}
+use Rattle.words.specs.Kept.{Table}
 use Rattle.words.specs.declared.Block.{Block}
 use Rattle.extraction.specs.Extraction.{Thirding}
 use Rattle.extraction.proofs.Counts.{blocks-few}
@@ -44,7 +45,7 @@ unfolding FitFor
 fit-parities B A p zero f = f.parities
 fit-parities B A p (suc b) f = f.parities
 
-module _ {m D N : ℕ} {x : Memory} {e : ℕ} {es vs kinds terms : List ℕ} {last at : Block} {kept : List ℕ} (c : Thirding m D N x e es vs kinds terms last at kept) where
+module _ {m D N : ℕ} {x : Memory} {e : ℕ} {es vs kinds terms : List ℕ} {last at : Block} {kept : Table} (c : Thirding m D N x e es vs kinds terms last at kept) where
   abbrev book : Book
   book = c.moving.hand.book
 
@@ -75,12 +76,12 @@ module _ {m D N : ℕ} {x : Memory} {e : ℕ} {es vs kinds terms : List ℕ} {la
   abbrev height : ℕ
   height = (block_at book path.blocks).j
 
-  pub third-tabled : BlockTabled book path.blocks kinds terms at.start at.height
+  third-tabled : BlockTabled book path.blocks kinds terms at.start at.height
   third-tabled =
       let o = c.moving.next in
       record { valid = c.booked.valid; inside = o.within; tabled = c.booked.tabled; first = o.start; height = o.height }
 
-  pub third-parities : Bits path.parities
+  third-parities : Bits path.parities
   third-parities = fit-parities book c.moving.hand.arrays path path.blocks c.moving.fit
 
   pub third-bias : Within 1048576 at.bias
@@ -117,7 +118,7 @@ module _ {m D N : ℕ} {x : Memory} {e : ℕ} {es vs kinds terms : List ℕ} {la
     unfolding with_ids
     third-cost = row.cost
 
-    pub third-set : cell y.rows (slot_at e) parities_at ≡ parity_set book path.parities
+    third-set : cell y.rows (slot_at e) parities_at ≡ parity_set book path.parities
     unfolding with_ids
     third-set = row.parities
 
@@ -177,7 +178,7 @@ module _ {m D N : ℕ} {x : Memory} {e : ℕ} {es vs kinds terms : List ℕ} {la
 
     module _ {found : Candidate}
         (is : found ≡ candidate_of book (nearest book (part (spot m (id_at y.rows (slot_at e) at.height) at.height) (2 ^ at.height) y.numbers) path.parities path.blocks)) where
-      pub third-found : found ≡ candidate_of book (some c.word)
+      third-found : found ≡ candidate_of book (some c.word)
       third-found =
           is ∙ ap (λ vs. candidate_of book (nearest book vs path.parities path.blocks)) values-are
           ∙ ap (candidate_of book) c.found

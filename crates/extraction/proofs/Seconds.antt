@@ -21,6 +21,7 @@ use Rattle.standing.specs.Seen.{Memory}
 use Rattle.standing.specs.Standing.{EntryOf, Stands}
 use Rattle.standing.proofs.Sizes.{stands-length}
 use Rattle.standing.proofs.Taken.{taken-blocks}
+use Rattle.words.specs.Kept.{Table}
 use Rattle.words.specs.declared.Block.{Block}
 use Rattle.steps.specs.Steps.{Copying, CopiedTo}
 use Rattle.extraction.specs.Extraction.{moment_in, Seconding}
@@ -31,7 +32,7 @@ rest-numbers : {B : Book} {D N : ℕ} {x : Memory} {e : ℕ} {es vs : List ℕ} 
 unfolding Paired
 rest-numbers {B} {x = x} {es = es} {ps = ps} s = numbers-paired key_at (key_of B) (EntryOf B x.rows) (λ d p h. h.key) es ps s.queue.1
 
-module _ {m L D N k n : ℕ} {x : Memory} {e : ℕ} {es vs kinds terms : List ℕ} {last : Block} {kept : List ℕ} (c : Seconding m L D N k n x e es vs kinds terms last kept) where
+module _ {m L D N k n : ℕ} {x : Memory} {e : ℕ} {es vs kinds terms : List ℕ} {last : Block} {kept : Table} (c : Seconding m L D N k n x e es vs kinds terms last kept) where
   -- the reader's copy, of a path with so many blocks
   abbrev copied : ℕ → Cut
   copied blocks = copy c.hand.book D c.hand.arrays c.hand.taken c.hand.rest n blocks
@@ -63,7 +64,7 @@ module _ {m L D N k n : ℕ} {x : Memory} {e : ℕ} {es vs kinds terms : List �
           total = during-copy c.booked.valid c.moment two b blocks-are (c.last-is b blocks-are).within;
         }
 
-    pub second-done : (before : ℕ) (kept' : List ℕ) {queued n' after : ℕ} {y : Memory} {qs ws : List ℕ} →
+    pub second-done : (before : ℕ) (kept' : Table) {queued n' after : ℕ} {y : Memory} {qs ws : List ℕ} →
         (let o = second-copying in
         let k = copy o.hand.book D o.hand.arrays o.hand.taken o.hand.rest n (suc b) in
         CopiedTo o.hand.book D N e o.hand.taken k before queued n' after y qs ws kept') →

@@ -11,7 +11,7 @@ use Rattle.reader.specs.Moments.{Moment, RunMoment}
 use Rattle.standing.specs.Seen.{Memory}
 use Rattle.standing.specs.Standing.{InHand}
 use Rattle.words.specs.declared.Block.{Block}
-use Rattle.words.specs.Kept.{Kepts}
+use Rattle.words.specs.Kept.{Table, Kepts}
 use Rattle.steps.specs.Steps.{BlockIs, Booked, Moving}
 
 -- the reader's moment at which the path in hand is taken, n being the next number and `visits` the visits so far
@@ -19,7 +19,7 @@ abbrev pub moment_in : {m D N : ℕ} {x : Memory} {e : ℕ} {es vs : List ℕ} �
 moment_in h n visits = record { path = h.taken; state = record { arrays = h.arrays; queue = h.rest; next = n; visits = visits } }
 
 -- step 2: the path taken at a moment of a run, k extractions being done, is in hand; it has a next block, and its last block, if it has one, is `last`; and the words kept
-pub record Seconding (m L D N k n : ℕ) (x : Memory) (e : ℕ) (es vs : List ℕ) (kinds terms : List ℕ) (last : Block) (kept : List ℕ) : Type 0 where
+pub record Seconding (m L D N k n : ℕ) (x : Memory) (e : ℕ) (es vs : List ℕ) (kinds terms : List ℕ) (last : Block) (kept : Table) : Type 0 where
   pub hand : InHand m D N x e es vs
   pub booked : Booked hand.book kinds terms
   pub visits : List ℕ
@@ -29,7 +29,7 @@ pub record Seconding (m L D N k n : ℕ) (x : Memory) (e : ℕ) (es vs : List �
   pub known : Kepts hand.book hand.arrays kept (e ∷ es) (hand.taken ∷ hand.rest)
 
 -- step 3: a path in hand that has a next block, `at`; the words kept for the others; the nearest word of that block
-pub record Thirding (m D N : ℕ) (x : Memory) (e : ℕ) (es vs : List ℕ) (kinds terms : List ℕ) (last at : Block) (kept : List ℕ) : Type 0 where
+pub record Thirding (m D N : ℕ) (x : Memory) (e : ℕ) (es vs : List ℕ) (kinds terms : List ℕ) (last at : Block) (kept : Table) : Type 0 where
   pub moving : Moving m D N x e es vs last at
   pub known : Kepts moving.hand.book moving.hand.arrays kept es moving.hand.rest
   pub booked : Booked moving.hand.book kinds terms
@@ -39,7 +39,7 @@ pub record Thirding (m D N : ℕ) (x : Memory) (e : ℕ) (es vs : List ℕ) (kin
   pub total : moving.hand.taken.spent + moving.hand.taken.cost + word.cost ≤ 1048064
 
 -- all of it: the path taken at a moment of a run, k extractions being done, is in hand, and it has a next block, `at`; the table counts the visit to it as the reader does; and the words kept
-pub record Extracting (m L D N k n : ℕ) (x : Memory) (e : ℕ) (es vs : List ℕ) (kinds terms : List ℕ) (last at : Block) (kept counts : List ℕ) : Type 0 where
+pub record Extracting (m L D N k n : ℕ) (x : Memory) (e : ℕ) (es vs : List ℕ) (kinds terms : List ℕ) (last at : Block) (kept : Table) (counts : List ℕ) : Type 0 where
   pub hand : InHand m D N x e es vs
   pub booked : Booked hand.book kinds terms
   pub visits : List ℕ

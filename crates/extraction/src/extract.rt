@@ -18,13 +18,12 @@ use codebook::Tables;
 use heights::Layout;
 use order::entries::{blocks_of, entry, number_of, slot_of};
 use order::moves::insert;
-use outer::Scratch;
+use outer::{Candidate, Scratch};
 use settings::Settings;
 use standing::Memory;
-use standing::row::{cost_of, parities_of, put, spent_of};
+use standing::row::{RowCells, cells_of, put};
 use steps::copies::copy;
 use steps::{Queue, Tally};
-use words::kept::keep;
 use words::{Block, nearest_words, score};
 
 // Step 2 for the path of entry e, taken at a moment of the reader's run; the empty path has no copy. The numbers that the order's entries hold before it and not after are those that the reader's
@@ -38,7 +37,7 @@ fn second(
     t: Tally,
     e: u64,
     last: Block,
-    kept: &mut [u32],
+    kept: &mut [Option<Candidate>],
     scratch: &mut Scratch,
 ) -> Tally
     requires lent { Lent layout.m s.paths layout.arrays (contents memory.old) × Cells s.paths kept.old }
@@ -78,7 +77,7 @@ fn third(
     e: u64,
     last: Block,
     at: Block,
-    kept: &mut [u32],
+    kept: &mut [Option<Candidate>],
     scratch: &mut Scratch,
 )
     requires lent { Lent layout.m paths layout.arrays (contents memory.old) × (queued + 1 ≤ paths) × Cells paths kept.old }
@@ -96,30 +95,26 @@ fn third(
     calculate(memory, layout, paths, e, last, at);
     let slot = slot_of(e);
     let rows = &mut *memory.rows;
-    let spent = spent_of(rows, slot) + cost_of(rows, slot);
-    let parities = parities_of(rows, slot);
+    let own = cells_of(rows, slot);
+    let spent = own.spent + own.cost;
     let found = nearest_words(memory, tables, layout.m, slot, at, scratch);
     let near = found.first;
-    let cost = near.cost;
-    let rows = &mut *memory.rows;
-    put(
-        rows,
-        slot,
+    let cells = RowCells {
         spent,
-        cost,
-        near.number,
-        parities,
-        near.parities,
-    );
+        cost: near.cost,
+        word: near.number,
+        earlier: own.parities,
+        parities: near.parities,
+    };
+    put(&mut *memory.rows, slot, cells);
     let d = entry(
-        score(spent, cost, at.bias),
+        score(spent, near.cost, at.bias),
         blocks_of(e) + 1,
         number_of(e),
         slot,
     );
     insert(order, queued, d);
-    let next = found.second;
-    keep(kept, slot, next);
+    kept[slot] = Some(found.second);
 }
 
 // Steps 2 to 4 for the path of entry e, which is taken at a moment of the reader's run and no longer queued.
@@ -134,7 +129,7 @@ pub fn extract(
     e: u64,
     last: Block,
     at: Block,
-    kept: &mut [u32],
+    kept: &mut [Option<Candidate>],
     scratch: &mut Scratch,
 ) -> Tally
     requires lent { Lent layout.m s.paths layout.arrays (contents memory.old) × Cells s.paths kept.old }

@@ -13,7 +13,7 @@ use lib.Seq.{drop-cons, drop-drop, take_all}
 use lib.Pow.{pow_pos}
 use lib.Dec.{T, leb, ltb, eqb, leb→le, nleb→lt, eqb→eq}
 use borrow.Author.Tests.{eq-eqb, ne_eqb, eqb-true, eqb-false, lt-ltb, le-ltb}
-use Rattle.std.specs.Prelude.{Option as Maybe, Some, None, Ok, Err}
+use Rattle.std.specs.Prelude.{Option as Maybe, Some, None, Result, Ok, Err}
 use Rattle.laws.specs.Lists.{tab, over}
 use Rattle.laws.proofs.Tests.{cond-case, cond_same, and_left, and_right, or_case, neqb→ne, T_true, T_false, lt-or}
 use Rattle.codebook.specs.declared.Refusal.{Refusal}
@@ -22,17 +22,19 @@ use Rattle.codebook.specs.declared.Command.{Command}
 use Rattle.codebook.specs.declared.Command.TheVariants.{Length, Free, Zero, Tie, Term, Block as NextBlock, End}
 use Rattle.codebook.specs.declared.Found.{Found}
 use Rattle.codebook.specs.declared.Progress.{Progress}
+use Rattle.codebook.specs.declared.Step.{Step}
 use Rattle.codebook.specs.declared.Step.TheVariants.{Next, End as Ended}
 use Rattle.codebook.specs.Refusals.{unless}
 use Rattle.codebook.specs.Book.{free_count}
 use Rattle.codebook.specs.Loading.{Loading, refused, loaded, start, total, placed, listed, width, command, next, refusal, book_of, load, shape_of}
 use Rattle.codebook.specs.declared.Tables.{Tables}
 use Rattle.codebook.specs.Tables.{kind_codes, tie_set, tables_of, overlaid, tables_so_far, loaded_up_to, Filled}
-use Rattle.codebook.specs.Progress.{read_at, byte_of, is_end, verdict, Begun, HoldsLoaded, Goes, Judged, shape_at}
+use Rattle.codebook.specs.Progress.{read_at, byte_of, is_end, verdict, Begun, HoldsLoaded, Settled, Goes, shape_at}
 use Rattle.codebook.proofs.Fuel.{judged_as, fold_from, none_left, fuel-enough, refused_as, ended_as, load-fold, stopped, stopped_at, stop-fold}
 use Rattle.codebook.proofs.Blocks.{start-some}
 use Rattle.codebook.proofs.Loaded.{total-begun}
 use Rattle.obeying.proofs.Growing.{counts-none}
+use Rattle.obeying.proofs.Verdicts.{refused as settled-refused, proceeded}
 
 -- ---- commands and their bytes
 
@@ -174,26 +176,17 @@ module _ {A : Type 0} (bad : Refusal → Loading → A) (good : Loading → Bool
       unfolding Comes judged_as
       fold-last k l = goes ∙ there.0 ∙ rw (k, l)
 
--- ---- what a step was judged by
+-- ---- what a step was settled by
 
-module _ (K : Type 0) (P : Progress → Type 0) where
-  judged-refused : (o : Option Refusal) (end : Bool) (r : Refusal) → Judged o end K P (Err r) → (o ≡ some r) × K
-  unfolding Judged Goes
-  judged-refused none true r j = let e : Err r ≡ Ok (Ended j.0) = j.1 in absurd (let z : ◌≡◌ {A = ℕ} 0 1 = cc in omega arith)
-  judged-refused none false r j = let e : Err r ≡ Ok (Next j.0) = j.1 in absurd (let z : ◌≡◌ {A = ℕ} 0 1 = cc in omega arith)
-  judged-refused (some x) end r j = let e : Err r ≡ Err x = j.0 in (let f : some x ≡ some r = cc in f, j.1)
+goes-on : (end : Bool) (P : Progress → Type 0) (q : Progress) → Goes end P (Next q) → (end ≡ false) × P q
+unfolding Goes
+goes-on true P q g = let e : Next q ≡ Ended g.0 = g.1 in absurd (let z : ◌≡◌ {A = ℕ} 0 1 = cc in omega arith)
+goes-on false P q g = let e : Next q ≡ Next g.0 = g.1 in (refl, subst P (let f : g.0 ≡ q = cc in f) g.2)
 
-  judged-next : (o : Option Refusal) (end : Bool) (q : Progress) → Judged o end K P (Ok (Next q)) → (o ≡ none) × (end ≡ false) × P q
-  unfolding Judged Goes
-  judged-next none true q j = let e : Ok (Next q) ≡ Ok (Ended j.0) = j.1 in absurd (let z : ◌≡◌ {A = ℕ} 0 1 = cc in omega arith)
-  judged-next none false q j = let e : Ok (Next q) ≡ Ok (Next j.0) = j.1 in (refl, refl, subst P (let f : j.0 ≡ q = cc in f) j.2)
-  judged-next (some x) end q j = let e : Ok (Next q) ≡ Err x = j.0 in absurd (let z : ◌≡◌ {A = ℕ} 0 1 = cc in omega arith)
-
-  judged-end : (o : Option Refusal) (end : Bool) (q : Progress) → Judged o end K P (Ok (Ended q)) → (o ≡ none) × (end ≡ true) × P q
-  unfolding Judged Goes
-  judged-end none true q j = let e : Ok (Ended q) ≡ Ok (Ended j.0) = j.1 in (refl, refl, subst P (let f : j.0 ≡ q = cc in f) j.2)
-  judged-end none false q j = let e : Ok (Ended q) ≡ Ok (Next j.0) = j.1 in absurd (let z : ◌≡◌ {A = ℕ} 0 1 = cc in omega arith)
-  judged-end (some x) end q j = let e : Ok (Ended q) ≡ Err x = j.0 in absurd (let z : ◌≡◌ {A = ℕ} 0 1 = cc in omega arith)
+goes-last : (end : Bool) (P : Progress → Type 0) (q : Progress) → Goes end P (Ended q) → (end ≡ true) × P q
+unfolding Goes
+goes-last true P q g = let e : Ended q ≡ Ended g.0 = g.1 in (refl, subst P (let f : g.0 ≡ q = cc in f) g.2)
+goes-last false P q g = let e : Ended q ≡ Next g.0 = g.1 in absurd (let z : ◌≡◌ {A = ℕ} 0 1 = cc in omega arith)
 
 -- ---- the end
 
@@ -315,31 +308,37 @@ module _ (bytes : List ℕ) (old : Tables) (p : Progress) (t : Tables) (at : ℕ
 
   -- a command and what it comes to
   module _ (h : at < length bytes) (f : Found) (e : read_at bytes at ≡ Some f) where
-    pub reached-refused : (u : Tables) (P : Progress → Type 0) (why : Refusal) → Judged (verdict r.s f.command f.whole) (is_end f.command) (u ≡ t) P (Err why) → Refuses bytes old u why
-    reached-refused u P why j =
-        let k = judged-refused (u ≡ t) P _ _ why j in
+    -- what its verdict settles, where the tables become u
+    abbrev pub Step-settled : Tables → Result Step Refusal → Type 0
+    Step-settled u x = Settled (verdict r.s f.command f.whole) (u ≡ t) (Goes (is_end f.command) (λ (q : Progress). HoldsLoaded q u old (next r.s f.command))) x
+
+    pub reached-refused : (u : Tables) (why : Refusal) → Step-settled u (Err why) → Refuses bytes old u why
+    reached-refused u why j =
+        let k = settled-refused (u ≡ t) _ _ why j in
         here why u (fold-refused refused_as ended_as bytes r.s at (load bytes) r.goes h f e why k.0) (fold-refused stopped stopped_at bytes r.s at (loaded_up_to bytes) r.stops h f e why k.0) k.1
 
-    pub reached-next : (q : Progress) (u : Tables) → Judged (verdict r.s f.command f.whole) (is_end f.command) (u ≡ t) (λ (x : Progress). HoldsLoaded x u old (next r.s f.command)) (Ok (Next q)) → Reached bytes old q u f.next × (at < f.next)
+    pub reached-next : (q : Progress) (u : Tables) → Step-settled u (Ok (Next q)) → Reached bytes old q u f.next × (at < f.next)
     reached-next q u j =
-        let k = judged-next (u ≡ t) (λ (x : Progress). HoldsLoaded x u old (next r.s f.command)) _ _ q j in
+        let k = proceeded (u ≡ t) _ _ (Next q) j in
+        let g = goes-on _ _ q k.1 in
         let place = fold-place refused_as ended_as bytes r.s at (load bytes) r.goes h f e in (
           record {
             s = next r.s f.command;
-            holds = k.2;
-            goes = fold_next refused_as ended_as bytes r.s at (load bytes) r.goes h f e k.0 k.1;
-            stops = fold_next stopped stopped_at bytes r.s at (loaded_up_to bytes) r.stops h f e k.0 k.1;
+            holds = g.1;
+            goes = fold_next refused_as ended_as bytes r.s at (load bytes) r.goes h f e k.0 g.0;
+            stops = fold_next stopped stopped_at bytes r.s at (loaded_up_to bytes) r.stops h f e k.0 g.0;
             within = place.1;
           },
           place.0,
         )
 
     -- the end, with what follows it
-    pub reached-last : (q : Progress) (u : Tables) → Judged (verdict r.s f.command f.whole) (is_end f.command) (u ≡ t) (λ (x : Progress). HoldsLoaded x u old (next r.s f.command)) (Ok (Ended q))
+    pub reached-last : (q : Progress) (u : Tables) → Step-settled u (Ok (Ended q))
         → shape_of (load bytes) ≡ cond (ltb f.next (length bytes)) (shape_of (refused Misplaced)) (Ok (shape_at q)) × Filled (load bytes) (loaded_up_to bytes) old u
     reached-last q u j =
-        let k = judged-end (u ≡ t) (λ (x : Progress). HoldsLoaded x u old (next r.s f.command)) _ _ q j in
-        let last = end-stands r.s f.command f.whole k.0 k.1 in
-        ended bytes old q u r.s f.next (rw last.1 at k.2) last.0 (fold-place refused_as ended_as bytes r.s at (load bytes) r.goes h f e).1
-        (fold-last refused_as ended_as bytes r.s at (load bytes) r.goes h f e k.0 k.1)
-        (fold-last stopped stopped_at bytes r.s at (loaded_up_to bytes) r.stops h f e k.0 k.1)
+        let k = proceeded (u ≡ t) _ _ (Ended q) j in
+        let g = goes-last _ _ q k.1 in
+        let last = end-stands r.s f.command f.whole k.0 g.0 in
+        ended bytes old q u r.s f.next (rw last.1 at g.1) last.0 (fold-place refused_as ended_as bytes r.s at (load bytes) r.goes h f e).1
+        (fold-last refused_as ended_as bytes r.s at (load bytes) r.goes h f e k.0 g.0)
+        (fold-last stopped stopped_at bytes r.s at (loaded_up_to bytes) r.stops h f e k.0 g.0)

@@ -1,19 +1,19 @@
 -- What a command is judged by, from the loader's numbers: each test of the definitions has the answer of the code's. By cases on the command.
 -- Assumes nothing.
 use mathlib.Core.Path.{◌≡◌, refl, sym, ap, ◌∙◌, subst}
-use mathlib.Core.Bool.{Bool, true, false, not, ◌&&◌}
+use mathlib.Core.Bool.{Bool, true, false, not}
 use mathlib.Core.Option.{Option, none, some}
 use mathlib.Core.Logic.{◌⊎◌, inl, inr}
-use Prim.Native.Nat.{ℕ, zero, suc, ◌+◌, ◌-◌, ◌^◌, ◌%◌, ◌≤◌, ◌<◌}
+use Prim.Native.Nat.{ℕ, zero, suc, ◌+◌, ◌-◌, ◌^◌, ◌≤◌, ◌<◌}
 use native.Mathlib.Omega.{arith}
 use lib.ListN.{length, take, drop, replicate}
-use lib.IntN.{ℤ, nat_abs}
-use lib.Dec.{T, leb, ltb, eqb, leb→le}
+use lib.IntN.{ℤ}
+use lib.Dec.{leb, ltb, eqb}
 use borrow.Author.Tests.{eq-eqb, ne_eqb, lt-ltb, le-ltb, le-leb, lt-leb}
-use Rattle.std.specs.Prelude.{Ok, Err}
-use Rattle.laws.proofs.Tests.{and_left, and_right, lt-or}
+use Rattle.std.specs.Prelude.{Result, Ok, Err}
+use Rattle.laws.proofs.Tests.{lt-or}
 use Rattle.codebook.specs.declared.Refusal.{Refusal}
-use Rattle.codebook.specs.declared.Refusal.TheVariants.{Truncated, Misplaced, OutOfRange, TooManyTied, TooManyFree}
+use Rattle.codebook.specs.declared.Refusal.TheVariants.{Truncated, Misplaced, OutOfRange, TooManyFree}
 use Rattle.codebook.specs.declared.Command.{Command}
 use Rattle.codebook.specs.declared.Command.TheVariants.{Length, Free, Zero, Tie, Term, Block as NextBlock, End}
 use Rattle.codebook.specs.declared.Progress.{Progress}
@@ -21,27 +21,28 @@ use Rattle.codebook.specs.declared.Step.TheVariants.{Next, End as Ended}
 use Rattle.codebook.specs.Refusals.{unless}
 use Rattle.codebook.specs.Book.{free_count}
 use Rattle.codebook.specs.Loading.{Loading, total, last_terms, member, placed, fault, grown, next}
-use Rattle.codebook.specs.Progress.{byte_of, is_end, verdict, CountsLoaded, stands, Settled, Goes, Judged, run_command, block_fits, kind_of}
+use Rattle.codebook.specs.Progress.{byte_of, is_end, verdict, CountsLoaded, stands, Settled, Goes, run_command, block_fits, kind_of}
 
--- ---- a command that may stand
+-- ---- what is settled
 
-pub refuse : {K : Type 0} (o : Option Refusal) (P : Progress → Type 0) (r : Refusal) → o ≡ some r → K → Settled o K P (Err r)
-unfolding Settled
-refuse o P r e k = rw e (refl, k)
+module _ {A : Type 0} where
+  pub refuse : {K : Type 0} (o : Option Refusal) (P : A → Type 0) (r : Refusal) → o ≡ some r → K → Settled o K P (Err r)
+  unfolding Settled
+  refuse o P r e k = rw e (refl, k)
 
-pub proceed : (K : Type 0) (o : Option Refusal) (P : Progress → Type 0) (q : Progress) → o ≡ none → P q → Settled o K P (Ok q)
-unfolding Settled
-proceed K o P q e h = rw e (q, refl, h)
+  pub proceed : (K : Type 0) (o : Option Refusal) (P : A → Type 0) (y : A) → o ≡ none → P y → Settled o K P (Ok y)
+  unfolding Settled
+  proceed K o P y e h = rw e (y, refl, h)
 
--- what a block that fits has passed
-pub fits-facts : (start n j : ℕ) (bias : ℤ) → block_fits start n j bias ≡ true → (j ≤ 5) × (start + 2 ^ j ≤ n)
-unfolding block_fits
-fits-facts start n j bias e =
-    let short = leb j 5 in
-    let aligned = eqb (start % 2 ^ j) 0 in
-    let within = leb (start + 2 ^ j) n in
-    let t = and_left (short && aligned && within) (leb (nat_abs bias) 1048576) (subst T (sym e) tt) in
-    (leb→le j 5 (and_left short aligned (and_left (short && aligned) within t)), leb→le (start + 2 ^ j) n (and_right (short && aligned) within t))
+  pub refused : (K : Type 0) (o : Option Refusal) (P : A → Type 0) (r : Refusal) → Settled o K P (Err r) → (o ≡ some r) × K
+  unfolding Settled
+  refused K none P r h = let e : ◌≡◌ {A = Result A Refusal} (Err r) (Ok h.0) = h.1 in absurd (let z : ◌≡◌ {A = ℕ} 0 1 = cc in omega arith)
+  refused K (some f) P r h = let e : ◌≡◌ {A = Result A Refusal} (Err r) (Err f) = h.0 in (let g : some f ≡ some r = cc in g, h.1)
+
+  pub proceeded : (K : Type 0) (o : Option Refusal) (P : A → Type 0) (y : A) → Settled o K P (Ok y) → (o ≡ none) × P y
+  unfolding Settled
+  proceeded K none P y h = let e : ◌≡◌ {A = Result A Refusal} (Ok y) (Ok h.0) = h.1 in (refl, subst P (let f : h.0 ≡ y = cc in f) h.2)
+  proceeded K (some f) P y h = let e : ◌≡◌ {A = Result A Refusal} (Ok y) (Err f) = h.0 in absurd (let z : ◌≡◌ {A = ℕ} 0 1 = cc in omega arith)
 
 -- a run has the faults of free indices, and puts its kinds last
 pub run-goes : (s : Loading) (code count : ℕ) → fault s (run_command code count) ≡ fault s (Free count) × next s (run_command code count) ≡ grown s (replicate count (kind_of code))
@@ -53,27 +54,12 @@ twice : (b : Bool) → b ≡ not (not b)
 twice true = refl
 twice false = refl
 
--- what is settled is judged so
-settled-refused : (o : Option Refusal) (K : Type 0) (P : Progress → Type 0) (r : Refusal) → Settled o K P (Err r) → Judged o false K P (Err r)
-unfolding Settled Judged Goes
-settled-refused none K P r h = let e : Err r ≡ Ok h.0 = h.1 in absurd (let z : ◌≡◌ {A = ℕ} 0 1 = cc in omega arith)
-settled-refused (some f) K P r h = let e : Err r ≡ Err f = h.0 in (let g : r ≡ f = cc in rw g, h.1)
-
-settled-obeyed : (o : Option Refusal) (K : Type 0) (P : Progress → Type 0) (q : Progress) → Settled o K P (Ok q) → Judged o false K P (Ok (Next q))
-unfolding Settled Judged Goes
-settled-obeyed none K P q h = let e : Ok q ≡ Ok h.0 = h.1 in (q, refl, subst P (let f : h.0 ≡ q = cc in f) h.2)
-settled-obeyed (some f) K P q h = let e : Ok q ≡ Err f = h.0 in absurd (let z : ◌≡◌ {A = ℕ} 0 1 = cc in omega arith)
-
 module _ (p : Progress) (s : Loading) (c : CountsLoaded p s) where
   -- ---- faults
 
   pub length-low : (m : ℕ) → m < 2 → fault s (Length m) ≡ some OutOfRange
   unfolding fault unless
   length-low m h = rw (lt-leb 2 m h)
-
-  pub length_high : (m : ℕ) → 2 ≤ m → 9 < m → fault s (Length m) ≡ some OutOfRange
-  unfolding fault unless
-  length_high m l h = rw (le-leb 2 m l, lt-leb m 9 h)
 
   pub length-fits : (m : ℕ) → 2 ≤ m → m ≤ 9 → fault s (Length m) ≡ none
   unfolding fault unless
@@ -94,10 +80,6 @@ module _ (p : Progress) (s : Loading) (c : CountsLoaded p s) where
   pub tie-later : (i : ℕ) → p.filled ≤ i → fault s (Tie i) ≡ some OutOfRange
   unfolding fault unless
   tie-later i h = rw (le-ltb i (length s.kinds) (omega (arith, c.filled)))
-
-  pub tie-many : (i : ℕ) → i < p.filled → 32 ≤ p.ties → fault s (Tie i) ≡ some TooManyTied
-  unfolding fault unless
-  tie-many i h m = rw (lt-ltb i (length s.kinds) (omega (arith, c.filled)), le-ltb s.ties 32 (omega (arith, c.ties)))
 
   pub tie-fits : (i : ℕ) → i < p.filled → p.ties < 32 → fault s (Tie i) ≡ none
   unfolding fault unless
@@ -147,27 +129,31 @@ module _ (p : Progress) (s : Loading) (c : CountsLoaded p s) where
   -- ---- a command and its operands, whole or cut
 
   module _ (k : Command) where
-    pub misplaced : (whole : Bool) {K : Type 0} (P : Progress → Type 0) → stands p k ≡ false → K → Judged (verdict s k whole) (is_end k) K P (Err Misplaced)
-    unfolding verdict unless Judged
-    misplaced whole P e h = rw (sym (stands-placed k) ∙ e) (refl, h)
-
-    pub truncated : {K : Type 0} (P : Progress → Type 0) → stands p k ≡ true → is_end k ≡ false → K → Judged (verdict s k false) (is_end k) K P (Err Truncated)
-    unfolding verdict unless Judged
-    truncated P e n h = rw (sym (stands-placed k) ∙ e, n) (refl, h)
-
-    -- with all of them, it is settled
-    pub refused : (K : Type 0) (P : Progress → Type 0) (r : Refusal) → stands p k ≡ true → is_end k ≡ false → Settled (fault s k) K P (Err r) → Judged (verdict s k true) (is_end k) K P (Err r)
+    pub verdict-misplaced : (whole : Bool) → stands p k ≡ false → verdict s k whole ≡ some Misplaced
     unfolding verdict unless
-    refused K P r e n h = rw (sym (stands-placed k) ∙ e, n) (settled-refused (fault s k) K P r h)
+    verdict-misplaced whole e = rw (sym (stands-placed k) ∙ e)
 
-    pub obeyed : (K : Type 0) (P : Progress → Type 0) (q : Progress) → stands p k ≡ true → is_end k ≡ false → Settled (fault s k) K P (Ok q) → Judged (verdict s k true) (is_end k) K P (Ok (Next q))
+    pub verdict-cut : stands p k ≡ true → is_end k ≡ false → verdict s k false ≡ some Truncated
     unfolding verdict unless
-    obeyed K P q e n h = rw (sym (stands-placed k) ∙ e, n) (settled-obeyed (fault s k) K P q h)
+    verdict-cut e n = rw (sym (stands-placed k) ∙ e, n)
+
+    pub verdict-whole : stands p k ≡ true → is_end k ≡ false → verdict s k true ≡ fault s k
+    unfolding verdict unless
+    verdict-whole e n = rw (sym (stands-placed k) ∙ e, n)
 
   -- the end needs no operands
-  pub ends : (whole : Bool) (K : Type 0) (P : Progress → Type 0) → stands p End ≡ true → P p → Judged (verdict s End whole) (is_end End) K P (Ok (Ended p))
-  unfolding verdict unless Judged Goes is_end byte_of fault
-  ends whole K P e h = rw (sym (stands-placed End) ∙ e) (p, refl, h)
+  pub verdict-end : (whole : Bool) → stands p End ≡ true → verdict s End whole ≡ none
+  unfolding verdict unless is_end byte_of fault
+  verdict-end whole e = rw (sym (stands-placed End) ∙ e)
+
+-- numbers that go on are no end, or are the end's
+pub goes-next : (k : Bool) (P : Progress → Type 0) (q : Progress) → k ≡ false → P q → Goes k P (Next q)
+unfolding Goes
+goes-next k P q e h = rw e (q, refl, h)
+
+pub goes-end : (k : Bool) (P : Progress → Type 0) (q : Progress) → k ≡ true → P q → Goes k P (Ended q)
+unfolding Goes
+goes-end k P q e h = rw e (q, refl, h)
 
 -- a command that is not the end
 pub not-end : (k : Command) → (k ≡ End → ⊥) → is_end k ≡ false

@@ -3,7 +3,7 @@
 
 #![tactic(auto)]
 
-ghost use Rattle.std.specs.Prelude.{◌≡◌, true, ◌<◌, ◌≤◌, ◌==◌, count_by};
+ghost use Rattle.std.specs.Prelude.{◌≡◌, true, ◌+◌, ◌^◌, ◌<◌, ◌≤◌, ◌==◌, IsTrue, count_by};
 ghost use Rattle.codebook.specs.Progress.{stands, Grows, Obeys, run_command, block_fits};
 
 use codebook::{Command, FREE, Progress, Refusal, Step, TIED, Tables, ZERO};
@@ -17,9 +17,7 @@ fn stands(p: Progress, c: Command) -> bool
 {
     match c {
         Command::Length(_) => p.m == 0,
-        Command::Free(_) => p.filled < p.n,
-        Command::Zero(_) => p.filled < p.n,
-        Command::Tie(_) => p.filled < p.n,
+        Command::Free(_) | Command::Zero(_) | Command::Tie(_) => p.filled < p.n,
         Command::Term(_) => p.tying,
         Command::Block(_, _) => p.filled == p.n && p.covered < p.n,
         Command::End => p.m != 0 && p.covered == p.n,
@@ -27,6 +25,7 @@ fn stands(p: Progress, c: Command) -> bool
 }
 
 // The length.
+#[tactic(auto, unfolding(codebook::specs::Progress::Settled, codebook::specs::Loading::fault, codebook::specs::Refusals::unless))]
 fn begin(p: Progress, m: u32, tables: &mut Tables) -> Result<Progress, Refusal>
     requires { p.m ≡ 0 }
     ensures { Grows p (Command.Length m) tables.old tables.new result }
@@ -56,10 +55,7 @@ fn run(p: Progress, count: u32, code: u8, tables: &mut Tables) -> Result<Progres
     requires { (p.filled < p.n) × (code < 2) }
     ensures { Grows p (run_command code count) tables.old tables.new result }
 {
-    if count < 1 {
-        return Err(Refusal::OutOfRange);
-    }
-    if p.n - p.filled < count {
+    if count < 1 || p.n - p.filled < count {
         return Err(Refusal::OutOfRange);
     }
     let filled = p.filled + count;
@@ -71,6 +67,7 @@ fn run(p: Progress, count: u32, code: u8, tables: &mut Tables) -> Result<Progres
 }
 
 // The next index is tied to index i.
+#[tactic(auto, unfolding(codebook::specs::Progress::Settled, codebook::specs::Loading::fault, codebook::specs::Refusals::unless))]
 fn tie(p: Progress, i: u32, tables: &mut Tables) -> Result<Progress, Refusal>
     requires { p.filled < p.n }
     ensures { Grows p (Command.Tie i) tables.old tables.new result }
@@ -96,10 +93,7 @@ fn term(p: Progress, i: u32, tables: &mut Tables) -> Result<Progress, Refusal>
     requires { p.tying ≡ true }
     ensures { Grows p (Command.Term i) tables.old tables.new result }
 {
-    if p.filled <= i {
-        return Err(Refusal::OutOfRange);
-    }
-    if p.filled - i <= 1 {
+    if p.filled.saturating_sub(i) <= 1 {
         return Err(Refusal::OutOfRange);
     }
     let bit = word_power(p.ties - 1);
@@ -113,7 +107,8 @@ fn term(p: Progress, i: u32, tables: &mut Tables) -> Result<Progress, Refusal>
 // Whether a block of length 2^j may start at an index, and its bias is in range.
 fn fits(covered: u32, n: u32, j: u32, bias: i32) -> bool
     requires { (covered ≤ n) × (n ≤ 512) }
-    ensures { result ≡ block_fits covered n j bias }
+    ensures value { result ≡ block_fits covered n j bias }
+    ensures within { IsTrue result → (j ≤ 5) × (covered + 2 ^ j ≤ n) }
 {
     if 5 < j {
         return false;
@@ -139,7 +134,8 @@ fn block(p: Progress, j: u32, bias: i32, tables: &mut Tables) -> Result<Progress
     }
     let end = p.covered + word_power(j);
     let free = count_free(&tables.kinds[p.covered as usize..end as usize]);
-    if 8 < free {
+    let light = free <= 8;
+    if !light {
         return Err(Refusal::TooManyFree);
     }
     let b = p.blocks as usize;

@@ -13,6 +13,7 @@ pub fn entry(score: i32, blocks: u32, number: u32, slot: usize) -> u64
 }
 
 // The slot of an entry.
+#[tactic(auto, unfolding(crate::specs::Entries::slot_at))]
 pub fn slot_of(e: u64) -> usize
     ensures { (result ≡ slot_at e) × (result < 256) }
 {
@@ -20,6 +21,7 @@ pub fn slot_of(e: u64) -> usize
 }
 
 // The number of an entry's path.
+#[tactic(auto, unfolding(crate::specs::Entries::key_at))]
 pub fn number_of(e: u64) -> u32
     ensures { result ≡ (key_at e).number }
 {
@@ -27,6 +29,7 @@ pub fn number_of(e: u64) -> u32
 }
 
 // Its blocks.
+#[tactic(auto, unfolding(crate::specs::Entries::key_at))]
 pub fn blocks_of(e: u64) -> u32
     ensures { result ≡ (key_at e).blocks }
 {

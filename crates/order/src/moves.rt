@@ -11,10 +11,7 @@ fn above(order: &[u64; 256], k: usize, e: u64) -> bool
     requires { k ≤ 256 }
     ensures { result ≡ (ltb 0 k && leb (e / 256) (get_or order.now (k - 1) 0 / 256)) }
 {
-    if k == 0 {
-        return false;
-    }
-    order[k - 1] >= e / 256 * 256
+    k > 0 && order[k - 1] >= e / 256 * 256
 }
 
 // Whether there are four entries just below place k and e comes before none of them, as the lowest of the four tells.
@@ -22,10 +19,7 @@ fn four_above(order: &[u64; 256], k: usize, e: u64) -> bool
     requires { k ≤ 256 }
     ensures { result ≡ true → (4 ≤ k) × (e / 256 ≤ get_or order.now (k - 4) 0 / 256) }
 {
-    if k < 4 {
-        return false;
-    }
-    above(order, k - 3, e)
+    k >= 4 && above(order, k - 3, e)
 }
 
 // Entries above e go up by one, four at a time, the highest first, while there are four. Returns the place below which none has moved.
@@ -69,10 +63,8 @@ pub fn cut(order: &mut [u64; 256], queued: usize, kept: usize)
     ensures rising { Rising order.old queued → Rising order.new kept }
 {
     let by = queued - kept;
-    let mut i: usize = 0;
-    while i < kept {
+    for i in 0..kept {
         order[i] = order[i + by];
-        i += 1;
     }
 }
 
@@ -84,14 +76,12 @@ pub fn sift(order: &mut [u64; 256], queued: usize, b: u32) -> usize
     ensures rising { Rising order.old queued → Rising order.new result }
 {
     let mut kept: usize = 0;
-    let mut i: usize = 0;
-    while i < queued {
+    for i in 0..queued {
         let e = order[i];
         if blocks_of(e) > b {
             order[kept] = e;
             kept += 1;
         }
-        i += 1;
     }
     kept
 }

@@ -51,11 +51,6 @@ read_back {r} l i h e =
     let same : back r ≡ r = to_z-of_z (abs-fits r (omega (arith, ap nat_abs e))) in
     (same ∙ e, omega (arith, ap nat_abs (same ∙ e)))
 
--- four values that fit, read back
-pub back-costs : (v : ℕ) {a b c d : ℤ} → SFits w32 a → SFits w32 b → SFits w32 c → SFits w32 d
-    → cost_of v (back a ∷ back b ∷ back c ∷ back d ∷ []) ≡ cost_of v (a ∷ b ∷ c ∷ d ∷ [])
-back-costs v f g h i = rw (to_z-of_z f, to_z-of_z g, to_z-of_z h, to_z-of_z i)
-
 -- ---- four values
 
 -- missing values cost nothing
@@ -74,9 +69,17 @@ four-costs w (a ∷ b ∷ c ∷ []) = omega (arith, none (w / 2 / 2 / 2 % 2))
 four-costs w (a ∷ b ∷ c ∷ d ∷ l) = refl
 
 -- the four values from k on
-pub part-costs : (w k : ℕ) (vs : List ℤ) → cost_of w (get_or vs (k + 0) (pos 0) ∷ get_or vs (k + 1) (pos 0) ∷ get_or vs (k + 2) (pos 0) ∷ get_or vs (k + 3) (pos 0) ∷ []) ≡ cost_of w (part k 4 vs)
+part-costs : (w k : ℕ) (vs : List ℤ) → cost_of w (get_or vs (k + 0) (pos 0) ∷ get_or vs (k + 1) (pos 0) ∷ get_or vs (k + 2) (pos 0) ∷ get_or vs (k + 3) (pos 0) ∷ []) ≡ cost_of w (part k 4 vs)
 unfolding part
 part-costs w k vs = rw (← get_or-drop k vs 0 (pos 0), ← get_or-drop k vs 1 (pos 0), ← get_or-drop k vs 2 (pos 0), ← get_or-drop k vs 3 (pos 0)) (four-costs w (drop k vs))
+
+-- the same, as they were read
+pub four-back : (w k : ℕ) (vs : List ℤ) {r0 r1 r2 r3 : ℤ} → All (Within 1048064) vs → r0 ≡ get_or vs k (pos 0) → r1 ≡ get_or vs (k + 1) (pos 0) → r2 ≡ get_or vs (k + 2) (pos 0) → r3 ≡ get_or vs (k + 3) (pos 0)
+    → cost_of w (back r0 ∷ back r1 ∷ back r2 ∷ back r3 ∷ []) ≡ cost_of w (part k 4 vs)
+four-back w k vs h e0 e1 e2 e3 =
+    let z : k ≡ k + 0 = omega arith in
+    rw ((read_back vs k h e0).0, (read_back vs (k + 1) h e1).0, (read_back vs (k + 2) h e2).0, (read_back vs (k + 3) h e3).0)
+    (ap (λ i. cost_of w (get_or vs i (pos 0) ∷ get_or vs (k + 1) (pos 0) ∷ get_or vs (k + 2) (pos 0) ∷ get_or vs (k + 3) (pos 0) ∷ [])) z ∙ part-costs w k vs)
 
 first : (w : ℕ) (s : ℤ) → cost (w % 2) s ≡ cost (w % 16 % 2) s
 first w s = let e : w % 2 ≡ w % 16 % 2 = omega arith in ap (λ b. cost b s) e
@@ -129,24 +132,17 @@ picked-costs {t} {runs} {vs} c w = from 0 runs w (omega arith)
 abbrev pub RunsFilled : List ℕ → ℕ → List ℤ → Type 0
 RunsFilled t p vs = (q v : ℕ) → q < p → v < 16 → get_or t (16 * q + v) 0 ≡ cost_of v (part (4 * q) 4 vs)
 
--- one more, by the values s0 to s3
-pub runs-more : (old new : List ℕ) (p : ℕ) (vs : List ℤ) {s0 s1 s2 s3 : ℤ} → RunsFilled old p vs → ((k : ℕ) → k < p * 16 → get_or new k 0 ≡ get_or old k 0)
-    → ((v : ℕ) → v < 16 → get_or new (p * 16 + v) 0 ≡ cost_of v (s0 ∷ s1 ∷ s2 ∷ s3 ∷ []))
-    → s0 ≡ get_or vs (p * 4) (pos 0) → s1 ≡ get_or vs (p * 4 + 1) (pos 0) → s2 ≡ get_or vs (p * 4 + 2) (pos 0) → s3 ≡ get_or vs (p * 4 + 3) (pos 0) → RunsFilled new (p + 1) vs
-runs-more old new p vs {s0} {s1} {s2} {s3} r same made e0 e1 e2 e3 q v l k = go (lt-or q p)
+-- one more
+pub runs-more : (old new : List ℕ) (p : ℕ) (vs : List ℤ) → RunsFilled old p vs → ((k : ℕ) → k < p * 16 → get_or new k 0 ≡ get_or old k 0)
+    → ((v : ℕ) → v < 16 → get_or new (p * 16 + v) 0 ≡ cost_of v (part (p * 4) 4 vs)) → RunsFilled new (p + 1) vs
+runs-more old new p vs r same made q v l k = go (lt-or q p)
   where
-    z : p * 4 ≡ p * 4 + 0
-    z = omega arith
-
-    values : cost_of v (s0 ∷ s1 ∷ s2 ∷ s3 ∷ []) ≡ cost_of v (part (p * 4) 4 vs)
-    values = rw (e0, e1, e2, e3) (ap (λ i. cost_of v (get_or vs i (pos 0) ∷ get_or vs (p * 4 + 1) (pos 0) ∷ get_or vs (p * 4 + 2) (pos 0) ∷ get_or vs (p * 4 + 3) (pos 0) ∷ [])) z ∙ part-costs v (p * 4) vs)
-
     go : (q < p) ⊎ (p ≤ q) → get_or new (16 * q + v) 0 ≡ cost_of v (part (4 * q) 4 vs)
     go (inl a) = same (16 * q + v) (omega arith) ∙ r q v a k
     go (inr a) =
         let i : 16 * q + v ≡ p * 16 + v = omega arith in
         let n : p * 4 ≡ 4 * q = omega arith in
-        ap (λ m. get_or new m 0) i ∙ made v k ∙ values ∙ ap (λ m. cost_of v (part m 4 vs)) n
+        ap (λ m. get_or new m 0) i ∙ made v k ∙ ap (λ m. cost_of v (part m 4 vs)) n
 
 -- the cost of a half byte at the four values from k on
 pub part_small : (v k : ℕ) (vs : List ℤ) → All (Within 1048064) vs → cost_of v (part k 4 vs) ≤ 4192256
@@ -156,7 +152,6 @@ part_small v k vs h =
 
 -- its entries are small
 pub costs-small : {t : List ℕ} {runs : ℕ} {vs : List ℤ} → Costs t runs vs → All (Within 1048064) vs → Small t runs
-unfolding Small
 costs-small {t} {runs} {vs} c h k l =
     let p : ℕ = k / 16 in
     let v : ℕ = k % 16 in
@@ -167,7 +162,6 @@ costs-small {t} {runs} {vs} c h k l =
 
 -- an entry that is picked
 pub entry-small : (t : List ℕ) (n p w r : ℕ) → Small t n → p < n → r ≡ get_or t (16 * p + w % 16) 0 → r ≤ 4192256
-unfolding Small
 entry-small t n p w r s h e = omega (arith, s (16 * p + w % 16) (omega arith))
 
 pub picked-two : (t : List ℕ) (w : ℕ) → picked t 0 2 w ≡ get_or t (16 * 0 + w % 16) 0 + get_or t (16 * 1 + w / 16 % 16) 0
@@ -191,5 +185,4 @@ picked-eight t w =
     omega (arith, ap (picked t 4 4) e)
 
 pub small-less : (t : List ℕ) (k n : ℕ) → Small t n → k ≤ n → Small t k
-unfolding Small
 small-less t k n s h i l = s i (omega arith)

@@ -116,7 +116,7 @@ pub record Costs (t : List ℕ) (runs : ℕ) (vs : List ℤ) : Type 0 where
   pub at : (p v : ℕ) → p < runs → v < 16 → get_or t (16 * p + v) 0 ≡ cost_of v (part (4 * p) 4 vs)
 
 -- no entry of its runs is above 4 magnitudes
-unfoldable pub Small : List ℕ → ℕ → Type 0
+abbrev pub Small : List ℕ → ℕ → Type 0
 Small t runs = (k : ℕ) → k < 16 * runs → get_or t k 0 ≤ 4192256
 
 -- ---- the least key

@@ -17,23 +17,16 @@ pub fn none() -> Two
     ensures { (k : ℕ → ℕ) (bound : ℕ) → result ≡ two_least k bound 0 }
 {
     Two {
-        first: 18446744073709551615,
-        second: 18446744073709551615,
+        first: u64::MAX,
+        second: u64::MAX,
         at: 0,
         next: 0,
     }
 }
 
 // x where a is below b, else y. (That b is at most the greatest number is said for callers that have it in a struct.)
-fn either(a: u64, b: u64, x: u64, y: u64) -> u64
+fn either<T: Copy>(a: u64, b: u64, x: T, y: T) -> T
     ensures { (result ≡ cond (ltb a b) x y) × (b ≤ 18446744073709551615) }
-{
-    if a < b { x } else { y }
-}
-
-// The same of settings.
-fn which(a: u64, b: u64, x: usize, y: usize) -> usize
-    ensures { result ≡ cond (ltb a b) x y }
 {
     if a < b { x } else { y }
 }
@@ -42,12 +35,8 @@ fn which(a: u64, b: u64, x: usize, y: usize) -> usize
 fn open(key: u64, bound: u64, first: u64) -> u64
     ensures { result ≡ opened key bound first }
 {
-    let later = either(key, bound, 18446744073709551615, key);
-    if later == first {
-        18446744073709551615
-    } else {
-        later
-    }
+    let later = either(key, bound, u64::MAX, key);
+    if later == first { u64::MAX } else { later }
 }
 
 // The two least with the key of one setting more, by its cost and its number, where it is not below the bound; the earlier of equals. It is all choices and
@@ -60,12 +49,12 @@ pub fn among(two: Two, bound: u64, cost: u32, number: u32, setting: usize) -> Tw
     let less = two.second;
     let x = open(key(cost, number), bound, least);
     let second = either(x, less, x, less);
-    let next = which(x, less, setting, two.next);
+    let next = either(x, less, setting, two.next);
     Two {
         first: either(x, least, x, least),
         second: either(x, least, least, second),
-        at: which(x, least, setting, two.at),
-        next: which(x, least, two.at, next),
+        at: either(x, least, setting, two.at),
+        next: either(x, least, two.at, next),
     }
 }
 

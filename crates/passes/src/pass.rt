@@ -1,16 +1,18 @@
 // The search of a block's words, by the directions that were walked: all words are listed, and one pass over their keys keeps the two least from
 // the bound on. Relies on least_two.rt and, for the words and their costs, on crate tables; specs/Pass.antt says what is found.
 ghost use Rattle.std.specs.Prelude.{◌≡◌, ℕ, ◌+◌, ◌-◌, ◌^◌, ◌≤◌, ◌<◌, length, get_or};
+ghost use Rattle.std.specs.Option.{IfSome};
 ghost use Rattle.laws.specs.Lists.{All};
-ghost use Rattle.polar.specs.Layers.{part, Within};
+ghost use Rattle.polar.specs.Layers.{Within};
 ghost use Rattle.outer.specs.Search.{Entry, Spans, picked, Runs, Small, least_from, answer, setting_key};
 ghost use Rattle.passes.specs.Pass.{after_first, two_least, Turned, summed_key, chosen};
 
 use crate::Two;
 use crate::least_two::{among, none, sift, sift_both};
-use outer::{Candidate, Pair};
+use outer::{Candidate, Pair, Scratch};
 use tables::costs::{cost_of, prepare};
 use tables::messages::{double_all, spread_at};
+use tables::{Directions, HalfBytes};
 
 // The word of n ones.
 fn ones(n: usize) -> u32
@@ -21,121 +23,69 @@ fn ones(n: usize) -> u32
     (all - 1) as u32
 }
 
-// The sum of the costs of the first two words, where the last of at least 4 directions is the word of n ones; else the greatest number.
-fn turned(
-    words: &[u32; 256],
-    sums: &[u32; 128],
-    runs: usize,
-    steps: &[u32; 9],
-    free: usize,
-    n: usize,
-) -> u32
-    requires { Runs runs × Small sums.now runs × (free ≤ 8) × (n ≤ 32) }
-    ensures { (result ≡ 4294967295 → ⊥) → (0 < free) × (get_or steps.now free 0 ≡ 2 ^ n - 1)
-        × (result ≡ picked sums.now 0 runs (get_or words.now 0 0) + picked sums.now 0 runs (get_or words.now 1 0)) }
+// The sum of the costs of the first two words, where the last of at least 4 directions is the word of n ones.
+fn turned(words: &[u32], table: HalfBytes, directions: &Directions, n: usize) -> Option<u32>
+    requires { (n ≤ 32) × (length words.now ≡ 2 ^ directions.now.free) }
+    ensures { IfSome result (λ total. (0 < directions.now.free) × (get_or directions.now.words directions.now.free 0 ≡ 2 ^ n - 1) × (total < 4294967295)
+        × (total ≡ picked table.entry.sums.now 0 table.entry.runs (get_or words.now 0 0) + picked table.entry.sums.now 0 table.entry.runs (get_or words.now 1 0))) }
 {
-    if free < 4 {
-        return 4294967295;
+    if directions.free < 4 || directions.words[directions.free] != ones(n) {
+        return None;
     }
-    if steps[free] != ones(n) {
-        return 4294967295;
-    }
-    cost_of(sums, runs, words[0]) + cost_of(sums, runs, words[1])
+    Some(cost_of(table, words[0]) + cost_of(table, words[1]))
 }
 
-// The two least keys from the bound on, of the first `count` words.
-fn two_each(words: &[u32; 256], count: usize, sums: &[u32; 128], runs: usize, bound: u64) -> Two
-    requires { (count ≤ 256) × Runs runs × Small sums.now runs }
-    ensures { result ≡ two_least (summed_key sums.now runs words.now) bound count }
+// The two least keys of words from the bound on.
+fn two_each(words: &[u32], table: HalfBytes, bound: u64) -> Two
+    ensures { result ≡ two_least (summed_key table.entry.sums.now table.entry.runs words.now) bound (length words.now) }
 {
     let mut two = none();
-    let mut w: usize = 0;
-    while w < count {
-        let word = words[w];
-        two = sift(two, bound, cost_of(sums, runs, word), word, w, count);
-        w += 1;
+    for (w, word) in words.iter().enumerate() {
+        two = sift(two, bound, cost_of(table, *word), *word, w, words.len());
     }
     two
 }
 
-// The same, where the costs of each two words from an even setting on have one sum: each second cost is what is left of it.
-// For few words: no branch.
-fn few_turned(
-    words: &[u32; 256],
-    count: usize,
-    sums: &[u32; 128],
-    runs: usize,
-    total: u32,
-    bound: u64,
-) -> Two
-    requires { (count ≤ 256) × Runs runs × Small sums.now runs × (total < 4294967295) × Turned sums.now runs words.now count total }
-    ensures { result ≡ two_least (summed_key sums.now runs words.now) bound count }
+// The same, where the costs of each two words from an even setting on have one sum: each second cost is what is left of it. Of many words most are passed
+// over, two at a time; for few there is no branch.
+fn two_turned<const MANY: bool>(words: &[u32], table: HalfBytes, total: u32, bound: u64) -> Two
+    requires { (total < 4294967295) × Turned table.sums.now table.runs words.now (length words.now) total }
+    ensures { result ≡ two_least (summed_key table.entry.sums.now table.entry.runs words.now) bound (length words.now) }
 {
     let mut two = none();
-    let mut w: usize = 0;
-    while w < count {
+    for k in 0..words.len() / 2 {
+        let w = 2 * k;
         let word = words[w];
         let other = words[w + 1];
-        let cost = cost_of(sums, runs, word);
-        let one = among(two, bound, cost, word, w);
-        two = among(one, bound, total - cost, other, w + 1);
-        w += 2;
+        let cost = cost_of(table, word);
+        if MANY {
+            two = sift_both(two, bound, cost, word, total - cost, other, w);
+        } else {
+            let one = among(two, bound, cost, word, w);
+            two = among(one, bound, total - cost, other, w + 1);
+        }
     }
     two
 }
 
-// The same for many words: most are passed over, two at a time.
-fn many_turned(
-    words: &[u32; 256],
-    count: usize,
-    sums: &[u32; 128],
-    runs: usize,
-    total: u32,
-    bound: u64,
-) -> Two
-    requires { (count ≤ 256) × Runs runs × Small sums.now runs × (total < 4294967295) × Turned sums.now runs words.now count total }
-    ensures { result ≡ two_least (summed_key sums.now runs words.now) bound count }
+// The same, two words a turn where there is such a sum; more than 64 words are many.
+fn pass(words: &[u32], table: HalfBytes, total: Option<u32>, bound: u64) -> Two
+    requires { IfSome total (λ total. (total < 4294967295) × Turned table.sums.now table.runs words.now (length words.now) total) }
+    ensures { result ≡ two_least (summed_key table.entry.sums.now table.entry.runs words.now) bound (length words.now) }
 {
-    let mut two = none();
-    let mut w: usize = 0;
-    while w < count {
-        let word = words[w];
-        let other = words[w + 1];
-        let cost = cost_of(sums, runs, word);
-        two = sift_both(two, bound, cost, word, total - cost, other, w);
-        w += 2;
+    match total {
+        None => two_each(words, table, bound),
+        Some(total) if words.len() > 64 => two_turned::<true>(words, table, total, bound),
+        Some(total) => two_turned::<false>(words, table, total, bound),
     }
-    two
-}
-
-// The same, two words a turn unless the sum is the greatest number; more than 64 words are many.
-fn pass(
-    words: &[u32; 256],
-    count: usize,
-    sums: &[u32; 128],
-    runs: usize,
-    total: u32,
-    bound: u64,
-) -> Two
-    requires { (count ≤ 256) × Runs runs × Small sums.now runs
-        × ((total ≡ 4294967295 → ⊥) → Turned sums.now runs words.now count total) }
-    ensures { result ≡ two_least (summed_key sums.now runs words.now) bound count }
-{
-    if total == 4294967295 {
-        return two_each(words, count, sums, runs, bound);
-    }
-    if count > 64 {
-        return many_turned(words, count, sums, runs, total, bound);
-    }
-    few_turned(words, count, sums, runs, total, bound)
 }
 
 // The word with a key, as a candidate; none for the greatest number.
-fn candidate(key: u64, at: usize, steps: &[u32; 9], free: usize) -> Candidate
-    requires { (at < 256) × (free ≤ 8) }
-    ensures { result ≡ chosen steps.now free key at }
+fn candidate(key: u64, at: usize, directions: &Directions) -> Candidate
+    requires { at < 256 }
+    ensures { result ≡ chosen directions.now.sets directions.now.free key at }
 {
-    if key == 18446744073709551615 {
+    if key == u64::MAX {
         return Candidate {
             some: false,
             setting: 0,
@@ -147,35 +97,34 @@ fn candidate(key: u64, at: usize, steps: &[u32; 9], free: usize) -> Candidate
     Candidate {
         some: true,
         setting: at as u32,
-        parities: spread_at(steps, free, at as u32),
+        parities: spread_at(&directions.sets, directions.free, at as u32),
         cost: (key / 4294967296) as u32,
         number: (key % 4294967296) as u32,
     }
 }
 
-// The word of least key from a bound on, of a block of n positions with these directions of its words and sets, and the one of least key after it.
-pub fn find_two(
-    numbers: &[i32],
-    at: usize,
-    n: usize,
-    bound: u64,
-    steps: &[u32; 9],
-    ties: &[u32; 9],
-    free: usize,
-    words: &mut [u32; 256],
-    sums: &mut [u32; 128],
-) -> Pair
-    requires { (length words.old ≡ 256) × (length sums.old ≡ 128) × (free ≤ 8) × (n ≤ 32) × (at + n ≤ length numbers.now) × All (Within 1048064) (part at n numbers.now) }
-    ensures words_len { (length words.new ≡ 256) × (length sums.new ≡ 128) }
-    ensures by_index { (e : ℕ → Entry) → Spans steps.now ties.now free e → ((w : ℕ) → (e w).word < 4294967296)
-        → (let vs = part at n numbers.now in
-        (result.first ≡ answer e vs (least_from (setting_key e vs) bound (2 ^ free))) × (result.second ≡ answer e vs (after_first (setting_key e vs) bound (2 ^ free)))) }
+// The word of least key from a bound on, of a block with these values and directions, and the one of least key after it.
+pub fn find_two(values: &[i32], bound: u64, directions: &Directions, scratch: &mut Scratch) -> Pair
+    requires { (length values.now ≤ 32) × All (Within 1048064) values.now }
+    ensures { (e : ℕ → Entry) → Spans directions.now.words directions.now.sets directions.now.free e → ((w : ℕ) → (e w).word < 4294967296)
+        → (let n = 2 ^ directions.now.free in
+        (result.first ≡ answer e values.now (least_from (setting_key e values.now) bound n)) × (result.second ≡ answer e values.now (after_first (setting_key e values.now) bound n))) }
 {
-    let count = double_all(words, steps, free);
-    let runs = prepare(numbers, at, n, sums);
-    let total = turned(words, sums, runs, steps, free, n);
-    let two = pass(words, count, sums, runs, total, bound);
-    let first = candidate(two.first, two.at, ties, free);
-    let second = candidate(two.second, two.next, ties, free);
-    Pair { first, second }
+    let count = double_all(&mut scratch.words, directions);
+    let runs = prepare(values, &mut scratch.sums);
+    let words = &scratch.words[..count];
+    let table = HalfBytes {
+        sums: &scratch.sums,
+        runs,
+    };
+    let two = pass(
+        words,
+        table,
+        turned(words, table, directions, values.len()),
+        bound,
+    );
+    Pair {
+        first: candidate(two.first, two.at, directions),
+        second: candidate(two.second, two.next, directions),
+    }
 }

@@ -1,14 +1,12 @@
 -- Q by the signs of its arguments, the penalty as a cost with the other sign, and 002's Lemma 1: what a pair of bits costs is what they cost
 -- after one step down. Then lengths, magnitudes, and each definition by the tests that the code makes. By cases on the signs. Assumes nothing.
-use mathlib.Core.Path.{◌≡◌, refl, sym, ap, ap₂, ◌∙◌}
+use mathlib.Core.Path.{◌≡◌, refl, sym, ap, ap₂, ◌∙◌, subst}
 use mathlib.Core.Bool.{Bool, true, false, cond, ◌||◌, not, beq, true≢false}
 use mathlib.Core.List.{List, [], ◌∷◌, ◌++◌, zip_with}
 use Prim.Native.Nat.{ℕ, zero, suc, ◌+◌, ◌-◌, ◌*◌, ◌≤◌, min, ◌<◌}
 use native.Mathlib.Omega.{arith}
-use lib.ListN.{length, get_or, drop, drop_of_length-le}
+use lib.ListN.{length}
 use lib.IntN.{ℤ, pos, negsuc, neg_ℤ, nat_abs, sub_ℕ, ◌+ℤ◌, ◌-ℤ◌, neg_ℤ-+ℤ}
-use native.Mathlib.Numerals.{add-one}
-use lib.Seq.{drop-cons}
 use lib.Signed.{non_neg, lt_z}
 use lib.Dec.{T, ltb, eqb, ltb→lt, nltb→le, eqb→eq}
 use borrow.Author.Tests.{eq-eqb, ne_eqb}
@@ -16,10 +14,12 @@ use mir.Syntax.{w32}
 use mir.Val.{SFits}
 use Rattle.laws.specs.Lists.{All}
 use Rattle.laws.proofs.Tests.{cond-case}
-use Rattle.laws.proofs.Signed.{back, is_below, not-below, add_is, sub_is}
+use Rattle.laws.proofs.Signed.{back, is_below, not-below, abs-fits, add_is, sub_is}
+use mir.Facts.{to_z-of_z}
 use Rattle.laws.proofs.Integers.{neg-abs, add-abs}
 use Rattle.laws.proofs.Lists.{length-zip}
 use Rattle.polar.specs.Bits.{Bit, ◌⊕◌, add_bits}
+use Rattle.polar.specs.Layers.{Within}
 use Rattle.polar.specs.Soft.{sign, Q, P, Qs, Ps, hard, penalty, cost, discrepancy, ellipsoidal_weight}
 
 -- ---- Q by signs
@@ -149,15 +149,39 @@ discrepancy-append [] w (a ∷ xs) b l = absurd (omega arith)
 discrepancy-append (v ∷ vs) w [] b l = absurd (omega arith)
 discrepancy-append (v ∷ vs) w (a ∷ xs) b l = omega (arith, discrepancy-append vs w xs b (omega arith))
 
--- the discrepancy from position i on: position i's cost and the rest
-pub discrepancy-step : (w : List ℕ) (ys : List ℤ) (i : ℕ) → i < length w → i < length ys →
-    discrepancy (drop i w) (drop i ys) ≡ cost (get_or w i 0) (get_or ys i (pos 0)) + discrepancy (drop (i + 1) w) (drop (i + 1) ys)
-unfolding discrepancy
-discrepancy-step w ys i h k = rw (add-one, drop-cons w i 0 h, drop-cons ys i (pos 0) k)
+pub cost-le : (v : ℕ) (s : ℤ) → cost v s ≤ nat_abs s
+unfolding cost
+cost-le v s = cond-case (λ (n : ℕ). n ≤ nat_abs s) (eqb v (hard s)) (λ _. omega arith) (λ _. omega arith)
 
-pub discrepancy-end : (w : List ℕ) (ys : List ℤ) (i : ℕ) → length w ≤ i → discrepancy (drop i w) ys ≡ 0
+-- where the words go on with the bit v and the value s, a small one as all are
+module _ {c cs : List ℕ} {l ys : List ℤ} {v : ℕ} {s : ℤ} (e : c ≡ v ∷ cs) (f : l ≡ s ∷ ys) (a : All (Within 1048064) l) where
+  small-here : All (Within 1048064) (s ∷ ys)
+  small-here = subst (All (Within 1048064)) f a
+
+  pub here-back : back s ≡ s
+  unfolding All
+  here-back = let h : nat_abs s ≤ 1048064 = small-here.0 in to_z-of_z (abs-fits s (omega arith))
+
+  pub here-small : nat_abs (back s) ≤ 1048064
+  unfolding All
+  here-small = omega (arith, small-here.0, ap nat_abs here-back)
+
+  pub cost-small : cost v (back s) ≤ 1048064
+  cost-small = omega (arith, cost-le v (back s), here-small)
+
+  pub rest-small : All (Within 1048064) ys
+  unfolding All
+  rest-small = small-here.1
+
+  -- the discrepancy: this position's cost and the rest's
+  pub discrepancy-turn : discrepancy c l ≡ cost v (back s) + discrepancy cs ys
+  unfolding discrepancy
+  discrepancy-turn = ap₂ discrepancy e f ∙ ap (λ z. cost v z + discrepancy cs ys) (sym here-back)
+
+pub discrepancy-end : (c : List ℕ) (ys : List ℤ) → length c ≡ 0 → discrepancy c ys ≡ 0
 unfolding discrepancy
-discrepancy-end w ys i h = ap (λ l. discrepancy l ys) (drop_of_length-le w {i = i} h)
+discrepancy-end [] ys e = refl
+discrepancy-end (v ∷ cs) ys e = absurd (omega arith)
 
 -- ---- lengths
 
@@ -184,10 +208,6 @@ pub P-abs : (v : ℕ) (a b : ℤ) → nat_abs (P v a b) ≤ nat_abs a + nat_abs 
 unfolding P
 P-abs zero a b = omega (arith, add-abs b a)
 P-abs (suc v) a b = omega (arith, add-abs b (neg_ℤ a), neg-abs a)
-
-pub cost-le : (v : ℕ) (s : ℤ) → cost v s ≤ nat_abs s
-unfolding cost
-cost-le v s = cond-case (λ (n : ℕ). n ≤ nat_abs s) (eqb v (hard s)) (λ _. omega arith) (λ _. omega arith)
 
 -- ---- each definition by the tests that the code makes
 

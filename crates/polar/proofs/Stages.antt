@@ -2,12 +2,12 @@
 -- the number of runs. Assumes nothing.
 use mathlib.Core.Path.{◌≡◌, refl, sym, ap, ap₂, ◌∙◌}
 use mathlib.Core.List.{List, [], ◌∷◌, ◌++◌, append_assoc, append-nil}
-use Prim.Native.Nat.{ℕ, zero, suc, ◌+◌, ◌-◌, ◌*◌, ◌/◌, ◌^◌, ◌≤◌, ◌<◌}
-use native.Mathlib.Nat.{two-pow-succ, suc-mul, zero-mul, add_assoc, add-mul, mul-add}
+use Prim.Native.Nat.{ℕ, zero, suc, ◌+◌, ◌-◌, ◌*◌, ◌/◌, ◌%◌, ◌^◌, ◌≤◌, ◌<◌}
+use native.Mathlib.Nat.{two-pow-succ, suc-mul, zero-mul, add_assoc, add-mul, mul-add, mul-div_cancel, mod-eq_of_lt, lt_of_not-le}
 use native.Mathlib.Numerals.{add-one}
 use native.Mathlib.Omega.{arith}
 use lib.ListN.{length, take, drop, length-append, length-drop, take-append-drop}
-use lib.Pow.{pow-add}
+use lib.Pow.{pow-add, pow_mono, pow_pos}
 use lib.Seq.{take_at, drop_at, take_all, take-take, drop-drop, length-take-le}
 use Rattle.laws.specs.Lists.{All}
 use Rattle.laws.proofs.Lists.{all_take, all_drop, all_append, drop-take}
@@ -167,35 +167,43 @@ module _ (at h : ℕ) (c w : List ℕ) (room : at + (h + h) ≤ length c) (e : w
       ∙ regroup (take at c) (add_bits low high) high (stage k h after)
       ∙ ap (λ r. take at c ++ r) (sym (ap (stage (suc k) h) cut ∙ stage-pieces k h low high after low-length high-length))
 
--- ---- one turn of the transform's loop: c after j stages, of k runs of h bits
+-- ---- one turn of the transform's loop: c after j stages, k the number of pairs of runs, h the size of a run
 
-module _ {m j k h : ℕ} (l : List ℕ) {c : List ℕ} (e : length l ≡ 2 ^ m) (f : j < m) (eh : h ≡ 2 ^ j) (ek : k ≡ 2 ^ (m - j)) (ec : c ≡ runs k j l) where
-  twice : k ≡ 2 ^ (m - (j + 1)) + 2 ^ (m - (j + 1))
-  twice =
+module _ {m j : ℕ} (l : List ℕ) {c : List ℕ} (e : length l ≡ 2 ^ m) (f : j < m) (ec : c ≡ runs (2 ^ (m - j)) j l)
+    {k h : ℕ} (ek : k ≡ 2 ^ (m - (j + 1))) (eh : h ≡ 2 ^ j) where
+  paired : 2 ^ (m - j) ≡ k + k
+  paired =
       let d : m - j ≡ suc (m - (j + 1)) = omega arith in
-      ek ∙ ap (λ n. 2 ^ n) d ∙ two-pow-succ (m - (j + 1))
+      omega (arith, ap (λ n. 2 ^ n) d, two-pow-succ (m - (j + 1)))
 
-  pub halved : k / 2 ≡ 2 ^ (m - (j + 1))
-  halved = omega (arith, twice)
-
-  even : k / 2 + k / 2 ≡ k
-  even = omega (arith, twice)
-
-  whole : length l ≡ k * 2 ^ j
+  whole : length l ≡ (k + k) * 2 ^ j
   whole =
       let d : m ≡ m - j + j = omega arith in
-      e ∙ ap (λ n. 2 ^ n) d ∙ pow-add 2 (m - j) j ∙ ap (λ n. n * 2 ^ j) (sym ek)
+      e ∙ ap (λ n. 2 ^ n) d ∙ pow-add 2 (m - j) j ∙ ap (λ n. n * 2 ^ j) paired
 
-  pub pairs-length : length c ≡ k / 2 * (h + h)
+  pub pairs-length : length c ≡ k * (h + h)
   pairs-length =
-      ap length ec ∙ runs-length k j l whole ∙ ap₂ ◌*◌ (sym even) (sym eh)
-      ∙ add-mul (k / 2) (k / 2) h ∙ sym (mul-add (k / 2) h h)
+      ap length (ec ∙ ap (λ n. runs n j l) paired) ∙ runs-length (k + k) j l whole ∙ ap (λ n. (k + k) * n) (sym eh)
+      ∙ add-mul k k h ∙ sym (mul-add k h h)
 
-  pub doubled : h + h ≡ 2 ^ (j + 1)
-  doubled = omega (arith, two-pow-succ j, ap (λ n. 2 ^ n) (add-one j))
-
-  pub joined : stage (k / 2) h c ≡ runs (k / 2) (j + 1) l
+  pub joined : stage k h c ≡ runs (2 ^ (m - (j + 1))) (j + 1) l
   joined =
-      ap₂ (stage (k / 2)) eh (ec ∙ ap (λ n. runs n j l) (sym even))
-      ∙ runs-stage (k / 2) j l (whole ∙ ap (λ n. n * 2 ^ j) (sym even))
-      ∙ ap (λ n. runs (k / 2) n l) (sym (add-one j))
+      ap₂ (stage k) eh (ec ∙ ap (λ n. runs n j l) paired) ∙ runs-stage k j l whole
+      ∙ ap₂ (λ n i. runs n i l) ek (sym (add-one j))
+
+-- ---- the shifts that give k and h, for a word of n = 2^m bits
+
+module _ {m n : ℕ} (e : n ≡ 2 ^ m) (fits : n < 18446744073709551616) where
+  pub shifts : m < 64
+  shifts = lt_of_not-le (λ g. let p : 2 ^ 64 ≤ 2 ^ m = pow_mono g in omega (arith, e))
+
+  pub pairs : (j : ℕ) → j < m → n / 2 ^ (j + 1) ≡ 2 ^ (m - (j + 1))
+  pairs j f =
+      let d : m ≡ m - (j + 1) + (j + 1) = omega arith in
+      ap (λ i. i / 2 ^ (j + 1)) (e ∙ ap (λ i. 2 ^ i) d ∙ pow-add 2 (m - (j + 1)) (j + 1)) ∙ mul-div_cancel (2 ^ (m - (j + 1))) (pow_pos (j + 1))
+
+  pub run-size : (j : ℕ) → j < m → 1 * 2 ^ j % 18446744073709551616 ≡ 2 ^ j
+  run-size j f =
+      let p : 2 ^ j ≤ 2 ^ m = pow_mono (omega arith) in
+      let s : 1 * 2 ^ j % 18446744073709551616 ≡ 1 * 2 ^ j = mod-eq_of_lt (omega (arith, e)) in
+      omega (arith, s)

@@ -106,28 +106,84 @@ Ps-at (v ∷ vs) (x ∷ xs) (y ∷ ys) (suc i) z g h k = Ps-at vs xs ys i z (le_
 
 -- what a step writes from the 2n elements at `from`
 module _ (from n : ℕ) (l : List ℤ) (h : from + (n + n) ≤ length l) where
-  pub lower-q-length : length (Qs (first from n l) (last from n l)) ≡ n
+  lower-q-length : length (Qs (first from n l) (last from n l)) ≡ n
   lower-q-length = Qs-length (first from n l) (last from n l) (first-length from n l h ∙ sym (last-length from n l h)) ∙ first-length from n l h
 
-  pub lower-q-at : (i : ℕ) → i < n → get_or (Qs (first from n l) (last from n l)) i (pos 0) ≡ Q (get_or l (from + i) (pos 0)) (get_or l (from + (n + i)) (pos 0))
+  lower-q-at : (i : ℕ) → i < n → get_or (Qs (first from n l) (last from n l)) i (pos 0) ≡ Q (get_or l (from + i) (pos 0)) (get_or l (from + (n + i)) (pos 0))
   lower-q-at i b =
       Qs-at (first from n l) (last from n l) i (pos 0) (omega (arith, first-length from n l h)) (omega (arith, last-length from n l h))
       ∙ ap₂ Q (first-at from n l h (pos 0) i b) (last-at from n l h (pos 0) i b)
 
   module _ (sums : ℕ) (bs : List ℕ) (g : sums + n ≤ length bs) where
-    pub lower-p-length : length (Ps (part sums n bs) (first from n l) (last from n l)) ≡ n
+    lower-p-length : length (Ps (part sums n bs) (first from n l) (last from n l)) ≡ n
     lower-p-length =
         Ps-length (part sums n bs) (first from n l) (last from n l)
         (part_length sums n bs g ∙ sym (first-length from n l h)) (first-length from n l h ∙ sym (last-length from n l h))
         ∙ part_length sums n bs g
 
-    pub lower-p-at : (i : ℕ) → i < n →
+    lower-p-at : (i : ℕ) → i < n →
         get_or (Ps (part sums n bs) (first from n l) (last from n l)) i (pos 0) ≡ P (get_or bs (sums + i) 0) (get_or l (from + i) (pos 0)) (get_or l (from + (n + i)) (pos 0))
     lower-p-at i b =
         Ps-at (part sums n bs) (first from n l) (last from n l) i (pos 0)
         (omega (arith, part_length sums n bs g)) (omega (arith, first-length from n l h)) (omega (arith, last-length from n l h))
         ∙ ap (λ v. P v (get_or (first from n l) i (pos 0)) (get_or (last from n l) i (pos 0))) (part_at sums n bs 0 i b)
         ∙ ap₂ (P (get_or bs (sums + i) 0)) (first-at from n l h (pos 0) i b) (last-at from n l h (pos 0) i b)
+
+-- one turn that writes by Q or by P, and all of them: what it reads is as it was, and small
+module _ {from to n : ℕ} {l : List ℤ} (c : Clear from (n + n) to n l) (a : All (Within 1048064) (part from (n + n) l)) where
+  module _ (new : List ℤ) (e : length new ≡ n) {w : List ℤ} (i : ℕ) (q : w ≡ paste l to new i) (h : i < n) where
+    low : (back (get_or w (from + i) (pos 0)) ≡ get_or l (from + i) (pos 0)) × (nat_abs (get_or l (from + i) (pos 0)) ≤ 1048064)
+    low = read-value new c e a i i q (omega arith) (omega arith) (omega arith)
+
+    high : (back (get_or w (from + (n + i)) (pos 0)) ≡ get_or l (from + (n + i)) (pos 0)) × (nat_abs (get_or l (from + (n + i)) (pos 0)) ≤ 1048064)
+    high = read-value new c e a i (n + i) q (omega arith) (omega arith) (omega arith)
+
+  abbrev qs : List ℤ
+  qs = Qs (first from n l) (last from n l)
+
+  qs-length : length qs ≡ n
+  qs-length = lower-q-length from n l c.source
+
+  pub q-small : {w : List ℤ} (i : ℕ) → w ≡ paste l to qs i → i < n →
+      (nat_abs (back (get_or w (from + i) (pos 0))) < 2147483648) × (nat_abs (back (get_or w (from + (n + i)) (pos 0))) < 2147483648)
+  q-small i q h =
+      let x = low qs qs-length i q h in
+      let y = high qs qs-length i q h in
+      (omega (arith, ap nat_abs x.0, x.1), omega (arith, ap nat_abs y.0, y.1))
+
+  pub q-next : {w : List ℤ} {v : ℤ} (i : ℕ) → w ≡ paste l to qs i → i < n →
+      v ≡ Q (back (get_or w (from + i) (pos 0))) (back (get_or w (from + (n + i)) (pos 0))) → set w (to + i) v ≡ paste l to qs (i + 1)
+  q-next i q h f =
+      next qs c qs-length (pos 0) i q h
+      (f ∙ ap₂ Q (low qs qs-length i q h).0 (high qs qs-length i q h).0 ∙ sym (lower-q-at from n l c.source i h))
+
+  pub q-written : {w : List ℤ} (i : ℕ) → w ≡ paste l to qs i → i ≤ n → n ≤ i → w ≡ over_at to qs l
+  q-written i q h g = written qs c qs-length i q h g
+
+  module _ (sums : ℕ) (bs : List ℕ) (r : sums + n ≤ length bs) where
+    abbrev ps : List ℤ
+    ps = Ps (part sums n bs) (first from n l) (last from n l)
+
+    ps-length : length ps ≡ n
+    ps-length = lower-p-length from n l c.source sums bs r
+
+    pub p-small : {w : List ℤ} (i : ℕ) → w ≡ paste l to ps i → i < n →
+        nat_abs (back (get_or w (from + i) (pos 0))) + nat_abs (back (get_or w (from + (n + i)) (pos 0))) < 2147483648
+    p-small i q h =
+        let x = low ps ps-length i q h in
+        let y = high ps ps-length i q h in
+        omega (arith, ap nat_abs x.0, ap nat_abs y.0, x.1, y.1)
+
+    pub p-next : {w : List ℤ} {v : ℤ} (i : ℕ) → w ≡ paste l to ps i → i < n →
+        v ≡ P (get_or bs (sums + i) 0) (back (get_or w (from + i) (pos 0))) (back (get_or w (from + (n + i)) (pos 0))) →
+        set w (to + i) v ≡ paste l to ps (i + 1)
+    p-next i q h f =
+        next ps c ps-length (pos 0) i q h
+        (f ∙ ap₂ (P (get_or bs (sums + i) 0)) (low ps ps-length i q h).0 (high ps ps-length i q h).0
+        ∙ sym (lower-p-at from n l c.source sums bs r i h))
+
+    pub p-written : {w : List ℤ} (i : ℕ) → w ≡ paste l to ps i → i ≤ n → n ≤ i → w ≡ over_at to ps l
+    p-written i q h g = written ps c ps-length i q h g
 
 -- ---- sums of words
 

@@ -40,12 +40,8 @@ fn stage(c: &mut [u8], k: usize, h: usize)
     requires { (length c.old ≡ k * (h + h)) × All Bit c.old }
     ensures { c.new ≡ stage k h c.old }
 {
-    let mut at: usize = 0;
-    let mut left = k;
-    while left > 0 {
-        add_run(c, at, h);
-        at += h + h;
-        left -= 1;
+    for run in 0..k {
+        add_run(c, run * (h + h), h);
     }
 }
 
@@ -54,14 +50,9 @@ pub fn transform(c: &mut [u8], m: u32)
     requires { (length c.old ≡ 2 ^ m) × All Bit c.old }
     ensures { c.new ≡ transform m c.old }
 {
-    let mut k = c.len();
-    let mut h: usize = 1;
-    let mut j: u32 = 0;
-    // Each of the k runs of h = 2^j bits is transformed by itself.
-    while j < m {
-        k = k / 2;
-        stage(c, k, h);
-        h += h;
-        j += 1;
+    let n = c.len();
+    // Each run of h = 2^j bits is transformed by itself.
+    for j in 0..m {
+        stage(c, n >> (j + 1), 1 << j);
     }
 }

@@ -14,11 +14,8 @@ pub fn discrepancy(word: &[u8], values: &[i32]) -> u32
     ensures { result ≡ discrepancy word.now values.now }
 {
     let mut sum: u32 = 0;
-    let mut i: usize = 0;
-    while i < word.len() {
-        let s = values[i];
-        sum += cost(word[i], s);
-        i += 1;
+    for (v, s) in word.iter().zip(values) {
+        sum += cost(*v, *s);
     }
     sum
 }

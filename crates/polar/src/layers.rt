@@ -16,12 +16,10 @@ pub fn lower_q(numbers: &mut [i32], from: usize, to: usize, n: usize)
         let ys = part from (n + n) l in
         numbers.new ≡ over_at to (Qs (take n ys) (drop n ys)) l }
 {
-    let mut i: usize = 0;
-    while i < n {
+    for i in 0..n {
         let a = numbers[from + i];
         let b = numbers[from + (n + i)];
         numbers[to + i] = q(a, b);
-        i += 1;
     }
 }
 
@@ -34,12 +32,10 @@ pub fn lower_p(numbers: &mut [i32], bytes: &[u8], from: usize, to: usize, sums: 
         let ys = part from (n + n) l in
         numbers.new ≡ over_at to (Ps (part sums n bytes.now) (take n ys) (drop n ys)) l }
 {
-    let mut i: usize = 0;
-    while i < n {
+    for i in 0..n {
         let a = numbers[from + i];
         let b = numbers[from + (n + i)];
         numbers[to + i] = p(bytes[sums + i], a, b);
-        i += 1;
     }
 }
 
@@ -52,10 +48,8 @@ pub fn add_sums(bytes: &mut [u8], low: usize, high: usize, to: usize, n: usize)
     ensures { let l = bytes.old in
         bytes.new ≡ over_at to (add_bits (part low n l) (part high n l)) l }
 {
-    let mut i: usize = 0;
-    while i < n {
+    for i in 0..n {
         bytes[to + i] = bytes[low + i] ^ bytes[high + i];
-        i += 1;
     }
 }
 
@@ -64,10 +58,7 @@ pub fn copy_values(numbers: &mut [i32], from: usize, to: usize, n: usize)
     requires { Clear from n to n numbers.old }
     ensures { numbers.new ≡ over_at to (part from n numbers.old) numbers.old }
 {
-    let mut i: usize = 0;
-    while i < n {
-        let value = numbers[from + i];
-        numbers[to + i] = value;
-        i += 1;
+    for i in 0..n {
+        numbers[to + i] = numbers[from + i];
     }
 }

@@ -1,6 +1,6 @@
 // Soft values: hard decisions, magnitudes, Q and P, penalties and costs. Positive favours 0. Relies on no other file; specs/Soft.antt says what
 // each is.
-ghost use Rattle.std.specs.Prelude.{◌≡◌, ◌<◌, ◌+◌, min, nat_abs};
+ghost use Rattle.std.specs.Prelude.{◌≡◌, ◌<◌, ◌+◌, nat_abs};
 ghost use Rattle.polar.specs.Soft.{Q, P, hard, penalty, cost};
 
 // The hard decision: 1 where s is below 0, else 0.
@@ -16,14 +16,7 @@ pub fn magnitude(s: i32) -> u32
     requires { nat_abs s < 2147483648 }
     ensures { result ≡ nat_abs s }
 {
-    if s < 0 { (-s) as u32 } else { s as u32 }
-}
-
-// The lesser of two.
-fn lesser(x: u32, y: u32) -> u32
-    ensures { result ≡ min x y }
-{
-    if x < y { x } else { y }
+    s.unsigned_abs()
 }
 
 // The lesser magnitude, with the product of the signs: where one of a and b is 0, so is the result.
@@ -31,7 +24,7 @@ pub fn q(a: i32, b: i32) -> i32
     requires { (nat_abs a < 2147483648) × (nat_abs b < 2147483648) }
     ensures { result ≡ Q a b }
 {
-    let least = lesser(magnitude(a), magnitude(b)) as i32;
+    let least = a.unsigned_abs().min(b.unsigned_abs()) as i32;
     if (a < 0) == (b < 0) { least } else { -least }
 }
 
@@ -49,9 +42,12 @@ pub fn penalty(v: u8, s: i32) -> i32
     ensures { result ≡ penalty v s }
 {
     if v == hard(s) {
-        return 0;
+        0
+    } else if s < 0 {
+        s
+    } else {
+        -s
     }
-    if s < 0 { s } else { -s }
 }
 
 // 0 where the bit v is the hard decision, else |s|.
@@ -59,5 +55,5 @@ pub fn cost(v: u8, s: i32) -> u32
     requires { nat_abs s < 2147483648 }
     ensures { result ≡ cost v s }
 {
-    if v == hard(s) { 0 } else { magnitude(s) }
+    if v == hard(s) { 0 } else { s.unsigned_abs() }
 }

@@ -44,12 +44,9 @@ module _ {m D N : ℕ} {x : Memory} {e : ℕ} {es vs : List ℕ} {last : Block} 
       Id N i × (part (spot m i m) (2 ^ m) y.bytes ≡ sums_of (committed c.hand) m)
   end-word y seen i q = rw q (seen-some seen (omega arith) root-has, seen-sums seen (omega arith) root-has)
 
-  -- the row's spent and cost are as they were
-  pub end-spent : m ≤ 9 → (rows : List ℕ) → IdsOnly m s x.rows rows →
-      (cell rows s spent_at ≡ c.hand.taken.spent) × (cell rows s cost_at ≡ c.hand.taken.cost)
-  unfolding Paired cell
-  end-spent d rows only =
-      let r = c.hand.stands.queue.0.row in (
-        only.after (s * 16 + spent_at) (omega arith) ∙ ap (λ t. cell x.rows t spent_at) is ∙ r.spent,
-        only.after (s * 16 + cost_at) (omega arith) ∙ ap (λ t. cell x.rows t cost_at) is ∙ r.cost,
-      )
+  -- the row holds what the path spent, and its last block's cost
+  pub end-spent : (cell x.rows s spent_at ≡ c.hand.taken.spent) × (cell x.rows s cost_at ≡ c.hand.taken.cost)
+  unfolding Paired
+  end-spent =
+      let r = c.hand.stands.queue.0.row in
+      (ap (λ t. cell x.rows t spent_at) is ∙ r.spent, ap (λ t. cell x.rows t cost_at) is ∙ r.cost)

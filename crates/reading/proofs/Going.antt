@@ -30,7 +30,7 @@ use Rattle.standing.specs.Seen.{Memory}
 use Rattle.standing.specs.Standing.{Stands}
 use Rattle.standing.proofs.Sizes.{stands-room}
 use Rattle.standing.proofs.Taken.{taken-key, taken-blocks}
-use Rattle.words.specs.Kept.{Kepts}
+use Rattle.words.specs.Kept.{Table, Kepts}
 use Rattle.steps.specs.declared.Tally.{Tally}
 use Rattle.reading.specs.Before.{Before}
 use Rattle.reading.proofs.Visits.{Alike, Same, alike-zeros, extract-same}
@@ -50,7 +50,7 @@ abbrev pub moment_of : Arrays → Path → List Path → ℕ → List ℕ → Mo
 moment_of A p ps n visits = record { path = p; state = record { arrays = A; queue = ps; next = n; visits = visits } }
 
 -- the rest of the run of B from the arrays A; `own` are the visits of the book's blocks
-pub record Going (B : Book) (values : List ℤ) (L D N : ℕ) (A : Arrays) (x : Memory) (order vacant visits kept : List ℕ) (t : Tally) (e : ℕ)
+pub record Going (B : Book) (values : List ℤ) (L D N : ℕ) (A : Arrays) (x : Memory) (order vacant visits : List ℕ) (kept : Table) (t : Tally) (e : ℕ)
     (path₀ blocks₀ score₀ path blocks score : List ℤ) : Type 0 where
   pub arrays : Arrays
   pub taken : Path
@@ -106,7 +106,7 @@ module _ (B : Book) (L D : ℕ) where
 
 -- ---- at first
 
-pub going-first : (B : Book) (values : List ℤ) (L D N : ℕ) (A : Arrays) (x : Memory) (order vacant kept : List ℕ) (e : ℕ) (path₀ blocks₀ score₀ : List ℤ) → Valid B →
+pub going-first : (B : Book) (values : List ℤ) (L D N : ℕ) (A : Arrays) (x : Memory) (order vacant : List ℕ) (kept : Table) (e : ℕ) (path₀ blocks₀ score₀ : List ℤ) → Valid B →
     1 ≤ D → A.vals B.m 1 ≡ values → Stands B D N x (e ∷ []) (queue_of vacant (D - 1)) A (first_path B ∷ []) →
     Going B values L D N A x order vacant (replicate 512 0) kept
     (record { queued = 0; next = 1; extractions = 0; crowded = 0; outrun = 0 }) e path₀ blocks₀ score₀ path₀ blocks₀ score₀
@@ -139,7 +139,7 @@ going-first B values L D N A x order vacant kept e path₀ blocks₀ score₀ ok
 
 -- ---- under way
 
-module _ {B : Book} {values : List ℤ} {L D N : ℕ} {A : Arrays} {x : Memory} {order vacant visits kept : List ℕ} {t : Tally} {e : ℕ}
+module _ {B : Book} {values : List ℤ} {L D N : ℕ} {A : Arrays} {x : Memory} {order vacant visits : List ℕ} {kept : Table} {t : Tally} {e : ℕ}
     {path₀ blocks₀ score₀ path blocks score : List ℤ} (g : Going B values L D N A x order vacant visits kept t e path₀ blocks₀ score₀ path blocks score) where
   -- the entry in hand is the path's
   pub going-small : e < 36028797018963968
@@ -226,7 +226,7 @@ module _ {B : Book} {values : List ℤ} {L D N : ℕ} {A : Arrays} {x : Memory} 
       pub going-some : 1 ≤ r.queued
       going-some = omega (arith, queued-is, ap length alike.queue, ap length later.queue-is)
 
-      module _ (y : Memory) (order' vacant' visits' kept' : List ℕ) (next-is : r.next ≡ made.state.next) (visits-is : visits' ≡ made.state.visits)
+      module _ (y : Memory) (order' vacant' visits' : List ℕ) (kept' : Table) (next-is : r.next ≡ made.state.next) (visits-is : visits' ≡ made.state.visits)
           (crowded-is : r.crowded ≡ t.crowded + length made.step.crowded) (outrun-is : r.outrun ≡ t.outrun + length made.step.outrun)
           (extractions-is : r.extractions ≡ t.extractions + 1)
           (st : Stands B D N y (queue_of order' r.queued) (queue_of vacant' (D - r.queued)) made.state.arrays made.state.queue)

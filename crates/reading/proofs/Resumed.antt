@@ -28,6 +28,7 @@ use Rattle.standing.proofs.Taken.{taken-blocks}
 use Rattle.steps.specs.declared.Tally.{Tally}
 use Rattle.extraction.proofs.Counts.{blocks-few}
 use Rattle.extraction.proofs.Extracts.{visit-length}
+use Rattle.words.specs.Kept.{Table}
 use Rattle.reading.specs.Before.{Before}
 use Rattle.reading.specs.Running.{Running}
 use Rattle.reading.specs.Turning.{Turning}
@@ -56,7 +57,7 @@ module _ (B : Book) (L D : ℕ) where
 
 -- ---- the run under way
 
-module _ {B : Book} {L D N : ℕ} {A : Arrays} {most : ℕ} {x : Memory} {order vacant visits kept : List ℕ} {t : Tally} {e : ℕ} {path₀ blocks₀ score₀ path blocks score : List ℤ}
+module _ {B : Book} {L D N : ℕ} {A : Arrays} {most : ℕ} {x : Memory} {order vacant visits : List ℕ} {kept : Table} {t : Tally} {e : ℕ} {path₀ blocks₀ score₀ path blocks score : List ℤ}
     (g : Before B L D N A most x order vacant visits kept t e path₀ blocks₀ score₀ path blocks score) where
   pub left : LeftOf (R.next_at B L D) (most_extractions L (length B.blocks)) (R.trace_of B L D A) g.moment.made g.here g.moment.later
   unfolding moments_of R.trace_of
@@ -146,7 +147,7 @@ module _ {B : Book} {L D N : ℕ} {A : Arrays} {most : ℕ} {x : Memory} {order 
 -- ---- on the tables
 
 -- a run of an input, before an extraction of a path that has a next block
-abbrev pub before-turning : {shape : Shape} {s : Settings} {N : ℕ} {values : List ℤ} {tables : Tables} {A : Arrays} {x : Memory} {order vacant visits kept : List ℕ} {t : Tally} {e : ℕ}
+abbrev pub before-turning : {shape : Shape} {s : Settings} {N : ℕ} {values : List ℤ} {tables : Tables} {A : Arrays} {x : Memory} {order vacant visits : List ℕ} {kept : Table} {t : Tally} {e : ℕ}
     {path₀ blocks₀ score₀ path blocks score : List ℤ} (c : Running shape values tables) → A.vals shape.m 1 ≡ values →
     (most_extractions s.visits shape.blocks ≤ length path₀) × (most_extractions s.visits shape.blocks ≤ length blocks₀) × (most_extractions s.visits shape.blocks ≤ length score₀) →
     Before c.book s.visits s.paths N A t.extractions x order vacant visits kept t e path₀ blocks₀ score₀ path blocks score → ((key_at e).blocks ≡ shape.blocks → ⊥) →
@@ -165,7 +166,7 @@ before-turning {values = values} {A = A} {path₀ = path₀} {blocks₀ = blocks
       more = λ q. more (taken-blocks g.stands ∙ q ∙ c.blocks);
     }
 
-module _ {shape : Shape} {s : Settings} {N : ℕ} {tables : Tables} {x : Memory} {order vacant visits kept : List ℕ} {t : Tally} {e : ℕ} {path blocks score : List ℤ}
+module _ {shape : Shape} {s : Settings} {N : ℕ} {tables : Tables} {x : Memory} {order vacant visits : List ℕ} {kept : Table} {t : Tally} {e : ℕ} {path blocks score : List ℤ}
     (c : Turning shape s N tables x order vacant visits kept t e path blocks score) where
   abbrev pub turning-going : 2 ≤ s.paths → length visits ≡ 512 →
       Going c.input.book c.values s.visits s.paths N c.arrays x order vacant visits kept t e c.path₀ c.blocks₀ c.score₀ path blocks score

@@ -36,6 +36,7 @@ use Rattle.standing.proofs.Taken.{taken-key}
 use Rattle.words.specs.declared.Block.{Block}
 use Rattle.steps.specs.declared.Tally.{Tally}
 use Rattle.steps.specs.Steps.{BlockIs, committed}
+use Rattle.words.specs.Kept.{Table}
 use Rattle.reading.specs.declared.Ran.{Ran}
 use Rattle.reading.specs.Before.{Before}
 use Rattle.reading.specs.Ending.{Ending}
@@ -70,7 +71,7 @@ module _ (B : Book) (L D : ℕ) where
 -- ---- the end of a run on its tables
 
 module _ {shape : Shape} {values : List ℤ} {tables : Tables} (c : Running shape values tables)
-    {L D N : ℕ} {A : Arrays} {most : ℕ} {x : Memory} {order vacant visits kept : List ℕ} {t : Tally} {e : ℕ} {path₀ blocks₀ score₀ path blocks score : List ℤ}
+    {L D N : ℕ} {A : Arrays} {most : ℕ} {x : Memory} {order vacant visits : List ℕ} {kept : Table} {t : Tally} {e : ℕ} {path₀ blocks₀ score₀ path blocks score : List ℤ}
     (g : Before c.book L D N A most x order vacant visits kept t e path₀ blocks₀ score₀ path blocks score) where
   abbrev ok : Valid c.book
   ok = c.in_tables.booked.valid

@@ -23,7 +23,7 @@ use Rattle.sharing.specs.Sharing.{held_at, Rows}
 use Rattle.standing.specs.Seen.{Memory, memory, Enough}
 use Rattle.standing.specs.Standing.{Stands, InHand}
 use Rattle.words.specs.declared.Block.{Block}
-use Rattle.words.specs.Kept.{Kepts}
+use Rattle.words.specs.Kept.{Table, Kepts}
 use Rattle.steps.specs.declared.Tally.{Tally}
 use Rattle.steps.specs.Steps.{BlockIs}
 use Rattle.start.specs.Start.{first_held, BlocksIn}
@@ -86,7 +86,7 @@ module _ {shape : Shape} {values : List ℤ} {tables : Tables} (c : Running shap
 
   -- ---- at first
 
-  module _ (L D N : ℕ) (rows holders vacant : List ℕ) (numbers : List ℤ) (bytes : List ℕ) (e : ℕ) (order kept : List ℕ) (path₀ blocks₀ score₀ : List ℤ) where
+  module _ (L D N : ℕ) (rows holders vacant : List ℕ) (numbers : List ℤ) (bytes : List ℕ) (e : ℕ) (order : List ℕ) (kept : Table) (path₀ blocks₀ score₀ : List ℤ) where
     pub run-first : 1 ≤ D → Enough D N → N ≤ 256 → (old : List ℕ) → Zeros old → Rows 1 old → rows ≡ set old shape.m 1 →
         ((h i : ℕ) → h ≤ 9 → i ≤ 256 → held_at holders h i ≡ first_held shape.m h i) → ((k : ℕ) → k + 1 < D → get_or vacant k 0 ≡ k + 1) →
         Packed e (record { score = pos 0; blocks = 0; number = 0 }) 0 → (arrays_of shape.m numbers bytes).vals shape.m 1 ≡ values →
@@ -102,7 +102,7 @@ module _ {shape : Shape} {values : List ℤ} {tables : Tables} (c : Running shap
 
   -- ---- under way
 
-  module _ {L D N : ℕ} {A : Arrays} {x : Memory} {order vacant visits kept : List ℕ} {t : Tally} {e : ℕ} {path₀ blocks₀ score₀ path blocks score : List ℤ}
+  module _ {L D N : ℕ} {A : Arrays} {x : Memory} {order vacant visits : List ℕ} {kept : Table} {t : Tally} {e : ℕ} {path₀ blocks₀ score₀ path blocks score : List ℤ}
       (g : Going c.book values L D N A x order vacant visits kept t e path₀ blocks₀ score₀ path blocks score) where
     -- the path in hand
     abbrev pub run-hand : InHand shape.m D N x e (queue_of order t.queued) (queue_of vacant (D - (t.queued + 1)))
@@ -158,7 +158,7 @@ module _ {shape : Shape} {values : List ℤ} {tables : Tables} (c : Running shap
       pub run-some : r.queued ≡ length run-made.state.queue → 1 ≤ r.queued
       run-some q = going-some g ok size two most finds.0 finds.1 (run-next d) r q
 
-      pub run-turn : (y : Memory) (order' vacant' visits' kept' : List ℕ) →
+      pub run-turn : (y : Memory) (order' vacant' visits' : List ℕ) (kept' : Table) →
           (r.queued ≡ length run-made.state.queue) × (r.next ≡ run-made.state.next) × (visits' ≡ run-made.state.visits)
           × (r.crowded ≡ t.crowded + length run-made.step.crowded) × (r.outrun ≡ t.outrun + length run-made.step.outrun)
           × Stands c.book D N y (queue_of order' r.queued) (queue_of vacant' (D - r.queued)) run-made.state.arrays run-made.state.queue

@@ -11,7 +11,7 @@ use Rattle.reader.specs.Moments.{Moment, MomentOf, step_at}
 use Rattle.order.specs.Entries.{queue_of, Rising}
 use Rattle.standing.specs.Seen.{Memory}
 use Rattle.standing.specs.Standing.{Stands}
-use Rattle.words.specs.Kept.{Kepts}
+use Rattle.words.specs.Kept.{Table, Kepts}
 use Rattle.steps.specs.declared.Tally.{Tally}
 
 -- Of the run from arrays A, as many extractions as the counts t say are done, at most `most`, and the one at the moment `here` is next: memory, with entry e in hand, the
@@ -20,7 +20,7 @@ use Rattle.steps.specs.declared.Tally.{Tally}
 -- counts and the three walk buffers are those of the extractions done, and no count is beyond what so many extractions can make it. The words kept are those that a
 -- search would find, and the order's entries never fall, both of which the next extraction asks for; all else that it asks for (extraction/specs) holds at
 -- every moment of a run (reader/proofs/During).
-pub record Before (B : Book) (L D N : ℕ) (A : Arrays) (most : ℕ) (x : Memory) (order vacant visits kept : List ℕ) (t : Tally) (e : ℕ)
+pub record Before (B : Book) (L D N : ℕ) (A : Arrays) (most : ℕ) (x : Memory) (order vacant visits : List ℕ) (kept : Table) (t : Tally) (e : ℕ)
     (path₀ blocks₀ score₀ path blocks score : List ℤ) : Type 0 where
   pub here : Moment
   pub moment : MomentOf B L D A t.extractions here

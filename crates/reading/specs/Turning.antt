@@ -7,12 +7,13 @@ use Rattle.queue.specs.Run.{most_extractions}
 use Rattle.reader.specs.Arrays.{Arrays}
 use Rattle.standing.specs.Seen.{Memory}
 use Rattle.steps.specs.declared.Tally.{Tally}
+use Rattle.words.specs.Kept.{Table}
 use Rattle.reading.specs.Before.{Before}
 use Rattle.reading.specs.Running.{Running}
 
 -- A run of an input, from arrays whose root holds the received values and from walk buffers with room for every entry, is before an extraction (Before), and the
 -- path that is next has a next block.
-pub record Turning (shape : Shape) (s : Settings) (N : ℕ) (tables : Tables) (x : Memory) (order vacant visits kept : List ℕ) (t : Tally) (e : ℕ)
+pub record Turning (shape : Shape) (s : Settings) (N : ℕ) (tables : Tables) (x : Memory) (order vacant visits : List ℕ) (kept : Table) (t : Tally) (e : ℕ)
     (path blocks score : List ℤ) : Type 0 where
   pub values : List ℤ
   pub input : Running shape values tables

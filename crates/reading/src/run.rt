@@ -1,5 +1,5 @@
 // The run: extractions until one takes a path that has all blocks; the walk is written as it goes, and the final word is left in the sums of the root.
-ghost use Rattle.std.specs.Prelude.{◌≡◌, List, ℕ, ◌+◌, ◌-◌, ◌^◌, ◌≤◌, ◌<◌, pos, length, get_or, replicate};
+ghost use Rattle.std.specs.Prelude.{◌≡◌, List, ℕ, ◌+◌, ◌-◌, ◌^◌, ◌≤◌, ◌<◌, pos, get_or, replicate};
 ghost use Rattle.polar.specs.Layers.{part};
 ghost use Rattle.queue.specs.Run.{most_extractions};
 ghost use Rattle.queue.specs.Queue.{Step};
@@ -8,6 +8,7 @@ ghost use Rattle.reader.specs.Arrays.{sums_of};
 ghost use Rattle.reader.specs.Reader as R;
 ghost use Rattle.sharing.specs.Sharing.{Rows};
 ghost use Rattle.heights.specs.Workspace.{spot, Room, Id};
+ghost use Rattle.start.specs.Start.{HasEntries};
 ghost use Rattle.standing.specs.Seen.{contents, Enough, Lent, SameMemory};
 ghost use Rattle.words.specs.Kept.{Cells};
 ghost use Rattle.steps.specs.Steps.{committed};
@@ -24,10 +25,10 @@ use heights::Layout;
 use machine::{Counts, Walk};
 use numerals::power;
 use order::entries::{blocks_of, entry, slot_of};
-use outer::Scratch;
+use outer::{Candidate, Scratch};
 use settings::Settings;
 use standing::Memory;
-use standing::row::{cost_of, id_of, spent_of, word_of};
+use standing::row::{cells_of, id_of};
 use start::{begin, block_at, fill_vacant, note, receive};
 use steps::{Queue, Tally};
 use views::view::commit;
@@ -45,15 +46,15 @@ fn finish(memory: &mut Memory, layout: Layout, s: Settings, stage: Stage, last: 
 {
     let slot = slot_of(stage.entry);
     let rows = &mut *memory.rows;
-    let word = word_of(rows, slot);
-    commit(memory, layout, slot, last.height, last.place, word);
-    let rows = &mut *memory.rows;
+    let own = cells_of(rows, slot);
+    commit(memory, layout, slot, last.height, last.place, own.word);
     let counts = Counts {
         extractions: stage.tally.extractions + 1,
         crowded: stage.tally.crowded,
         outrun: stage.tally.outrun,
-        discrepancy: spent_of(rows, slot) + cost_of(rows, slot),
+        discrepancy: own.spent + own.cost,
     };
+    let rows = &mut *memory.rows;
     Ran {
         counts,
         id: id_of(rows, slot, layout.m),
@@ -67,7 +68,7 @@ fn turn(
     memory: &mut Memory,
     queue: &mut Queue,
     visits: &mut [u32; 512],
-    kept: &mut [u32],
+    kept: &mut [Option<Candidate>],
     x: Shape,
     s: Settings,
     arrays: usize,
@@ -78,8 +79,7 @@ fn turn(
 ) -> Stage
     requires lent { Lent x.m s.paths arrays (contents memory.old) × Cells s.paths kept.old }
     requires ranged { Ranged s }
-    requires blocks_in_bounds { (most_extractions s.visits x.blocks ≤ length walk.old.path.now) × (most_extractions s.visits x.blocks ≤ length walk.old.blocks.now)
-        × (most_extractions s.visits x.blocks ≤ length walk.old.score.now) }
+    requires blocks_in_bounds { HasEntries (most_extractions s.visits x.blocks) walk.old }
     requires turning { Turning x s arrays tables.now (contents memory.old) queue.old.order queue.old.vacant visits.old
         kept.old stage.tally stage.entry walk.old.path.now walk.old.blocks.now walk.old.score.now }
     ensures lent_2 { Lent x.m s.paths arrays (contents memory.new) × Cells s.paths kept.new }
@@ -121,7 +121,7 @@ pub fn extractions(
     memory: &mut Memory,
     queue: &mut Queue,
     visits: &mut [u32; 512],
-    kept: &mut [u32],
+    kept: &mut [Option<Candidate>],
     x: Shape,
     s: Settings,
     arrays: usize,
@@ -133,8 +133,7 @@ pub fn extractions(
     requires holders_value { (memory.old.holders ≡ replicate 2580 0) × (visits.old ≡ replicate 512 0) }
     requires ranged { Ranged s }
     requires room { Room x.m arrays memory.old.numbers.now × Room x.m arrays memory.old.bytes.now × Enough s.paths arrays × (arrays ≤ 256) }
-    requires blocks_in_bounds { (most_extractions s.visits x.blocks ≤ length walk.old.path.now) × (most_extractions s.visits x.blocks ≤ length walk.old.blocks.now)
-        × (most_extractions s.visits x.blocks ≤ length walk.old.score.now) }
+    requires blocks_in_bounds { HasEntries (most_extractions s.visits x.blocks) walk.old }
     requires running { Running x values.now tables.now }
     ensures lent { Lent x.m s.paths arrays (contents memory.new) }
     ensures before { (c : Running x values.now tables.now)
@@ -185,7 +184,7 @@ pub fn extractions(
 // The run with these tables of the paths' rows, which hold zeros, and of the words kept, which hold anything.
 fn run_with(
     rows: &mut [u32],
-    kept: &mut [u32],
+    kept: &mut [Option<Candidate>],
     x: Shape,
     s: Settings,
     arrays: usize,
@@ -198,8 +197,7 @@ fn run_with(
     requires rows { Rows s.paths rows.old × ((k : ℕ) → get_or rows.old k 0 ≡ 0) × Cells s.paths kept.old }
     requires ranged { Ranged s }
     requires room { Room x.m arrays numbers.old × Room x.m arrays bytes.old × Enough s.paths arrays × (arrays ≤ 256) }
-    requires blocks_in_bounds { (most_extractions s.visits x.blocks ≤ length walk.old.path.now) × (most_extractions s.visits x.blocks ≤ length walk.old.blocks.now)
-        × (most_extractions s.visits x.blocks ≤ length walk.old.score.now) }
+    requires blocks_in_bounds { HasEntries (most_extractions s.visits x.blocks) walk.old }
     requires running { Running x values.now tables.now }
     ensures ran { (c : Running x values.now tables.now)
         → (let run = R.run_of c.book s.visits s.paths (arrays_of x.m (received x.m values.now numbers.old) bytes.old) in
@@ -255,8 +253,7 @@ pub fn run(
 ) -> Ran
     requires ranged { Ranged s }
     requires room { Room x.m s.paths numbers.old × Room x.m s.paths bytes.old }
-    requires blocks_in_bounds { (most_extractions s.visits x.blocks ≤ length walk.old.path.now) × (most_extractions s.visits x.blocks ≤ length walk.old.blocks.now)
-        × (most_extractions s.visits x.blocks ≤ length walk.old.score.now) }
+    requires blocks_in_bounds { HasEntries (most_extractions s.visits x.blocks) walk.old }
     requires running { Running x values.now tables.now }
     ensures ran { (c : Running x values.now tables.now)
         → (let run = R.run_of c.book s.visits s.paths (arrays_of x.m (received x.m values.now numbers.old) bytes.old) in
@@ -269,13 +266,13 @@ pub fn run(
     let arrays = s.paths as usize;
     if arrays <= 32 {
         let mut rows = [0u32; 512];
-        let mut kept = [0u32; 128];
+        let mut kept: [Option<Candidate>; 32] = [None; 32];
         return run_with(
             &mut rows, &mut kept, x, s, arrays, values, tables, numbers, bytes, walk,
         );
     }
     let mut rows = [0u32; 4096];
-    let mut kept = [0u32; 1024];
+    let mut kept: [Option<Candidate>; 256] = [None; 256];
     run_with(
         &mut rows, &mut kept, x, s, arrays, values, tables, numbers, bytes, walk,
     )

@@ -3,16 +3,18 @@
 use mathlib.Core.Path.{◌≡◌, refl, sym, ap₂, ◌∙◌, subst}
 use mathlib.Core.Bool.{Bool, true, false, cond, ◌&&◌}
 use mathlib.Core.List.{List, [], ◌∷◌}
-use mathlib.Core.Logic.{◌⊎◌, inl, inr}
-use Prim.Native.Nat.{ℕ, suc, ◌+◌, ◌≤◌, ◌<◌}
+use mathlib.Core.Logic.{◌⊎◌, inl, inr, ⊎_elim}
+use Prim.Native.Nat.{ℕ, suc, ◌+◌, ◌-◌, ◌*◌, ◌≤◌, ◌<◌}
 use native.Mathlib.Omega.{arith}
 use lib.Dec.{eqb, ltb, leb}
+use lib.ListN.{set}
 use borrow.Author.Tests.{ltb-true, ltb-false, leb-true, leb-false, eqb-false, eq-eqb, ne_eqb}
 use Rattle.laws.specs.Lists.{All}
 use Rattle.codec.specs.Ties.{times}
 use Rattle.reader.specs.Arrays.{own_of}
 use Rattle.reader.proofs.Own.{NoneIs, own_new, own-some, own-keep, own-most, own-least}
-use Rattle.sharing.specs.Sharing.{held_at, Shared}
+use Rattle.sharing.specs.Sharing.{held_at, Held, Shared, Exchanged}
+use Rattle.sharing.proofs.Tables.{taken_free}
 
 -- ---- how often an id is counted
 
@@ -44,7 +46,7 @@ is-alone i n e = go (ltb 0 i) (leb n 1) refl refl e
     go true false f g e = let z : ◌≡◌ {A = ℕ} 0 1 = cc in absurd (omega arith)
     go false b f g e = let z : ◌≡◌ {A = ℕ} 0 1 = cc in absurd (omega arith)
 
-pub not-alone : (i n : ℕ) → (ltb 0 i && leb n 1) ≡ false → (i ≡ 0) ⊎ (2 ≤ n)
+not-alone : (i n : ℕ) → (ltb 0 i && leb n 1) ≡ false → (i ≡ 0) ⊎ (2 ≤ n)
 not-alone i n e = go (ltb 0 i) (leb n 1) refl refl e
   where
     go : (a b : Bool) → ltb 0 i ≡ a → leb n 1 ≡ b → (a && b) ≡ false → (i ≡ 0) ⊎ (2 ≤ n)
@@ -84,7 +86,7 @@ module _ {holders : List ℕ} {h N i : ℕ} (x : Shared holders h N i) where
         x.counted o (own-most N i x.others x.low x.few) ∙ times_none o (i ∷ x.others) (other, new)
 
     -- the first id from 1 on that none holds is that one
-    pub takes : (r : ℕ) → 1 ≤ r → ((k : ℕ) → 1 ≤ k → k < r → 1 ≤ held_at holders h k) → (r ≤ N → held_at holders h r ≡ 0) → r ≡ own_of i x.others
+    takes : (r : ℕ) → 1 ≤ r → ((k : ℕ) → 1 ≤ k → k < r → 1 ≤ held_at holders h k) → (r ≤ N → held_at holders h r ≡ 0) → r ≡ own_of i x.others
     unfolding All
     takes r some full free =
         let o : ℕ = own_of i x.others in
@@ -94,3 +96,22 @@ module _ {holders : List ℕ} {h N i : ℕ} (x : Shared holders h N i) where
         let none : r ≤ N → NoneIs r x.others = λ b. (none-times r (i ∷ x.others) (sym (x.counted r b) ∙ free b)).1 in
         let down : r < o → ⊥ = λ l. own-least i x.others taken r l (λ e. omega arith, none (omega arith)) in
         omega arith
+
+-- ---- the change of the tables by a path that takes another array, the first that none holds
+
+pub record Taken (holders : List ℕ) (h N i r : ℕ) (x : Shared holders h N i) : Type 0 where
+  pub held : Held (set (set (set holders (h * 257 + i) (held_at holders h i - 1)) (h * 257 + r) 1) (2570 + h) (r + 1))
+  pub exchanged : Exchanged h i r holders (set (set (set holders (h * 257 + i) (held_at holders h i - 1)) (h * 257 + r) 1) (2570 + h) (r + 1))
+  pub within : r ≤ N
+  pub chosen : r ≡ own_of i x.others
+
+pub takes_another : {holders : List ℕ} {h N i r : ℕ} (x : Shared holders h N i) → Held holders → h ≤ 9 → N ≤ 256 → (ltb 0 i && leb (held_at holders h i) 1) ≡ false →
+    1 ≤ r → ((k : ℕ) → 1 ≤ k → k < r → 1 ≤ held_at holders h k) → (r ≤ N → held_at holders h r ≡ 0) → Taken holders h N i r x
+takes_another {holders} {h} {N} {i} {r} x a top arrays test some full free =
+    let why = not-alone i (held_at holders h i) test in
+    let q : r ≡ own_of i x.others = takes x why r some full free in
+    let b : r ≤ N = omega (arith, q, own-most N i x.others x.low x.few) in
+    let kept : 1 ≤ i → 1 ≤ held_at holders h i - 1 = λ s. ⊎_elim (λ e. absurd (omega arith)) (λ l. omega arith) why in
+    let low = x.low in
+    let t = taken_free holders h i r (held_at holders h i - 1) a top (omega arith) (omega arith) (omega (arith, held_one x)) kept (free b) full in
+    record { held = t.0; exchanged = t.1; within = b; chosen = q }

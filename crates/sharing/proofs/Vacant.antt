@@ -1,12 +1,17 @@
 -- The lowest member of a set is the number of the zeros at the end of its digits: none below it is a member. By the digits, the lowest first. Then of
 -- counts: those below the first that is 0 are not. Assumes nothing.
-use mathlib.Core.Path.{◌≡◌, refl, sym, ◌∙◌, subst}
-use Prim.Native.Nat.{ℕ, zero, suc, ◌+◌, ◌*◌, ◌/◌, ◌%◌, ◌≤◌, ◌<◌}
+use mathlib.Core.Path.{◌≡◌, refl, sym, ap, ◌∙◌, subst}
+use mathlib.Core.List.{List}
+use Prim.Native.Nat.{ℕ, zero, suc, ◌+◌, ◌-◌, ◌*◌, ◌^◌, ◌/◌, ◌%◌, ◌≤◌, ◌<◌}
+use native.Mathlib.Numerals.{add-one}
 use native.Mathlib.Omega.{arith}
+use lib.ListN.{length, get_or, take, drop, length-take}
+use lib.Pow.{pow_mono}
+use lib.Seq.{get_or-take, get_or-drop}
 use lib.Count.{count_trailing_zeros, under}
 use borrow.Author.Tests.{eq-eqb, ne_eqb}
 use Rattle.laws.specs.Sets.{set_of}
-use Rattle.laws.proofs.Sets.{Marks, set-low}
+use Rattle.laws.proofs.Sets.{Marks, set-low, set-lt}
 use Rattle.sharing.specs.Sharing.{vacant_bit}
 
 pub vacant-low : (c : ℕ) → vacant_bit c < 2
@@ -27,6 +32,28 @@ pub vacant-some : (c : ℕ) → vacant_bit c ≡ 0 → 1 ≤ c
 unfolding vacant_bit
 vacant-some zero e = absurd (omega (arith, e))
 vacant-some (suc c) e = omega arith
+
+-- ---- the set of 16 counts, one after the other
+
+module _ (l : List ℕ) (at : ℕ) where
+  abbrev counts : List ℕ
+  counts = take (at + 16 - at) (drop at l)
+
+  pub in-group : (k : ℕ) → k < length counts → k < 16
+  in-group k h = omega (arith, h, length-take (at + 16 - at) (drop at l))
+
+  -- one count more
+  pub group-next : {set bit : ℕ} (k : ℕ) → k < length counts → set ≡ set_of k (λ i. vacant_bit (get_or l (at + i) 0)) → bit ≡ vacant_bit (get_or counts k 0) * 2 ^ k →
+      set + bit ≡ set_of (k + 1) (λ i. vacant_bit (get_or l (at + i) 0))
+  unfolding set_of
+  group-next {set} {bit} k h e f =
+      let here : get_or counts k 0 ≡ get_or l (at + k) 0 = get_or-take (at + 16 - at) (drop at l) k 0 (omega (arith, in-group k h)) ∙ get_or-drop at l k 0 in
+      rw (add-one k) (omega (arith, e, f, ap (λ c. vacant_bit c * 2 ^ k) here))
+
+  pub group-small : (k : ℕ) → k ≤ 16 → set_of k (λ i. vacant_bit (get_or l (at + i) 0)) < 65537
+  group-small k h =
+      let p : 2 ^ k ≤ 2 ^ 16 = pow_mono h in
+      omega (arith, set-lt k (λ i. vacant_bit (get_or l (at + i) 0)) (λ t _. vacant-low (get_or l (at + t) 0)))
 
 -- the lowest member r of a set of numbers below n
 pub record Lowest (n : ℕ) (f : ℕ → ℕ) (r : ℕ) : Type 0 where

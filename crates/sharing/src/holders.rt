@@ -19,27 +19,10 @@ fn vacancies(holders: &[u16; 2580], at: usize) -> u32
     ensures { result ≡ set_of 16 (λ k. vacant_bit (get_or holders.now (at + k) 0)) }
 {
     let mut set: u32 = 0;
-    let mut k: usize = 0;
-    while k < 16 {
-        set = set + mark(holders[at + k], k);
-        k += 1;
+    for (k, count) in holders[at..at + 16].iter().enumerate() {
+        set += mark(*count, k);
     }
     set
-}
-
-// A number from 1 to `arrays` + 1 that no id from 1 on lies below, unless it lies below `low` too.
-fn capped(low: u16, arrays: usize) -> usize
-    requires { arrays ≤ 256 }
-    ensures { (1 ≤ result) × (result ≤ arrays + 1) × ((k : ℕ) → 1 ≤ k → k < result → k < low) }
-{
-    let from = low as usize;
-    if from == 0 {
-        return 1;
-    }
-    if arrays < from {
-        return arrays + 1;
-    }
-    from
 }
 
 // Where the search for a free id begins: no id from 1 on and below it is free.
@@ -47,7 +30,7 @@ fn lowest(holders: &[u16; 2580], height: usize, arrays: usize) -> usize
     requires { Held holders.now × (height ≤ 9) × (arrays ≤ 256) }
     ensures { (1 ≤ result) × (result ≤ arrays + 1) × ((k : ℕ) → 1 ≤ k → k < result → 1 ≤ held_at holders.now height k) }
 {
-    capped(holders[2570 + height], arrays)
+    (holders[2570 + height] as usize).clamp(1, arrays + 1)
 }
 
 // Looks for a free id in groups of 16, from `low` on: the first that is free, or the first of the fewer than 16 left. No id below it is free.
@@ -75,14 +58,12 @@ fn find_from(holders: &[u16; 2580], height: usize, arrays: usize, low: usize) ->
         × ((k : ℕ) → 1 ≤ k → k < result → 1 ≤ held_at holders.now height k)
         × (result ≤ arrays → held_at holders.now height result ≡ 0) }
 {
-    let mut id = skip(holders, height, arrays, low);
-    while id <= arrays {
+    for id in skip(holders, height, arrays, low)..arrays + 1 {
         if holders[height * 257 + id] == 0 {
             return id;
         }
-        id += 1;
     }
-    id
+    arrays + 1
 }
 
 // The first id from 1 on that no path holds at a height; `arrays` + 1 if none up to `arrays` is free.
@@ -146,23 +127,11 @@ pub fn share(rows: &mut [u32], holders: &mut [u16; 2580], m: usize, from: usize,
     ensures copied { Copied m from to rows.old rows.new }
     ensures more_by { MoreBy (m + 1) rows.old from holders.old holders.new }
 {
-    let mut h: usize = 0;
-    while h <= m {
+    for h in 0..m + 1 {
         let id = rows[from * 16 + h];
-        let at = h * 257 + id as usize;
-        holders[at] = holders[at] + 1;
+        holders[h * 257 + id as usize] += 1;
         rows[to * 16 + h] = id;
-        h += 1;
     }
-}
-
-// The lesser of where a search begins and an id.
-fn lesser(low: u16, id: usize) -> u16
-    requires { id ≤ 256 }
-    ensures { (result ≤ low) × (result ≤ id) }
-{
-    let here = id as u16;
-    if here < low { here } else { low }
 }
 
 // A path lets go of an id of a height.
@@ -170,9 +139,8 @@ fn drop_one(holders: &mut [u16; 2580], height: usize, id: usize)
     requires { Held holders.old × (height ≤ 9) × (id ≤ 256) × (1 ≤ held_at holders.old height id) }
     ensures { Held holders.new × OneLess height id holders.old holders.new }
 {
-    holders[2570 + height] = lesser(holders[2570 + height], id);
-    let at = height * 257 + id;
-    holders[at] = holders[at] - 1;
+    holders[2570 + height] = holders[2570 + height].min(id as u16);
+    holders[height * 257 + id] -= 1;
 }
 
 // The path in a slot lets go of what it holds at the heights up to m.
@@ -182,9 +150,7 @@ pub fn release(rows: &[u32], holders: &mut [u16; 2580], m: usize, slot: usize)
     ensures held_2 { Held holders.new }
     ensures less_by { LessBy (m + 1) rows.now slot holders.old holders.new }
 {
-    let mut h: usize = 0;
-    while h <= m {
+    for h in 0..m + 1 {
         drop_one(holders, h, rows[slot * 16 + h] as usize);
-        h += 1;
     }
 }

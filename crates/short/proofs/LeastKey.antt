@@ -2,15 +2,12 @@
 -- number is added to. By induction on how many there are. Assumes nothing.
 use mathlib.Core.Path.{◌≡◌, refl, sym, ap, ap₂, ◌∙◌}
 use mathlib.Core.Bool.{cond}
-use mathlib.Core.List.{List}
 use mathlib.Core.Logic.{◌⊎◌, inl, inr}
 use mathlib.Core.Option.{Option, none, some}
 use Prim.Native.Nat.{ℕ, zero, suc, ◌+◌, ◌-◌, ◌≤◌, ◌<◌, min}
-use native.Mathlib.Nat.{zero-add}
 use native.Mathlib.Numerals.{add-one}
 use native.Mathlib.Omega.{arith}
 use lib.Dec.{ltb, leb}
-use lib.ListN.{get_or}
 use borrow.Author.Tests.{lt-ltb, le-ltb, le-leb, lt-leb}
 use Rattle.laws.specs.Lists.{May}
 use Rattle.laws.proofs.Tests.{lt-or}
@@ -36,10 +33,6 @@ pub key-same : (f g : ℕ → ℕ) (b n : ℕ) → ((w : ℕ) → w < n → f w 
 unfolding least_key
 key-same f g b zero h = refl
 key-same f g b (suc n) h = ap₂ min (ap (kept b) (h n (omega arith))) (key-same f g b n (λ w l. h w (omega arith)))
-
--- a table's keys from its first on
-pub key-first : (t : List ℕ) (b n : ℕ) → least_key (λ w. get_or t (0 + w) 0) b n ≡ least_key (λ w. get_or t w 0) b n
-key-first t b n = key-same (λ w. get_or t (0 + w) 0) (λ w. get_or t w 0) b n (λ w l. ap (λ i. get_or t i 0) (zero-add w))
 
 -- ---- the key of the setting that the scan finds
 

@@ -7,7 +7,7 @@ use mathlib.Core.Logic.{◌⊎◌, inl, inr}
 use Prim.Native.Nat.{ℕ, ◌+◌, ◌-◌, ◌*◌, ◌/◌, ◌%◌, ◌≤◌, ◌<◌}
 use native.Mathlib.Omega.{arith}
 use lib.Dec.{T, ltb, eqb, eqb→eq, ltb→lt}
-use lib.IntN.{ℤ, pos}
+use lib.IntN.{ℤ}
 use lib.ListN.{length, get_or, take, drop, length-drop}
 use lib.Seq.{take_all}
 use Rattle.laws.specs.Lists.{All}
@@ -16,7 +16,7 @@ use Rattle.polar.specs.Layers.{part, Within}
 use Rattle.outer.specs.Search.{spread, cost_of}
 use Rattle.short.specs.Short.{byte_key, Halves, byte_rows, back_rows}
 use Rattle.outer.proofs.Rows.{every-at}
-use Rattle.outer.proofs.Sums.{split, part-costs, part_small}
+use Rattle.outer.proofs.Sums.{split, part_small}
 
 -- ---- keys
 
@@ -26,25 +26,17 @@ byte-key {t} {vs} h x l =
     let e : take 4 (drop 4 vs) ≡ drop 4 vs = take_all 4 (drop 4 vs) (omega (arith, length-drop 4 vs, h.short)) in
     omega (arith, h.low (x % 16) (omega arith), h.high (x / 16) (omega arith), split x vs, ap (cost_of (x / 16)) e)
 
--- the keys of two half bytes' runs in one table, by the values s0 to s7
-pub halves-made : (first t : List ℕ) (vs : List ℤ) {s0 s1 s2 s3 s4 s5 s6 s7 : ℤ} → length vs ≤ 8 → All (Within 1048064) vs
-    → ((v : ℕ) → v < 16 → get_or first (0 + v) 0 ≡ cost_of v (s0 ∷ s1 ∷ s2 ∷ s3 ∷ []) * 256 + v * 1) → ((k : ℕ) → k < 16 → get_or t k 0 ≡ get_or first k 0)
-    → ((v : ℕ) → v < 16 → get_or t (16 + v) 0 ≡ cost_of v (s4 ∷ s5 ∷ s6 ∷ s7 ∷ []) * 256 + v * 16)
-    → s0 ≡ get_or vs 0 (pos 0) → s1 ≡ get_or vs 1 (pos 0) → s2 ≡ get_or vs 2 (pos 0) → s3 ≡ get_or vs 3 (pos 0)
-    → s4 ≡ get_or vs 4 (pos 0) → s5 ≡ get_or vs 5 (pos 0) → s6 ≡ get_or vs 6 (pos 0) → s7 ≡ get_or vs 7 (pos 0) → Halves t vs
-halves-made first t vs {s0} {s1} {s2} {s3} {s4} {s5} {s6} {s7} size h made same made' e0 e1 e2 e3 e4 e5 e6 e7 = record { short = size; low = low; high = high; small = small }
+-- the keys of two half bytes' runs in one table
+pub halves-made : (first t : List ℕ) (vs : List ℤ) → length vs ≤ 8 → All (Within 1048064) vs
+    → ((v : ℕ) → v < 16 → get_or first (0 + v) 0 ≡ cost_of v (part 0 4 vs) * 256 + v * 1) → ((k : ℕ) → k < 16 → get_or t k 0 ≡ get_or first k 0)
+    → ((v : ℕ) → v < 16 → get_or t (16 + v) 0 ≡ cost_of v (part 4 4 vs) * 256 + v * 16) → Halves t vs
+halves-made first t vs size h made same made' = record { short = size; low = low; high = high; small = small }
   where
-    below : (v : ℕ) → cost_of v (s0 ∷ s1 ∷ s2 ∷ s3 ∷ []) ≡ cost_of v (part 0 4 vs)
-    below v = rw (e0, e1, e2, e3) (part-costs v 0 vs)
-
-    above : (v : ℕ) → cost_of v (s4 ∷ s5 ∷ s6 ∷ s7 ∷ []) ≡ cost_of v (part 4 4 vs)
-    above v = rw (e4, e5, e6, e7) (part-costs v 4 vs)
-
     low : (v : ℕ) → v < 16 → get_or t v 0 ≡ cost_of v (part 0 4 vs) * 256 + v
-    low v l = let e : 0 + v ≡ v = omega arith in omega (arith, same v l, ap (λ i. get_or first i 0) e, made v l, below v)
+    low v l = let e : 0 + v ≡ v = omega arith in omega (arith, same v l, ap (λ i. get_or first i 0) e, made v l)
 
     high : (v : ℕ) → v < 16 → get_or t (16 + v) 0 ≡ cost_of v (part 4 4 vs) * 256 + v * 16
-    high v l = omega (arith, made' v l, above v)
+    high v l = omega (arith, made' v l)
 
     small : (k : ℕ) → k < 32 → get_or t k 0 ≤ 1073217776
     small k l = go (lt-or k 16)

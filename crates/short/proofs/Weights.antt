@@ -292,7 +292,7 @@ led-none c =
     }
 
 -- of at most 8 values, the first of which counts 2^k
-pub led-all : (k : ℕ) (ss : List ℤ) → k + length ss ≤ 8 → All (Within 1048064) ss → Led (2 ^ k) ss (led (2 ^ k) ss)
+led-all : (k : ℕ) (ss : List ℤ) → k + length ss ≤ 8 → All (Within 1048064) ss → Led (2 ^ k) ss (led (2 ^ k) ss)
 unfolding led All
 led-all k [] l h = led-none (2 ^ k)
 led-all k (s ∷ ss) l h =
@@ -300,3 +300,7 @@ led-all k (s ∷ ss) l h =
     let below : k ≤ 7 = omega arith in
     let small : 2 ^ k ≤ 2 ^ 7 = pow_mono below in
     led-more (2 ^ k) s ss (led (2 ^ k + 2 ^ k) ss) (omega arith) h.0 (subst (λ (c : ℕ). Led c ss (led c ss)) twice (led-all (suc k) ss (omega arith) h.1))
+
+-- what is led of 8 values
+pub led-is : (vs : List ℤ) {x : Lead} → length vs ≡ 8 → All (Within 1048064) vs → x ≡ led 1 vs → Led 1 vs x
+led-is vs n h e = subst (Led 1 vs) (sym e) (led-all 0 vs (omega arith) h)

@@ -1,87 +1,55 @@
 // The word of least key from a bound on, of a block of 8 positions where all indices are free: every byte is a word, and its key, 256 times the cost and the
 // number, the sum of the keys of two half bytes. Relies on no other file here; specs/Short.antt says what a key is.
-ghost use Rattle.std.specs.Prelude.{◌≡◌, [], ◌∷◌, ℕ, ◌+◌, ◌*◌, ◌/◌, ◌%◌, ◌≤◌, ◌<◌, min, leb, length, get_or};
+ghost use Rattle.std.specs.Prelude.{◌≡◌, ℕ, ◌+◌, ◌*◌, ◌%◌, ◌≤◌, ◌<◌, leb, length, get_or};
 ghost use Rattle.laws.specs.Lists.{All};
-ghost use Rattle.polar.specs.Layers.{part, Within};
-ghost use Rattle.outer.specs.Search.{Entry, spread, cost_of, key_of, setting_key, least_from, answer};
+ghost use Rattle.polar.specs.Layers.{Within};
+ghost use Rattle.outer.specs.Search.{Entry, spread, key_of, setting_key, least_from, answer};
 ghost use Rattle.short.specs.Short.{kept, least_key, byte_key, Halves, back_rows, Octets, word_with};
 
 use outer::Candidate;
-use tables::costs::{pairs, value};
+use tables::Directions;
+use tables::costs::half_bytes;
 use tables::messages::spread_at;
 
-// The keys of all half bytes at four values, from `to` on; a half byte counts `step` in the number.
-fn half_keys(halves: &mut [u32; 256], to: usize, step: u32, s0: i32, s1: i32, s2: i32, s3: i32)
-    requires { (Within 1048064 s0 × Within 1048064 s1 × Within 1048064 s2 × Within 1048064 s3) × (length halves.old ≡ 256) × (to + 16 ≤ 256) × (step ≤ 16) }
-    ensures { (length halves.new ≡ 256) × ((k : ℕ) → k < to → get_or halves.new k 0 ≡ get_or halves.old k 0)
-        × ((v : ℕ) → v < 16 → get_or halves.new (to + v) 0 ≡ cost_of v (s0 ∷ s1 ∷ s2 ∷ s3 ∷ []) * 256 + v * step) }
+// The keys of all half bytes at the values, zeros past them: 256 times the cost, and what the half byte counts in the number.
+fn fill_halves(values: &[i32], halves: &mut [u32; 256])
+    requires { (length values.now ≤ 8) × All (Within 1048064) values.now }
+    ensures { Halves halves.new values.now }
 {
-    let low = pairs(s0, s1);
-    let high = pairs(s2, s3);
-    let mut v: usize = 0;
-    while v < 16 {
-        halves[to + v] = (low[v % 4] + high[v / 4]) * 256 + v as u32 * step;
-        v += 1;
-    }
-}
-
-// The keys of all half bytes at the n values at `at`, zeros past them.
-fn fill_halves(numbers: &[i32], at: usize, n: usize, halves: &mut [u32; 256])
-    requires { (length halves.old ≡ 256) × (at + n ≤ length numbers.now) × (n ≤ 8) × All (Within 1048064) (part at n numbers.now) }
-    ensures { (length halves.new ≡ 256) × Halves halves.new (part at n numbers.now) }
-{
-    let s0 = value(numbers, at, n, 0);
-    let s1 = value(numbers, at, n, 1);
-    let s2 = value(numbers, at, n, 2);
-    let s3 = value(numbers, at, n, 3);
-    half_keys(halves, 0, 1, s0, s1, s2, s3);
-    let s4 = value(numbers, at, n, 4);
-    let s5 = value(numbers, at, n, 5);
-    let s6 = value(numbers, at, n, 6);
-    let s7 = value(numbers, at, n, 7);
-    half_keys(halves, 16, 16, s4, s5, s6, s7);
+    half_bytes::<256, 1>(values, 0, halves, 0);
+    half_bytes::<256, 16>(values, 4, halves, 16);
 }
 
 // The key, where it is not below the bound.
 fn from(key: u32, bound: u32) -> u32
     ensures { result ≡ kept bound key }
 {
-    if key < bound { 4294967295 } else { key }
+    if key < bound { u32::MAX } else { key }
 }
 
-// The lesser of two.
-fn lesser(x: u32, y: u32) -> u32
-    ensures { result ≡ min x y }
+// The least of the keys that are not below a bound.
+fn least_key(keys: &[u32], bound: u32) -> u32
+    ensures { result ≡ least_key (λ w. get_or keys.now w 0) bound (length keys.now) }
 {
-    if x < y { x } else { y }
-}
-
-// The least of the `count` keys from `at` on that are not below a bound.
-fn least_key(keys: &[u32; 256], at: usize, count: usize, bound: u32) -> u32
-    requires { at + count ≤ 256 }
-    ensures { result ≡ least_key (λ w. get_or keys.now (at + w) 0) bound count }
-{
-    let mut best: u32 = 4294967295;
-    let mut w: usize = 0;
-    while w < count {
-        best = lesser(from(keys[at + w], bound), best);
-        w += 1;
+    let mut best = u32::MAX;
+    for key in keys {
+        best = from(*key, bound).min(best);
     }
     best
 }
 
-// The same of the keys of the bytes with one high half, whose key is `add`, where `low` is the least key of a low half: that one's, unless
+// The same of the keys of the bytes with one high half, whose key is `add`, where `least` is the least key of a low half: that one's, unless
 // some are below the bound.
-fn least_row(halves: &[u32; 256], side: usize, add: u32, low: u32, bound: u32) -> u32
-    requires { (side ≡ 16) × ((k : ℕ) → k < 32 → get_or halves.now k 0 ≤ 1073217776) × (add ≤ 1073217776)
-        × (low ≡ least_key (λ w. get_or halves.now w 0) 0 side) }
-    ensures { result ≡ least_key (λ w. get_or halves.now w 0 + add) bound 16 }
+fn least_row(low: &[u32], add: u32, least: u32, bound: u32) -> u32
+    requires { (length low.now ≡ 16) × ((k : ℕ) → k < 16 → get_or low.now k 0 ≤ 1073217776) × (add ≤ 1073217776)
+        × (least ≡ least_key (λ w. get_or low.now w 0) 0 16) }
+    ensures { result ≡ least_key (λ w. get_or low.now w 0 + add) bound 16 }
 {
-    if bound <= low + add {
-        return low + add;
+    if bound <= least + add {
+        return least + add;
     }
-    let key = least_key(halves, 0, side, bound - add);
-    if key == 4294967295 {
+    let key = least_key(low, bound - add);
+    if key == u32::MAX {
         return key;
     }
     key + add
@@ -93,12 +61,11 @@ fn least_byte(halves: &[u32; 256], side: usize, bound: u32) -> u32
     requires { (side ≡ 16) × ((k : ℕ) → k < 32 → get_or halves.now k 0 ≤ 1073217776) }
     ensures { result ≡ least_key (byte_key halves.now) bound 256 }
 {
-    let low = least_key(halves, 0, side, 0);
-    let mut best: u32 = 4294967295;
-    let mut h: usize = 0;
-    while h < side {
-        best = lesser(least_row(halves, side, halves[16 + h], low, bound), best);
-        h += 1;
+    let low = &halves[..side];
+    let least = least_key(low, 0);
+    let mut best = u32::MAX;
+    for add in &halves[16..16 + side] {
+        best = least_row(low, *add, least, bound).min(best);
     }
     best
 }
@@ -125,7 +92,7 @@ fn narrow(bound: u64) -> u32
     let cost = bound / 4294967296;
     let number = bound % 4294967296;
     if cost >= 8388608 {
-        return 4294967295;
+        return u32::MAX;
     }
     if number >= 256 {
         return (cost * 256 + 256) as u32;
@@ -134,43 +101,40 @@ fn narrow(bound: u64) -> u32
 }
 
 // The word of a setting, by its key.
-pub fn word_with(steps: &[u32; 9], free: usize, setting: u32, key: u32) -> Candidate
+pub fn word_with(sets: &[u32; 9], free: usize, setting: u32, key: u32) -> Candidate
     requires { free ≤ 8 }
-    ensures { result ≡ word_with steps.now free setting key }
+    ensures { result ≡ word_with sets.now free setting key }
 {
     Candidate {
         some: true,
         setting,
-        parities: spread_at(steps, free, setting),
+        parities: spread_at(sets, free, setting),
         cost: key / 256,
         number: key % 256,
     }
 }
 
 // The word of this key, where all 8 indices are free.
-pub fn byte_with(steps: &[u32; 9], key: u32) -> Candidate
-    ensures { result ≡ word_with steps.now 8 (spread back_rows 0 8 (key % 256)) key }
+pub fn byte_with(sets: &[u32; 9], key: u32) -> Candidate
+    ensures { result ≡ word_with sets.now 8 (spread back_rows 0 8 (key % 256)) key }
 {
-    word_with(steps, 8, setting_of(key % 256), key)
+    word_with(sets, 8, setting_of(key % 256), key)
 }
 
 // The word of least key from a bound on, where all 8 indices are free.
 pub fn search_bytes(
-    numbers: &[i32],
-    at: usize,
-    ties: &[u32; 9],
-    free: usize,
+    values: &[i32; 8],
+    directions: &Directions,
     bound: u64,
     halves: &mut [u32; 256],
 ) -> Candidate
-    requires { (free ≡ 8) × (length halves.old ≡ 256) × (at + 8 ≤ length numbers.now) × All (Within 1048064) (part at 8 numbers.now) }
-    ensures halves_len { length halves.new ≡ 256 }
-    ensures by_index { (e : ℕ → Entry) → Octets 0 256 8 ties.now e
-        → (let vs = part at 8 numbers.now in result ≡ answer e vs (least_from (setting_key e vs) bound 256)) }
+    requires { (directions.now.free ≡ 8) × All (Within 1048064) values.now }
+    ensures { (e : ℕ → Entry) → Octets 0 256 8 directions.now.sets e
+        → result ≡ answer e values.now (least_from (setting_key e values.now) bound 256) }
 {
-    fill_halves(numbers, at, 8, halves);
-    let key = least_byte(halves, free + free, narrow(bound));
-    if key == 4294967295 {
+    fill_halves(values, halves);
+    let key = least_byte(halves, directions.free + directions.free, narrow(bound));
+    if key == u32::MAX {
         return Candidate {
             some: false,
             setting: 0,
@@ -179,5 +143,5 @@ pub fn search_bytes(
             number: 0,
         };
     }
-    byte_with(ties, key)
+    byte_with(&directions.sets, key)
 }

@@ -1,9 +1,9 @@
 // The nearest word and the next after it, of a block of 8 positions where all indices are free, or all but the first (a single parity check, or a coset
 // of it): the words are all bytes, or all of one parity, so the nearest and the next differ from the hard decisions where turning a bit adds least to
 // the key. Relies on bytes.rt; specs/Flips.antt says what is added.
-ghost use Rattle.std.specs.Prelude.{◌≡◌, ℕ, ◌+◌, ◌*◌, ◌%◌, ◌≤◌, ◌<◌, length};
+ghost use Rattle.std.specs.Prelude.{◌≡◌, ℕ, ◌+◌, ◌*◌, ◌%◌, ◌≤◌, ◌<◌, get_or};
 ghost use Rattle.laws.specs.Lists.{All};
-ghost use Rattle.polar.specs.Layers.{part, Within};
+ghost use Rattle.polar.specs.Layers.{Within};
 ghost use Rattle.outer.specs.Search.{Entry, spread, key_of, setting_key, least_from, answer};
 ghost use Rattle.short.specs.Short.{back_rows, Octets, word_with};
 ghost use Rattle.short.specs.Flips.{weighed, led_more, led};
@@ -12,6 +12,7 @@ use crate::Lead;
 use crate::bytes::{byte_with, setting_of, word_with};
 use outer::{Candidate, Pair};
 use polar::values::magnitude;
+use tables::Directions;
 
 // One weight more.
 fn weigh(x: Lead, w: u32) -> Lead
@@ -19,19 +20,13 @@ fn weigh(x: Lead, w: u32) -> Lead
 {
     if w < x.least {
         return Lead {
-            base: x.base,
-            odd: x.odd,
             least: w,
             next: x.least,
+            ..x
         };
     }
     if w < x.next {
-        return Lead {
-            base: x.base,
-            odd: x.odd,
-            least: x.least,
-            next: w,
-        };
+        return Lead { next: w, ..x };
     }
     x
 }
@@ -46,44 +41,41 @@ fn more(x: Lead, s: i32, bit: u32) -> Lead
         let turned = Lead {
             base: x.base + bit,
             odd: 1 - x.odd,
-            least: x.least,
-            next: x.next,
+            ..x
         };
         return weigh(turned, w - bit);
     }
     weigh(x, w + bit)
 }
 
-// The hard decisions at the 8 values at `at`, and the two least weights.
-fn lead(numbers: &[i32], at: usize) -> Lead
-    requires { (at + 8 ≤ length numbers.now) × All (Within 1048064) (part at 8 numbers.now) }
-    ensures { result ≡ led 1 (part at 8 numbers.now) }
+// The hard decisions at the values, and the two least weights.
+fn lead(values: &[i32; 8]) -> Lead
+    requires { All (Within 1048064) values.now }
+    ensures { result ≡ led 1 values.now }
 {
     let mut x = Lead {
         base: 0,
         odd: 0,
-        least: 4294967295,
-        next: 4294967295,
+        least: u32::MAX,
+        next: u32::MAX,
     };
     let mut bit: u32 = 256;
-    let mut i: usize = 8;
-    while i > 0 {
-        i -= 1;
+    for i in (0..8).rev() {
         bit = bit / 2;
-        x = more(x, numbers[at + i], bit);
+        x = more(x, values[i], bit);
     }
     x
 }
 
 // The nearest word where all 8 indices are free, and the next after it: the hard decisions, and these with the bit of least weight turned.
-pub fn pair_free(numbers: &[i32], at: usize, ties: &[u32; 9]) -> Pair
-    requires { (at + 8 ≤ length numbers.now) × All (Within 1048064) (part at 8 numbers.now) }
-    ensures { (e : ℕ → Entry) → Octets 0 256 8 ties.now e
-        → (let vs = part at 8 numbers.now in
-        (result.first ≡ answer e vs (least_from (setting_key e vs) 0 256))
-        × (result.second ≡ answer e vs (least_from (setting_key e vs) (key_of result.first.cost result.first.number + 1) 256))) }
+pub fn pair_free(values: &[i32; 8], directions: &Directions) -> Pair
+    requires { All (Within 1048064) values.now }
+    ensures { (e : ℕ → Entry) → Octets 0 256 8 directions.now.sets e
+        → (result.first ≡ answer e values.now (least_from (setting_key e values.now) 0 256))
+        × (result.second ≡ answer e values.now (least_from (setting_key e values.now) (key_of result.first.cost result.first.number + 1) 256)) }
 {
-    let x = lead(numbers, at);
+    let ties = &directions.sets;
+    let x = lead(values);
     Pair {
         first: byte_with(ties, x.base),
         second: byte_with(ties, x.base + x.least),
@@ -99,15 +91,15 @@ fn checked_with(ties: &[u32; 9], key: u32) -> Candidate
 
 // The nearest word where all indices but the first are free, and the next after it: the words are the bytes of one parity. Where the hard decisions have
 // it, they come first, then these with the two bits of least weight turned; else these with one of the two turned.
-pub fn pair_checked(numbers: &[i32], at: usize, ties: &[u32; 9], parity: u32) -> Pair
-    requires { (at + 8 ≤ length numbers.now) × All (Within 1048064) (part at 8 numbers.now) × (parity < 2) }
-    ensures { (e : ℕ → Entry) → Octets (128 * parity) 128 7 ties.now e
-        → (let vs = part at 8 numbers.now in
-        (result.first ≡ answer e vs (least_from (setting_key e vs) 0 128))
-        × (result.second ≡ answer e vs (least_from (setting_key e vs) (key_of result.first.cost result.first.number + 1) 128))) }
+pub fn pair_checked(values: &[i32; 8], directions: &Directions) -> Pair
+    requires { All (Within 1048064) values.now × (get_or directions.now.words 0 0 < 2) }
+    ensures { (e : ℕ → Entry) → Octets (128 * get_or directions.now.words 0 0) 128 7 directions.now.sets e
+        → (result.first ≡ answer e values.now (least_from (setting_key e values.now) 0 128))
+        × (result.second ≡ answer e values.now (least_from (setting_key e values.now) (key_of result.first.cost result.first.number + 1) 128)) }
 {
-    let x = lead(numbers, at);
-    if x.odd == parity {
+    let ties = &directions.sets;
+    let x = lead(values);
+    if x.odd == directions.words[0] {
         return Pair {
             first: checked_with(ties, x.base),
             second: checked_with(ties, x.base + x.least + x.next),

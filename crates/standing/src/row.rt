@@ -1,4 +1,4 @@
-// A path's row of 16 numbers: the ids of its arrays by height, and behind them these five. Relies on no other file.
+// A path's row of 16 numbers: the ids of its arrays by height, and behind them five cells. Relies on no other file.
 ghost use Rattle.std.specs.Prelude.{◌≡◌, ◌≤◌, ◌<◌};
 ghost use Rattle.sharing.specs.Sharing.{id_at, HasRow};
 ghost use Rattle.standing.specs.Standing.{cell, spent_at, cost_at, word_at, earlier_at, parities_at, PutRow};
@@ -18,79 +18,54 @@ const EARLIER: usize = 13;
 // Where the set of the parities after it stands.
 const PARITIES: usize = 14;
 
-// A number of a slot's row.
-fn read(rows: &[u32], slot: usize, at: usize) -> u32
-    requires { HasRow slot rows.now × (at < 16) }
-    ensures { result ≡ cell rows.now slot at }
-{
-    rows[slot * 16 + at]
+// What a path's row holds besides its ids.
+#[derive(Clone, Copy)]
+pub struct RowCells {
+    pub spent: u32,
+    pub cost: u32,
+    pub word: u32,
+    pub earlier: u32,
+    pub parities: u32,
 }
 
 // The id of a slot's array of a height.
+#[tactic(auto, unfolding(sharing::specs::Sharing::id_at))]
 pub fn id_of(rows: &[u32], slot: usize, h: usize) -> usize
     requires { HasRow slot rows.now × (h ≤ 9) }
     ensures { result ≡ id_at rows.now slot h }
 {
-    read(rows, slot, h) as usize
+    rows[slot * 16 + h] as usize
 }
 
-// What a slot's path spent before its last block.
-pub fn spent_of(rows: &[u32], slot: usize) -> u32
+// The cells of a slot's row.
+#[tactic(auto, unfolding(crate::specs::Standing::cell))]
+pub fn cells_of(rows: &[u32], slot: usize) -> RowCells
     requires { HasRow slot rows.now }
-    ensures { result ≡ cell rows.now slot spent_at }
-{
-    read(rows, slot, SPENT)
-}
-
-// The cost of its last block.
-pub fn cost_of(rows: &[u32], slot: usize) -> u32
-    requires { HasRow slot rows.now }
-    ensures { result ≡ cell rows.now slot cost_at }
-{
-    read(rows, slot, COST)
-}
-
-// The number of that block's word.
-pub fn word_of(rows: &[u32], slot: usize) -> u32
-    requires { HasRow slot rows.now }
-    ensures { result ≡ cell rows.now slot word_at }
-{
-    read(rows, slot, WORD)
-}
-
-// The set of the parities before that block.
-pub fn earlier_of(rows: &[u32], slot: usize) -> u32
-    requires { HasRow slot rows.now }
-    ensures { result ≡ cell rows.now slot earlier_at }
-{
-    read(rows, slot, EARLIER)
-}
-
-// The set of the parities after it.
-pub fn parities_of(rows: &[u32], slot: usize) -> u32
-    requires { HasRow slot rows.now }
-    ensures { result ≡ cell rows.now slot parities_at }
-{
-    read(rows, slot, PARITIES)
-}
-
-// Writes what a slot's path spent, the cost and the word of its last block, and the parities before and after that block.
-pub fn put(
-    rows: &mut [u32],
-    slot: usize,
-    spent: u32,
-    cost: u32,
-    word: u32,
-    earlier: u32,
-    parities: u32,
-)
-    requires { HasRow slot rows.old }
-    ensures { PutRow slot rows.old rows.new spent cost word earlier parities }
+    ensures spent { result.spent ≡ cell rows.now slot spent_at }
+    ensures cost { result.cost ≡ cell rows.now slot cost_at }
+    ensures word { result.word ≡ cell rows.now slot word_at }
+    ensures earlier { result.earlier ≡ cell rows.now slot earlier_at }
+    ensures parities { result.parities ≡ cell rows.now slot parities_at }
 {
     let at = slot * 16;
-    rows[at + SPENT] = spent;
-    rows[at + COST] = cost;
-    rows[at + WORD] = word;
-    rows[at + EARLIER] = earlier;
-    rows[at + PARITIES] = parities;
+    RowCells {
+        spent: rows[at + SPENT],
+        cost: rows[at + COST],
+        word: rows[at + WORD],
+        earlier: rows[at + EARLIER],
+        parities: rows[at + PARITIES],
+    }
+}
+
+// Writes the cells of a slot's row.
+pub fn put(rows: &mut [u32], slot: usize, cells: RowCells)
+    requires { HasRow slot rows.old }
+    ensures { PutRow slot rows.old rows.new cells.spent cells.cost cells.word cells.earlier cells.parities }
+{
+    let at = slot * 16;
+    rows[at + SPENT] = cells.spent;
+    rows[at + COST] = cells.cost;
+    rows[at + WORD] = cells.word;
+    rows[at + EARLIER] = cells.earlier;
+    rows[at + PARITIES] = cells.parities;
 }

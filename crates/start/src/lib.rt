@@ -12,7 +12,7 @@ ghost use Rattle.reader.specs.Arrays.{turn};
 ghost use Rattle.sharing.specs.Sharing.{held_at, Held, Rows};
 ghost use Rattle.order.specs.Entries.{key_at};
 ghost use Rattle.steps.specs.Steps.{BlockIs};
-ghost use Rattle.start.specs.Start.{first_held, BlocksIn};
+ghost use Rattle.start.specs.Start.{first_held, HasEntries, BlocksIn};
 
 use codebook::Tables;
 use machine::Walk;
@@ -78,7 +78,7 @@ pub fn block_at(tables: &Tables, b: usize) -> Block
 
 // Writes an extraction's entry of the walk.
 pub fn note(walk: &mut Walk, at: usize, e: u64)
-    requires { (at < length walk.old.path.now) × (at < length walk.old.blocks.now) × (at < length walk.old.score.now) × (e < 36028797018963968) }
+    requires { HasEntries (at + 1) walk.old × (e < 36028797018963968) }
     ensures noted { (walk.new.path.now ≡ set walk.old.path.now at (pos (key_at e).number))
         × (walk.new.blocks.now ≡ set walk.old.blocks.now at (pos (key_at e).blocks))
         × (walk.new.score.now ≡ set walk.old.score.now at (key_at e).score) }

@@ -7,7 +7,8 @@ use native.Mathlib.Nat.{zero-add}
 use native.Mathlib.Numerals.{add-one}
 use native.Mathlib.Omega.{arith}
 use lib.IntN.{ℤ, pos}
-use lib.ListN.{length, set, get_or, drop, take, length-set, length-map, get_or-append, get_or-map, get_or-eq_default}
+use lib.ListN.{length, set, get_or, drop, take, take-append-drop, length-take, length-set, length-map, get_or-append, get_or-map, get_or-eq_default}
+use Rattle.std.proofs.lemmas.List.{set-append_left}
 use lib.Seq.{paste, paste-zero, paste-suc, take-length}
 use Rattle.queue.specs.Queue.{Step}
 use Rattle.machine.specs.Calls.{walked}
@@ -26,6 +27,16 @@ pub copied-next : (old : List StepRecord) (paths blocks scores : List ℤ) (n : 
     → set l n (record { path = p; blocks = b; score = z }) ≡ copied old paths blocks scores (n + 1)
 unfolding copied record_at
 copied-next old paths blocks scores n l p b z el ep eb ez = rw (add-one n, el, ep, eb, ez) refl
+
+-- copied into the first part of a slice, the records are copied into the slice
+pub copied-part : (old : List StepRecord) (paths blocks scores : List ℤ) (m n : ℕ) → n ≤ m → m ≤ length old
+    → copied (take m old) paths blocks scores n ++ drop m old ≡ copied old paths blocks scores n
+unfolding copied
+copied-part old paths blocks scores m zero h in-old = take-append-drop m old
+copied-part old paths blocks scores m (suc n) k in-old =
+    let h : n < length (copied (take m old) paths blocks scores n) = omega (arith, length-copied (take m old) paths blocks scores n, length-take m old) in
+    sym (set-append_left (copied (take m old) paths blocks scores n) (drop m old) n (record_at paths blocks scores n) h)
+    ∙ ap (λ (l : List StepRecord). set l n (record_at paths blocks scores n)) (copied-part old paths blocks scores m n (omega arith) in-old)
 
 -- an entry of a walk buffer is that of its extraction
 walked-entry : (entry : Step → ℤ) (steps : List Step) (old : List ℤ) (i : ℕ) (d : Step) → i < length steps → get_or (walked entry steps old) i (entry d) ≡ entry (get_or steps i d)

@@ -3,7 +3,9 @@
 -- of the queue leaves it whole, since there is room. And the next word after its own, where that is known, is the one to keep for it: the copy sees
 -- the values that the search went by. Assumes nothing.
 use mathlib.Core.Path.{◌≡◌, refl, sym, ap, ap₂, ◌∙◌, subst, subst₂}
-use mathlib.Core.Bool.{true}
+use mathlib.Core.Bool.{Bool, true, false}
+use Rattle.std.specs.Prelude.{Some}
+use Rattle.core.specs.Bool.{then_some}
 use mathlib.Core.List.{List, [], ◌∷◌, map}
 use mathlib.Core.Logic.{◌≢◌}
 use mathlib.Core.Option.{Option, some}
@@ -43,8 +45,8 @@ use Rattle.standing.proofs.Places.{stands-insert-second}
 use Rattle.standing.proofs.Written.{stands-share}
 use Rattle.views.specs.Steps.{Claimable}
 use Rattle.words.specs.declared.Block.{Block}
-use Rattle.words.specs.Kept.{Keeps, OneKept, next_of, KeptFor, Kepts}
-use Rattle.words.proofs.Kepts.{next_small, kepts-other, kepts-frame, kepts-insert}
+use Rattle.words.specs.Kept.{Table, Keeps, OneKept, next_of, KeptFor, Kepts}
+use Rattle.words.proofs.Kepts.{kepts-other, kepts-frame, kepts-insert}
 use Rattle.steps.specs.Steps.{Forking}
 
 -- memory that has the rows and the arrays is lent as well
@@ -90,12 +92,13 @@ module _ {m D N : ℕ} {x : Memory} {e t : ℕ} {es vs : List ℕ} {last : Block
   abbrev after : Option Word
   after = next_after c.word book values path.earlier b
 
-  -- where it is known, it is that word, and its setting is small
-  pub fork-known : found.known ≡ true → found.second ≡ candidate_of book after
-  fork-known k = c.is.second k c.word refl
-
-  pub fork-few : found.known ≡ true → found.second.setting < 1073741824
-  fork-few k = next_small book values path.earlier b c.word (c.valid.blocks b c.own.block.within).light (fork-known k)
+  -- where one is kept, it is that word
+  pub fork-known : (w : Candidate) → then_some found.known found.second ≡ Some w → w ≡ candidate_of book after
+  fork-known w = go found.known refl
+    where
+      go : (known : Bool) → found.known ≡ known → then_some known found.second ≡ Some w → w ≡ candidate_of book after
+      go true k q = let same : found.second ≡ w = cc in sym same ∙ c.is.second k c.word refl
+      go false k q = cc
 
   -- ---- the entry
 
@@ -240,7 +243,7 @@ module _ {m D N : ℕ} {x : Memory} {e t : ℕ} {es vs : List ℕ} {last : Block
         ap₂ (λ (w : Word) (l : List ℤ). next_after w book l path.earlier b) (own_is v.ids) (sym (claim-own (path.ids ∷ ids_of qs) (place book b) (view_of c.hand.arrays path) (block_at book b).j))
 
     -- the word that is kept for it, if one is, is its next; those of the others are as they were
-    pub fork-kepts : {old new : List ℕ} → OneKept t old new → Keeps new t (candidate_of book after) → Kepts book c.hand.arrays old es c.hand.rest →
+    pub fork-kepts : {old new : Table} → OneKept t old new → Keeps new t (candidate_of book after) → Kepts book c.hand.arrays old es c.hand.rest →
         let k = copy_with book D c.hand.arrays path b c.hand.rest n (some c.word) in
         Kepts book k.arrays new (insert key_at d es) k.queue
     unfolding copy_with room_for key_of score_of All Distinct with_ids

@@ -37,7 +37,7 @@ use Rattle.standing.specs.Standing.{cell, cost_at, Row, Stands}
 use Rattle.standing.proofs.Sizes.{stands-length}
 use Rattle.standing.proofs.Taken.{taken-row}
 use Rattle.words.specs.declared.Block.{Block}
-use Rattle.words.specs.Kept.{Keeps, Kepts}
+use Rattle.words.specs.Kept.{Table, Keeps, Kepts}
 use Rattle.steps.specs.Steps.{Forking, Copying, CopiedTo}
 
 -- ---- a word as the search answers it
@@ -52,7 +52,7 @@ unfolding candidate_of
 none-word B none r e t = refl
 none-word B (some y) r e t = let z : ◌≡◌ {A = ℕ} 0 1 = cc in absurd (omega arith)
 
-module _ {m D N : ℕ} {x : Memory} {e : ℕ} {es vs kinds terms : List ℕ} {last : Block} {kept : List ℕ} {b : ℕ}
+module _ {m D N : ℕ} {x : Memory} {e : ℕ} {es vs kinds terms : List ℕ} {last : Block} {kept : Table} {b : ℕ}
     (c : Copying m D N x e es vs kinds terms last kept b) where
   -- the book, the path in hand, and the paths queued
   abbrev book : Book
@@ -199,7 +199,7 @@ module _ {m D N : ℕ} {x : Memory} {e : ℕ} {es vs kinds terms : List ℕ} {la
         )
 
     -- the copy, as made among those left, is the reader's
-    pub copy_done : (n crowded : ℕ) (kept' : List ℕ) {z : Memory} {qs' : List ℕ} → qs ≡ room_for D es →
+    pub copy_done : (n crowded : ℕ) (kept' : Table) {z : Memory} {qs' : List ℕ} → qs ≡ room_for D es →
         (let o = copy-fork in
         let k = copy_with o.hand.book D o.hand.arrays o.hand.taken b o.hand.rest n (some o.word) in
         Stands o.hand.book D N z (e ∷ qs') ws k.arrays (o.hand.taken ∷ k.queue)

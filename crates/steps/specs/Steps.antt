@@ -18,7 +18,7 @@ use Rattle.reader.specs.Fit.{Fit, FitFor}
 use Rattle.standing.specs.Seen.{Memory}
 use Rattle.standing.specs.Standing.{Stands, InHand}
 use Rattle.words.specs.declared.Block.{Block}
-use Rattle.words.specs.Kept.{Kepts}
+use Rattle.words.specs.Kept.{Table, Kepts}
 
 -- x is block b of the book
 pub record BlockIs (B : Book) (b : ℕ) (x : Block) : Type 0 where
@@ -57,7 +57,7 @@ pub record Forking (m D N : ℕ) (x : Memory) (e t : ℕ) (es vs : List ℕ) (la
   pub room : length hand.rest + 2 ≤ D
 
 -- a path in hand whose last block may have a next word, and the words kept; no next word costs too much
-pub record Copying (m D N : ℕ) (x : Memory) (e : ℕ) (es vs : List ℕ) (kinds terms : List ℕ) (last : Block) (kept : List ℕ) (b : ℕ) : Type 0 where
+pub record Copying (m D N : ℕ) (x : Memory) (e : ℕ) (es vs : List ℕ) (kinds terms : List ℕ) (last : Block) (kept : Table) (b : ℕ) : Type 0 where
   pub hand : InHand m D N x e es vs
   pub booked : Booked hand.book kinds terms
   pub own : Last hand last b
@@ -66,7 +66,7 @@ pub record Copying (m D N : ℕ) (x : Memory) (e : ℕ) (es vs : List ℕ) (kind
       → hand.taken.spent + y.cost ≤ 1048064
 
 -- what the step has come to, from so many crowded out before: so many queued, the next number, the count, memory, and the words kept
-abbrev pub CopiedTo : Book → ℕ → ℕ → ℕ → Path → Cut → ℕ → ℕ → ℕ → ℕ → Memory → List ℕ → List ℕ → List ℕ → Type 0
+abbrev pub CopiedTo : Book → ℕ → ℕ → ℕ → Path → Cut → ℕ → ℕ → ℕ → ℕ → Memory → List ℕ → List ℕ → Table → Type 0
 CopiedTo B D N e p k before queued next crowded x es vs kept =
     (queued ≡ length k.queue) × (next ≡ k.next) × (crowded ≡ before + length k.crowded)
     × Stands B D N x (e ∷ es) vs k.arrays (p ∷ k.queue) × Kepts B k.arrays kept es k.queue

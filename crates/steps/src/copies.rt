@@ -14,13 +14,12 @@ use codebook::Tables;
 use heights::Layout;
 use order::entries::{entry, slot_of};
 use order::moves::insert;
-use outer::{Next, Scratch};
+use outer::{Candidate, Next, Scratch};
 use settings::Settings;
 use sharing::holders::share;
 use standing::Memory;
-use standing::row::{earlier_of, put, spent_of};
+use standing::row::{RowCells, cells_of, put};
 use views::view::claim;
-use words::kept::keep_known;
 use words::{Block, other_word, score};
 
 // A copy of the path of entry e, with the word found, in the slot `to`; it is inserted. The next word after that one is kept for it, where it is known.
@@ -36,7 +35,7 @@ fn fork(
     queued: usize,
     blocks: u32,
     number: u32,
-    kept: &mut [u32],
+    kept: &mut [Option<Candidate>],
 )
     requires lent { Lent layout.m paths layout.arrays (contents memory.old) × (queued + 2 ≤ paths) × (number < 32768) × Cells paths kept.old }
     requires by_index { (b : ℕ) × (blocks ≡ suc b) × (vs : List ℕ) × Forking layout.m paths layout.arrays (contents memory.old) e to (queue_of queue.old.order queued) vs last found b }
@@ -54,22 +53,19 @@ fn fork(
     let slot = slot_of(e);
     let cost = found.first.cost;
     let rows = &mut *memory.rows;
-    let spent = spent_of(rows, slot);
-    let earlier = earlier_of(rows, slot);
-    let d = entry(score(spent, cost, last.bias), blocks, number, to);
+    let own = cells_of(rows, slot);
+    let d = entry(score(own.spent, cost, last.bias), blocks, number, to);
     share(rows, &mut memory.holders, layout.m, slot, to);
-    put(
-        rows,
-        to,
-        spent,
+    let cells = RowCells {
         cost,
-        found.first.number,
-        earlier,
-        found.first.parities,
-    );
+        word: found.first.number,
+        parities: found.first.parities,
+        ..own
+    };
+    put(rows, to, cells);
     claim(memory, layout, to, last.height, last.place);
     insert(&mut queue.order, queued, d);
-    keep_known(kept, to, found.second, found.known);
+    kept[to] = found.known.then_some(found.second);
 }
 
 // The tally once the queue is cut to `left` paths and a copy is queued.
@@ -97,7 +93,7 @@ pub fn copy(
     e: u64,
     blocks: u32,
     last: Block,
-    kept: &mut [u32],
+    kept: &mut [Option<Candidate>],
     scratch: &mut Scratch,
 ) -> Tally
     requires lent { Lent layout.m s.paths layout.arrays (contents memory.old) × Cells s.paths kept.old }

@@ -5,18 +5,18 @@ ghost use Rattle.laws.specs.Lists.{All};
 ghost use Rattle.polar.specs.Layers.{part, Within};
 ghost use Rattle.outer.specs.Search.{cost_of, picked, Runs, Costs, Small};
 
+use crate::HalfBytes;
 use polar::values::cost;
 
-// Value i of the n values at `at`, 0 past them.
-pub fn value(numbers: &[i32], at: usize, n: usize, i: usize) -> i32
-    requires { at + n ≤ length numbers.now }
-    ensures { result ≡ get_or (part at n numbers.now) i (pos 0) }
+// Value i, 0 past the last.
+fn value(values: &[i32], i: usize) -> i32
+    ensures { result ≡ get_or values.now i (pos 0) }
 {
-    if i < n { numbers[at + i] } else { 0 }
+    if i < values.len() { values[i] } else { 0 }
 }
 
 // The costs of the four pairs of bits at two values.
-pub fn pairs(s0: i32, s1: i32) -> [u32; 4]
+fn pairs(s0: i32, s1: i32) -> [u32; 4]
     requires { Within 1048064 s0 × Within 1048064 s1 }
     ensures { (v : ℕ) → v < 4 → (get_or result v 0 ≡ cost_of v (s0 ∷ s1 ∷ [])) × (get_or result v 0 ≤ 2096128) }
 {
@@ -27,18 +27,23 @@ pub fn pairs(s0: i32, s1: i32) -> [u32; 4]
     [z0 + z1, o0 + z1, z0 + o1, o0 + o1]
 }
 
-// The costs of all half bytes at four values, from `to` on.
-fn run(sums: &mut [u32; 128], to: usize, s0: i32, s1: i32, s2: i32, s3: i32)
-    requires { (Within 1048064 s0 × Within 1048064 s1 × Within 1048064 s2 × Within 1048064 s3) × (length sums.old ≡ 128) × (to + 16 ≤ 128) }
-    ensures { (length sums.new ≡ 128) × ((k : ℕ) → k < to → get_or sums.new k 0 ≡ get_or sums.old k 0)
-        × ((v : ℕ) → v < 16 → get_or sums.new (to + v) 0 ≡ cost_of v (s0 ∷ s1 ∷ s2 ∷ s3 ∷ [])) }
+// For all half bytes at the four values from `from` on, zeros past the last, SCALE times the cost and STEP times the half byte, from `to` on.
+pub fn half_bytes<const SCALE: u32, const STEP: u32>(
+    values: &[i32],
+    from: usize,
+    table: &mut [u32],
+    to: usize,
+)
+    requires small { All (Within 1048064) values.now × (from + 4 ≤ 32) }
+    requires room { to + 16 ≤ length table.old }
+    requires scale { (SCALE ≤ 256) × (STEP ≤ 16) }
+    ensures before { (k : ℕ) → k < to → get_or table.new k 0 ≡ get_or table.old k 0 }
+    ensures costs { (v : ℕ) → v < 16 → get_or table.new (to + v) 0 ≡ cost_of v (part from 4 values.now) * SCALE + v * STEP }
 {
-    let low = pairs(s0, s1);
-    let high = pairs(s2, s3);
-    let mut v: usize = 0;
-    while v < 16 {
-        sums[to + v] = low[v % 4] + high[v / 4];
-        v += 1;
+    let low = pairs(value(values, from), value(values, from + 1));
+    let high = pairs(value(values, from + 2), value(values, from + 3));
+    for v in 0..16 {
+        table[to + v] = (low[v % 4] + high[v / 4]) * SCALE + v as u32 * STEP;
     }
 }
 
@@ -56,55 +61,47 @@ fn run_count(n: usize) -> usize
     8
 }
 
-// The costs of all half bytes at the n values at `at`, zeros past them; returns the number of runs.
-pub fn prepare(numbers: &[i32], at: usize, n: usize, sums: &mut [u32; 128]) -> usize
-    requires { (length sums.old ≡ 128) × (at + n ≤ length numbers.now) × (n ≤ 32) × All (Within 1048064) (part at n numbers.now) }
-    ensures { (length sums.new ≡ 128) × Costs sums.new result (part at n numbers.now) × Small sums.new result }
+// The costs of all half bytes at the values, zeros past them; returns the number of runs.
+pub fn prepare(values: &[i32], sums: &mut [u32; 128]) -> usize
+    requires { (length values.now ≤ 32) × All (Within 1048064) values.now }
+    ensures { Costs sums.new result values.now × Small sums.new result }
 {
-    let runs = run_count(n);
-    let mut p: usize = 0;
-    while p < runs {
-        let i = p * 4;
-        let s0 = value(numbers, at, n, i);
-        let s1 = value(numbers, at, n, i + 1);
-        let s2 = value(numbers, at, n, i + 2);
-        let s3 = value(numbers, at, n, i + 3);
-        run(sums, p * 16, s0, s1, s2, s3);
-        p += 1;
+    let runs = run_count(values.len());
+    for p in 0..runs {
+        half_bytes::<1, 0>(values, p * 4, sums, p * 16);
     }
     runs
 }
 
 // The entry of run p that the lowest half byte of w picks.
-fn pick(sums: &[u32; 128], p: usize, w: u32) -> u32
+fn pick(table: HalfBytes, p: usize, w: u32) -> u32
     requires { p < 8 }
-    ensures { result ≡ get_or sums.now (16 * p + w % 16) 0 }
+    ensures { result ≡ get_or table.entry.sums.now (16 * p + w % 16) 0 }
 {
-    sums[16 * p + (w % 16) as usize]
+    table.sums[16 * p + (w % 16) as usize]
 }
 
 // The cost of the four lowest half bytes of w, from run p on.
-fn four(sums: &[u32; 128], p: usize, w: u32) -> u32
-    requires { (p + 4 ≤ 8) × Small sums.now (p + 4) }
-    ensures { (result ≡ picked sums.now p 4 w) × (result ≤ 16769024) }
+fn four(table: HalfBytes, p: usize, w: u32) -> u32
+    requires { p + 4 ≤ table.runs }
+    ensures { (result ≡ picked table.entry.sums.now p 4 w) × (result ≤ 16769024) }
 {
     let w1 = w / 16;
     let w2 = w1 / 16;
     let w3 = w2 / 16;
-    pick(sums, p, w) + pick(sums, p + 1, w1) + pick(sums, p + 2, w2) + pick(sums, p + 3, w3)
+    pick(table, p, w) + pick(table, p + 1, w1) + pick(table, p + 2, w2) + pick(table, p + 3, w3)
 }
 
 // The cost of a word.
-pub fn cost_of(sums: &[u32; 128], runs: usize, word: u32) -> u32
-    requires { Runs runs × Small sums.now runs }
-    ensures { (result ≡ picked sums.now 0 runs word) × (result ≤ 33538048) }
+pub fn cost_of(table: HalfBytes, word: u32) -> u32
+    ensures { (result ≡ picked table.entry.sums.now 0 table.entry.runs word) × (result ≤ 33538048) }
 {
-    if runs == 2 {
-        return pick(sums, 0, word) + pick(sums, 1, word / 16);
+    if table.runs == 2 {
+        return pick(table, 0, word) + pick(table, 1, word / 16);
     }
-    let low = four(sums, 0, word);
-    if runs == 4 {
+    let low = four(table, 0, word);
+    if table.runs == 4 {
         return low;
     }
-    low + four(sums, 4, word / 65536)
+    low + four(table, 4, word / 65536)
 }

@@ -4,6 +4,8 @@ ghost use Rattle.std.specs.Prelude.{◌≡◌, ℕ, ◌+◌, ◌*◌, ◌/◌, �
 ghost use Rattle.std.specs.Int.Bits.{bit_xor};
 ghost use Rattle.outer.specs.Search.{row_of, Entry, later, grown, settings, entry, spread, Spans, Walkable};
 
+use crate::Directions;
+use codebook::Tables;
 use numerals::wide;
 
 // The rows of the matrix A as numbers: the words that one bit alone makes.
@@ -30,109 +32,83 @@ pub fn where_set(x: u32, bit: u32) -> u32
     x
 }
 
-// Bit t of each entry's own set, where it is 1, adds the row to the word and the ties to the set.
-fn follow(words: &mut [u32; 9], sets: &mut [u32; 9], count: usize, t: u32, row: u32, ties: u32)
-    requires { (length words.old ≡ 9) × (length sets.old ≡ 9) × (count ≤ 9) × (t < 32) }
-    ensures { (length words.new ≡ 9) × (length sets.new ≡ 9) × ((k : ℕ) → k < count →
-        (get_or words.new k 0 ≡ bit_xor (get_or words.old k 0) (row * (get_or sets.old k 0 / 2 ^ t % 2)))
-        × (get_or sets.new k 0 ≡ bit_xor (get_or sets.old k 0) (ties * (get_or sets.old k 0 / 2 ^ t % 2)))) }
+// Bit t of each of the first `count` entries' own set, where it is 1, adds the row to the word and the ties to the set.
+fn follow(directions: &mut Directions, count: usize, t: u32, row: u32, ties: u32)
+    requires { (count ≤ 9) × (t < 32) }
+    ensures { (directions.new.free ≡ directions.old.free) × ((k : ℕ) → k < count →
+        (get_or directions.new.words k 0 ≡ bit_xor (get_or directions.old.words k 0) (row * (get_or directions.old.sets k 0 / 2 ^ t % 2)))
+        × (get_or directions.new.sets k 0 ≡ bit_xor (get_or directions.old.sets k 0) (ties * (get_or directions.old.sets k 0 / 2 ^ t % 2)))) }
 {
-    let mut k: usize = 0;
-    while k < count {
-        let set = sets[k];
+    for k in 0..count {
+        let set = directions.sets[k];
         let bit = (set >> t) % 2;
-        words[k] = words[k] ^ where_set(row, bit);
-        sets[k] = set ^ where_set(ties, bit);
-        k += 1;
+        directions.words[k] = directions.words[k] ^ where_set(row, bit);
+        directions.sets[k] = set ^ where_set(ties, bit);
     }
 }
 
-// The entry of setting 0 and the directions one index later, by its code, and the number of directions.
-fn advance(
-    words: &mut [u32; 9],
-    sets: &mut [u32; 9],
-    free: usize,
-    code: u8,
-    row: u32,
-    ties: u32,
-) -> usize
-    requires { (length words.old ≡ 9) × (length sets.old ≡ 9) × (grown code (2 ^ free) ≤ 256) × (code < 34) }
-    ensures { (length words.new ≡ 9) × (length sets.new ≡ 9) × (2 ^ result ≡ grown code (2 ^ free))
-        × ((e : ℕ → Entry) → Spans words.old sets.old free e
-        → Spans words.new sets.new result (later code row ties e)) }
+// The directions one index later, by its code, and their number: it is passed on its own, so that it does not wait for a store at each index.
+fn advance(directions: &mut Directions, free: usize, code: u8, row: u32, ties: u32) -> usize
+    requires { (grown code (2 ^ free) ≤ 256) × (code < 34) }
+    ensures { (2 ^ result ≡ grown code (2 ^ free))
+        × ((e : ℕ → Entry) → Spans directions.old.words directions.old.sets free e
+        → Spans directions.new.words directions.new.sets result (later code row ties e)) }
 {
     if code == 0 {
-        words[free + 1] = row;
-        sets[free + 1] = ties;
-        return free + 1;
+        let next = free + 1;
+        directions.words[next] = row;
+        directions.sets[next] = ties;
+        return next;
     }
-    if code == 1 {
-        return free;
+    if code > 1 {
+        follow(directions, free + 1, wide(code - 2), row, ties);
     }
-    follow(words, sets, free + 1, wide(code - 2), row, ties);
     free
 }
 
-// The entry of setting 0 and the directions of the n indices from `start` on, after the given parities, and the number of directions.
-pub fn walk(
-    kinds: &[u8; 512],
-    terms: &[u32; 512],
-    start: usize,
-    n: usize,
-    parities: u32,
-    words: &mut [u32; 9],
-    sets: &mut [u32; 9],
-) -> usize
-    requires { (length words.old ≡ 9) × (length sets.old ≡ 9) × Walkable kinds.now start n }
-    ensures { (length words.new ≡ 9) × (length sets.new ≡ 9) × (2 ^ result ≡ settings kinds.now start n)
-        × Spans words.new sets.new result (entry kinds.now terms.now start parities n) }
+// The directions of the n indices from `start` on, after the given parities.
+pub fn walk(tables: &Tables, start: usize, n: usize, parities: u32, directions: &mut Directions)
+    requires { Walkable tables.now.kinds start n }
+    ensures { (2 ^ directions.new.free ≡ settings tables.now.kinds start n)
+        × Spans directions.new.words directions.new.sets directions.new.free (entry tables.now.kinds tables.now.terms start parities n) }
 {
     let matrix = rows();
-    words[0] = 0;
-    sets[0] = parities;
-    let mut free: usize = 0;
-    let mut i: usize = 0;
-    while i < n {
+    directions.words[0] = 0;
+    directions.sets[0] = parities;
+    let mut free = 0;
+    for i in 0..n {
         free = advance(
-            words,
-            sets,
+            directions,
             free,
-            kinds[start + i],
+            tables.kinds[start + i],
             matrix[i],
-            terms[start + i],
+            tables.terms[start + i],
         );
-        i += 1;
     }
-    free
+    directions.free = free;
 }
 
 // The first `count` entries once more after themselves, with the mask.
 fn double(table: &mut [u32; 256], count: usize, mask: u32)
-    requires { (length table.old ≡ 256) × (count ≤ 128) }
-    ensures { (length table.new ≡ 256)
-        × ((k : ℕ) → k < count → get_or table.new k 0 ≡ get_or table.old k 0)
+    requires { count ≤ 128 }
+    ensures { ((k : ℕ) → k < count → get_or table.new k 0 ≡ get_or table.old k 0)
         × ((k : ℕ) → k < count → get_or table.new (count + k) 0 ≡ bit_xor (get_or table.old k 0) mask) }
 {
-    let mut k: usize = 0;
-    while k < count {
+    for k in 0..count {
         table[count + k] = table[k] ^ mask;
-        k += 1;
     }
 }
 
-// The entries of all settings of the free bits, by the entry of setting 0 and the directions: the last direction first. Returns their number.
-pub fn double_all(table: &mut [u32; 256], steps: &[u32; 9], free: usize) -> usize
-    requires { (length table.old ≡ 256) × (free ≤ 8) }
-    ensures { (length table.new ≡ 256) × (result ≡ 2 ^ free)
-        × ((k : ℕ) → k < 2 ^ free → get_or table.new k 0 ≡ spread steps.now 0 free k) }
+// The words of all settings of the free bits: the last direction first. Returns their number.
+pub fn double_all(table: &mut [u32; 256], directions: &Directions) -> usize
+    ensures { (length table.new ≡ 256) × (result ≡ 2 ^ directions.now.free)
+        × ((k : ℕ) → k < 2 ^ directions.now.free → get_or table.new k 0 ≡ spread directions.now.words 0 directions.now.free k) }
 {
-    table[0] = steps[0];
+    table[0] = directions.words[0];
     let mut count: usize = 1;
-    let mut left = free;
-    while left > 0 {
-        double(table, count, steps[left]);
+    for left in (0..directions.free).rev() {
+        double(table, count, directions.words[left + 1]);
         count += count;
-        left -= 1;
     }
     count
 }
@@ -143,12 +119,10 @@ pub fn spread_at(steps: &[u32; 9], free: usize, w: u32) -> u32
     ensures { result ≡ spread steps.now 0 free w }
 {
     let mut sum: u32 = 0;
-    let mut left = free;
     let mut rest = w;
-    while left > 0 {
-        sum = sum ^ where_set(steps[left], rest % 2);
+    for left in (0..free).rev() {
+        sum = sum ^ where_set(steps[left + 1], rest % 2);
         rest = rest / 2;
-        left -= 1;
     }
     sum ^ steps[0]
 }

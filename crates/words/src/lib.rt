@@ -16,19 +16,16 @@ ghost use Rattle.order.specs.Entries.{slot_at};
 ghost use Rattle.sharing.specs.Sharing.{id_at, HasRow};
 ghost use Rattle.heights.specs.Workspace.{spot, Id};
 ghost use Rattle.standing.specs.Standing.{cell, cost_at, parities_at, Row};
-ghost use Rattle.words.specs.Kept.{HasCells, Keeps};
+ghost use Rattle.words.specs.Kept.{Keeps};
 
-use crate::kept::recall;
 use codebook::Tables;
 use heights::arrays::spot_of;
 use numerals::power;
 use order::entries::slot_of;
-use outer::{Next, Pair, Scratch};
+use outer::{Candidate, Next, Pair, Scratch};
 use search::find::{nearest_pair, next_after};
 use standing::Memory;
-use standing::row::{cost_of, earlier_of, id_of, parities_of, word_of};
-
-pub mod kept;
+use standing::row::{cells_of, id_of};
 
 // A block: its first index, its height, its bias, and the height where its word goes.
 #[derive(Clone, Copy)]
@@ -75,7 +72,7 @@ pub fn nearest_words(
         × ((w : Word) → W.nearest B vs x b ≡ some w → result.second ≡ candidate_of B (W.next_after w B vs x b))) }
 {
     let values = values_of(memory, m, slot, at.height);
-    let parities = parities_of(memory.rows, slot);
+    let parities = cells_of(memory.rows, slot).parities;
     nearest_pair(
         values,
         tables,
@@ -104,22 +101,20 @@ fn next_word(
         Nexts B vs p.earlier b (W.next_after (own_word B p b) B vs p.earlier b) result) }
 {
     let values = values_of(memory, m, slot, last.height);
-    let earlier = earlier_of(memory.rows, slot);
-    let cost = cost_of(memory.rows, slot);
-    let number = word_of(memory.rows, slot);
+    let own = cells_of(memory.rows, slot);
     next_after(
         values,
         tables,
         last.start,
         last.height as u32,
-        earlier,
-        cost,
-        number,
+        own.earlier,
+        own.cost,
+        own.word,
         scratch,
     )
 }
 
-// The next word of the last block of the path of entry e and, where that is known too, the next after it: the word kept in its slot alone, if one is, else
+// The next word of the last block of the path of entry e and, where that is known too, the next after it: the word kept for its slot alone, if one is, else
 // by a search.
 pub fn other_word(
     memory: &Memory,
@@ -127,10 +122,10 @@ pub fn other_word(
     m: usize,
     e: u64,
     last: Block,
-    kept: &[u32],
+    kept: &[Option<Candidate>],
     scratch: &mut Scratch,
 ) -> Next
-    requires has_row { HasRow (slot_at e) memory.now.rows.now × (m ≤ 9) × (last.height ≤ m) × Id 256 (id_at memory.now.rows.now (slot_at e) last.height) × HasCells (slot_at e) kept.now }
+    requires has_row { HasRow (slot_at e) memory.now.rows.now × (m ≤ 9) × (last.height ≤ m) × Id 256 (id_at memory.now.rows.now (slot_at e) last.height) × (slot_at e < length kept.now) }
     requires searchable { Searchable memory.now.numbers.now (spot m (id_at memory.now.rows.now (slot_at e) last.height) last.height) tables.now.kinds last.start last.height }
     requires cost { cell memory.now.rows.now (slot_at e) cost_at < 4294967295 }
     ensures nexts { (B : Book) (b : ℕ) (p : Path) → BlockTabled B b tables.now.kinds tables.now.terms last.start last.height
@@ -140,13 +135,12 @@ pub fn other_word(
         Keeps kept.now (slot_at e) (candidate_of B next) → Nexts B vs p.earlier b next result) }
 {
     let slot = slot_of(e);
-    if kept[slot * 4] != 0 {
-        let first = recall(kept, slot);
-        return Next {
+    match kept[slot] {
+        Some(first) => Next {
             first,
             second: first,
             known: false,
-        };
+        },
+        None => next_word(memory, tables, m, slot, last, scratch),
     }
-    next_word(memory, tables, m, slot, last, scratch)
 }

@@ -15,52 +15,25 @@ use Rattle.codebook.specs.Refusals.{unless}
 use Rattle.codebook.specs.Book.{free_count}
 use Rattle.codebook.specs.Loading.{total}
 use Rattle.codebook.proofs.Placing.{block-free, block-holds}
-use Rattle.obeying.proofs.Verdicts.{refuse, proceed, block-unfit, block_fit, fits-facts}
+use Rattle.obeying.proofs.Verdicts.{refuse, proceed, block-unfit, block_fit}
 use Rattle.obeying.proofs.block.Goals as goal
 
 pub returns-then-not-fits : goal.returns-then-not-fits
 returns-then-not-fits c old s h =
     let a = c.args in
-    let unfit = rw (to_z-of_z w32 a.bias c.ranges.bias) at (sym c.fits.ensures ∙ c.if-not-fits.true) in
+    let unfit = rw (to_z-of_z w32 a.bias c.ranges.bias) at (sym c.fits.ensures.value ∙ c.if-not-fits.true) in
     refuse _ _ OutOfRange (block-unfit a.p s h.counts a.j a.bias unfit) refl
 
-pub word_power-requires : goal.word_power-requires
-word_power-requires c =
-    let p = c.args.p in
-    omega (arith, fits-facts p.covered p.n c.args.j _ (sym c.fits.ensures ∙ c.if-not-fits.false))
-
-pub overflow_add-end : goal.overflow_add-end
-overflow_add-end c =
-    let p = c.args.p in
-    omega (arith, p.small, fits-facts p.covered p.n c.args.j _ (sym c.fits.ensures ∙ c.if-not-fits.false), c.word_power.ensures)
-
-pub slice_bounds-count_free-end : goal.slice_bounds-count_free-end
-slice_bounds-count_free-end c =
-    let p = c.args.p in
-    omega (arith, p.small, fits-facts p.covered p.n c.args.j _ (sym c.fits.ensures ∙ c.if-not-fits.false), c.word_power.ensures)
-
-pub returns-then-free-gt8 : goal.returns-then-free-gt8
+pub returns-then-not-light : goal.returns-then-not-light
 unfolding unless
-returns-then-free-gt8 c old s h =
+returns-then-not-light c old s h =
     let a = c.args in
-    let fit = sym c.fits.ensures ∙ c.if-not-fits.false in
-    let back = to_z-of_z w32 a.bias c.ranges.bias in
-    let size : a.p.covered + c.word_power.result - a.p.covered ≡ 2 ^ a.j = omega (arith, c.word_power.ensures) in
-    let count = rw size at c.count_free-free.ensures ∙ block-free a.p a.tables.now old s h a.j a.bias c.requires.0 (fits-facts a.p.covered a.p.n a.j _ fit).1 in
-    refuse _ _ TooManyFree (block_fit a.p s h.counts a.j a.bias (rw back at fit) ∙ rw (lt-leb (free_count (take (2 ^ a.j) (drop s.covered s.kinds))) 8 (rw count at c.if-free-gt8.true))) refl
-
-pub overflow_cast-tables : goal.overflow_cast-tables
-overflow_cast-tables c =
-    let p = c.args.p in
-    omega (arith, fits-facts p.covered p.n c.args.j _ (sym c.fits.ensures ∙ c.if-not-fits.false))
+    let fit = rw (to_z-of_z w32 a.bias c.ranges.bias) at (sym c.fits.ensures.value ∙ c.if-not-fits.false) in
+    let count = c.count_free-free.ensures ∙ block-free a.p a.tables.now old s h a.j a.bias _ (omega (arith, c.word_power.ensures)) c.requires.0 (omega (arith, c.word_power.ensures, c.fits.ensures.within c.if-not-fits.false)) in
+    refuse _ _ TooManyFree (block_fit a.p s h.counts a.j a.bias fit ∙ rw (lt-leb (free_count (take (2 ^ a.j) (drop s.covered s.kinds))) 8 (rw count at c.if-not-light.true))) refl
 
 pub invariant_of-q-clause-room : goal.invariant_of-q-clause-room
 invariant_of-q-clause-room c = omega (arith, c.args.p.room, c.word_power.ensures, pow_pos c.args.j)
-
-pub invariant_of-q-clause-reach : goal.invariant_of-q-clause-reach
-invariant_of-q-clause-reach c =
-    let p = c.args.p in
-    omega (arith, fits-facts p.covered p.n c.args.j _ (sym c.fits.ensures ∙ c.if-not-fits.false), c.word_power.ensures)
 
 pub invariant_of-q-clause-most : goal.invariant_of-q-clause-most
 invariant_of-q-clause-most c =
@@ -73,11 +46,10 @@ pub returns : goal.returns
 unfolding unless
 returns c old s h =
     let a = c.args in
-    let fit = sym c.fits.ensures ∙ c.if-not-fits.false in
     let back = to_z-of_z w32 a.bias c.ranges.bias in
+    let fit = rw back at (sym c.fits.ensures.value ∙ c.if-not-fits.false) in
     let power = c.word_power.ensures in
-    let size : a.p.covered + c.word_power.result - a.p.covered ≡ 2 ^ a.j = omega (arith, power) in
-    let count = rw size at c.count_free-free.ensures ∙ block-free a.p a.tables.now old s h a.j a.bias c.requires.0 (fits-facts a.p.covered a.p.n a.j _ fit).1 in
+    let count = c.count_free-free.ensures ∙ block-free a.p a.tables.now old s h a.j a.bias _ (omega (arith, power)) c.requires.0 (omega (arith, power, c.fits.ensures.within c.if-not-fits.false)) in
     let full : length s.kinds ≡ total s = omega (arith, h.counts.filled, h.counts.n, c.requires.0) in
-    proceed _ _ _ _ (block_fit a.p s h.counts a.j a.bias (rw back at fit) ∙ rw (le-leb (free_count (take (2 ^ a.j) (drop s.covered s.kinds))) 8 (rw count at c.if-free-gt8.false)))
+    proceed _ _ _ _ (block_fit a.p s h.counts a.j a.bias fit ∙ rw (le-leb (free_count (take (2 ^ a.j) (drop s.covered s.kinds))) 8 (rw count at c.if-not-light.false)))
     (rw back (block-holds a.p a.tables.now old s h a.j a.bias _ full (omega arith) (omega arith) (omega arith) refl refl refl refl refl (ap (λ n. a.p.free + n) count) refl (ap (λ n. a.p.covered + n) power)))

@@ -9,13 +9,13 @@ use Rattle.codebook.specs.Progress.{block_fits}
 use Rattle.obeying.proofs.fits.Goals as goal
 use Rattle.obeying.proofs.fits.Goals.{then-covered-length-eq0, else-covered-length-eq0}
 
-pub returns-then-j-gt5 : goal.returns-then-j-gt5
+pub returns-then-j-gt5-clause-value : goal.returns-then-j-gt5-clause-value
 unfolding block_fits
-returns-then-j-gt5 c = rw (lt-leb c.args.j 5 c.if-j-gt5.true)
+returns-then-j-gt5-clause-value c = rw (lt-leb c.args.j 5 c.if-j-gt5.true)
 
-pub returns-then-covered-length : goal.returns-then-covered-length
+pub returns-then-covered-length-clause-value : goal.returns-then-covered-length-clause-value
 unfolding block_fits
-returns-then-covered-length c =
+returns-then-covered-length-clause-value c =
     let a = c.args in
     let power = c.word_power-length.ensures in
     let all = c.if-covered-length.true in
@@ -24,9 +24,9 @@ returns-then-covered-length c =
       | else-covered-length-eq0 w ↦ apart (sym all ∙ w.value-is ∙ ne_eqb (a.covered % c.word_power-length.result) 0 w.if-covered-length-eq0.false)
     ]
 
-pub returns-else-covered-length : goal.returns-else-covered-length
+pub returns-else-covered-length-clause-value : goal.returns-else-covered-length-clause-value
 unfolding block_fits
-returns-else-covered-length c =
+returns-else-covered-length-clause-value c =
     let a = c.args in
     let power = c.word_power-length.ensures in
     let some = c.if-covered-length.false in

@@ -8,24 +8,21 @@ use Rattle.obeying.proofs.Verdicts.{refuse, proceed, term-later, term-again, ter
 use Rattle.obeying.proofs.Growing.{named, unnamed, term-holds}
 use Rattle.obeying.proofs.term.Goals as goal
 
-pub returns-then-p-i : goal.returns-then-p-i
-returns-then-p-i c old s h = refuse _ _ OutOfRange (term-later c.args.p s h.counts c.args.i (omega (arith, c.if-p-i.true))) refl
-
-pub returns-then-p-i-le1 : goal.returns-then-p-i-le1
-returns-then-p-i-le1 c old s h = refuse _ _ OutOfRange (term-later c.args.p s h.counts c.args.i (omega (arith, c.if-p-i-le1.true))) refl
+pub returns-then-saturating_sub-le1 : goal.returns-then-saturating_sub-le1
+returns-then-saturating_sub-le1 c old s h = refuse _ _ OutOfRange (term-later c.args.p s h.counts c.args.i (omega arith)) refl
 
 pub returns-then-bit-tables : goal.returns-then-bit-tables
 returns-then-bit-tables c old s h =
     let a = c.args in
     let y = subst T (sym (sym h.counts.tying ∙ c.requires)) tt in
-    let member = named a.p a.tables.now old s h y a.i (omega (arith, c.if-p-i.false, a.p.within)) (rw c.word_power-bit.ensures at c.if-bit-tables.true) in
-    refuse _ _ OutOfRange (term-again a.p s h.counts a.i (omega (arith, c.if-p-i-le1.false)) member) refl
+    let member = named a.p a.tables.now old s h y a.i (omega (arith, a.p.within)) (rw c.word_power-bit.ensures at c.if-bit-tables.true) in
+    refuse _ _ OutOfRange (term-again a.p s h.counts a.i (omega arith) member) refl
 
 pub returns : goal.returns
 returns c old s h =
     let a = c.args in
     let y = subst T (sym (sym h.counts.tying ∙ c.requires)) tt in
-    let within : a.i < a.p.n = omega (arith, c.if-p-i.false, a.p.within) in
+    let within : a.i < a.p.n = omega (arith, a.p.within) in
     let fresh = unnamed a.p a.tables.now old s h y a.i within (rw c.word_power-bit.ensures at c.if-bit-tables.false) in
-    proceed _ _ _ _ (term_fits a.p s h.counts a.i (omega (arith, c.if-p-i-le1.false)) fresh)
+    proceed _ _ _ _ (term_fits a.p s h.counts a.i (omega arith) fresh)
     (rw c.word_power-bit.ensures (term-holds a.p a.tables.now old s h y a.i within fresh))

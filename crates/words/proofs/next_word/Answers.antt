@@ -18,5 +18,5 @@ unfolding own_word
 returns c = record {
   fact = λ B b p o h r e.
       subst (λ (vs : List ℤ). Nexts B vs p.earlier b (next_after (own_word B p b) B vs p.earlier b) c.next_after.result) c.values_of-values.ensures
-      (c.next_after.ensures.fact B b p.earlier (own_word B p b) o h (c.earlier_of-earlier.ensures ∙ r.earlier) (sym (c.cost_of-cost.ensures ∙ r.cost)) (sym (c.word_of-number.ensures ∙ r.word b e)));
+      (c.next_after.ensures.fact B b p.earlier (own_word B p b) o h (c.cells_of-own.ensures.earlier ∙ r.earlier) (sym (c.cells_of-own.ensures.cost ∙ r.cost)) (sym (c.cells_of-own.ensures.word ∙ r.word b e)));
 }

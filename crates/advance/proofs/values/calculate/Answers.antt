@@ -56,9 +56,9 @@ go_down-requires c =
       viewed = first-viewed h r c.if-at-eq0.true l.enough;
     }
 
-pub word_of-word-requires : goal.word_of-word-requires
+pub cells_of-word-requires : goal.cells_of-word-requires
 unfolding memory
-word_of-word-requires c = hand-row c.requires.lent c.requires.by_index.2 c.slot_of-slot.ensures.0 refl
+cells_of-word-requires c = hand-row c.requires.lent c.requires.by_index.2 c.slot_of-slot.ensures.0 refl
 
 pub commit-requires : goal.commit-requires
 unfolding memory
@@ -82,7 +82,7 @@ turn_over-requires c =
     let r = c.slot_of-slot.ensures.0 in
     let n = c.if-at-eq0.false in
     let f = c.commit.ensures in
-    let summed = commit-seen h.hand l.enough r h.valid (later-own h r n) _ _ c.word_of-word.ensures f.step_seen in
+    let summed = commit-seen h.hand l.enough r h.valid (later-own h r n) _ _ c.cells_of-word.ensures.word f.step_seen in
     record {
       has_arrays = (f.has_arrays_2.0, hand-row l h r f.has_arrays_2.1.size, (later-heights h r n).1);
       viewed = record { others = away h.hand; view = committed h.hand; seen = summed; met = committed-turning h r n };
@@ -100,7 +100,7 @@ go_down-requires-else-at-eq0 c =
     let k = later-heights h r n in
     let f = c.commit.ensures in
     let g = c.turn_over.ensures in
-    let summed = commit-seen h.hand l.enough r h.valid (later-own h r n) _ _ c.word_of-word.ensures f.step_seen in
+    let summed = commit-seen h.hand l.enough r h.valid (later-own h r n) _ _ c.cells_of-word.ensures.word f.step_seen in
     record {
       has_arrays = (g.has_arrays_2.0, hand-row l h r (g.has_arrays_2.1.size ∙ f.has_arrays_2.1.size), k.2, omega (arith, k.1));
       viewed =
@@ -130,7 +130,7 @@ claim-requires c =
           let d = w.go_down-else-at-eq0.ensures in
           let y = contents w.commit.new.memory in
           rw w.memory-is
-          (gone-later y (contents w.turn_over.new.memory) r n (λ es vs h. commit-seen h.hand l.enough r h.valid (later-own h r n) y _ w.word_of-word.ensures f.step_seen)
+          (gone-later y (contents w.turn_over.new.memory) r n (λ es vs h. commit-seen h.hand l.enough r h.valid (later-own h r n) y _ w.cells_of-word.ensures.word f.step_seen)
           f.has_arrays_2.1 g.step_seen g.has_arrays_2.1 d.step_seen d.has_arrays_2)
     ] in
     record {
@@ -155,7 +155,7 @@ returns-clause-lent_2 c =
           let d = w.go_down-else-at-eq0.ensures in
           let y = contents w.commit.new.memory in
           rw w.memory-is
-          (gone-later y (contents w.turn_over.new.memory) r n (λ es vs h. commit-seen h.hand l.enough r h.valid (later-own h r n) y _ w.word_of-word.ensures f.step_seen)
+          (gone-later y (contents w.turn_over.new.memory) r n (λ es vs h. commit-seen h.hand l.enough r h.valid (later-own h r n) y _ w.cells_of-word.ensures.word f.step_seen)
           f.has_arrays_2.1 g.step_seen g.has_arrays_2.1 d.step_seen d.has_arrays_2)
     ] in
     let only = ids-on a.memory.now.rows.now c.if-at-eq0.memory.rows.now gone.only f.ensures.has_arrays_2.1 in (
@@ -180,7 +180,7 @@ returns-clause-by_index_2 c =
           let d = w.go_down-else-at-eq0.ensures in
           let y = contents w.commit.new.memory in
           rw w.memory-is
-          (gone-later y (contents w.turn_over.new.memory) r n (λ es vs h. commit-seen h.hand l.enough r h.valid (later-own h r n) y _ w.word_of-word.ensures f.step_seen)
+          (gone-later y (contents w.turn_over.new.memory) r n (λ es vs h. commit-seen h.hand l.enough r h.valid (later-own h r n) y _ w.cells_of-word.ensures.word f.step_seen)
           f.has_arrays_2.1 g.step_seen g.has_arrays_2.1 d.step_seen d.has_arrays_2)
     ] in
     let only = ids-on a.memory.now.rows.now c.if-at-eq0.memory.rows.now gone.only f.ensures.has_arrays_2.1 in

@@ -5,6 +5,7 @@
 use mathlib.Core.Path.{◌≡◌, ap₂, ◌∙◌}
 use mathlib.Core.List.{List}
 use Prim.Native.Nat.{ℕ, ◌+◌}
+use lib.ListN.{length-set}
 use native.Mathlib.Omega.{arith}
 use lib.IntN.{ℤ, pos, neg_ℤ, ◌-ℤ◌}
 use mir.Facts.{to_z-of_z}
@@ -14,14 +15,15 @@ use Rattle.order.specs.Entries.{key_at, slot_at}
 use Rattle.sharing.specs.Sharing.{HasRow}
 use Rattle.standing.specs.Seen.{Memory, memory, Lent}
 use Rattle.standing.proofs.Sizes.{slot-low}
+use Rattle.words.specs.Kept.{Table}
 use Rattle.words.specs.declared.Block.{Block}
 use Rattle.extraction.specs.Extraction.{Thirding}
 use Rattle.extraction.proofs.Moves.{third-bias, third-blocks, third-low, third-spent, third-cost, third-id, third-searchable, third-words, third-total, third-packed, third-queued}
-use Rattle.extraction.proofs.Keeping.{third-few, third-kept}
+use Rattle.extraction.proofs.Keeping.{third-kept}
 use Rattle.extraction.proofs.extract.third.Goals as goal
 
 -- the path's slot has a row
-there : {m D N e s : ℕ} {x y : Memory} {es vs kinds terms kept : List ℕ} {last at : Block} → Thirding m D N x e es vs kinds terms last at kept → Lent m D N y → s ≡ slot_at e → HasRow s y.rows
+there : {m D N e s : ℕ} {x y : Memory} {es vs kinds terms : List ℕ} {kept : Table} {last at : Block} → Thirding m D N x e es vs kinds terms last at kept → Lent m D N y → s ≡ slot_at e → HasRow s y.rows
 there o l q = let low = slot-low o.moving.hand.stands in (omega (arith, low, l.few), omega (arith, low, l.rows))
 
 -- a bias, and a score, are small
@@ -31,17 +33,9 @@ bias-back z h = to_z-of_z (abs-fits z (omega arith))
 score-back : (z : ℤ) → Within 2096640 z → back z ≡ z
 score-back z h = to_z-of_z (abs-fits z (omega arith))
 
-pub spent_of-requires : goal.spent_of-requires
+pub cells_of-own-requires : goal.cells_of-own-requires
 unfolding memory
-spent_of-requires c = there c.requires.by_index.1 c.calculate.ensures.lent_2.0 c.slot_of-slot.ensures.0
-
-pub cost_of-requires : goal.cost_of-requires
-unfolding memory
-cost_of-requires c = there c.requires.by_index.1 c.calculate.ensures.lent_2.0 c.slot_of-slot.ensures.0
-
-pub parities_of-parities-requires : goal.parities_of-parities-requires
-unfolding memory
-parities_of-parities-requires c = there c.requires.by_index.1 c.calculate.ensures.lent_2.0 c.slot_of-slot.ensures.0
+cells_of-own-requires c = there c.requires.by_index.1 c.calculate.ensures.lent_2.0 c.slot_of-slot.ensures.0
 
 pub put-requires : goal.put-requires
 unfolding memory
@@ -52,8 +46,8 @@ unfolding memory
 overflow_add-spent c =
     let o = c.requires.by_index.1 in
     let st = c.calculate.ensures.by_index_2 _ _ o.moving in
-    let spent = rw c.slot_of-slot.ensures.0 at c.spent_of.ensures in
-    let cost = rw c.slot_of-slot.ensures.0 at c.cost_of.ensures in
+    let spent = rw c.slot_of-slot.ensures.0 at c.cells_of-own.ensures.spent in
+    let cost = rw c.slot_of-slot.ensures.0 at c.cells_of-own.ensures.cost in
     record { fits = omega (arith, spent, cost, third-spent o st, third-cost o st, o.total) }
 
 pub nearest_words-found-requires-clause-has_row : goal.nearest_words-found-requires-clause-has_row
@@ -76,8 +70,8 @@ score-requires c =
     let o = c.requires.by_index.1 in
     let st = c.calculate.ensures.by_index_2 _ _ o.moving in
     let slot = c.slot_of-slot.ensures.0 in
-    let spent = rw slot at c.spent_of.ensures in
-    let cost = rw slot at c.cost_of.ensures in
+    let spent = rw slot at c.cells_of-own.ensures.spent in
+    let cost = rw slot at c.cells_of-own.ensures.cost in
     let total = third-total o st (third-words o st slot c.nearest_words-found.ensures.fact).0 in
     (omega (arith, spent, cost, total), rw (bias-back _ (third-bias o)) (third-bias o))
 
@@ -94,15 +88,8 @@ entry-d-requires c = (
   c.slot_of-slot.ensures.1,
 )
 
-pub keep-requires : goal.keep-requires
-unfolding memory
-keep-requires c =
-    let o = c.requires.by_index.1 in
-    let st = c.calculate.ensures.by_index_2 _ _ o.moving in
-    let slot = c.slot_of-slot.ensures.0 in (
-      (c.slot_of-slot.ensures.1, omega (arith, slot, slot-low o.moving.hand.stands, c.requires.lent.2)),
-      third-few o (third-words o st slot c.nearest_words-found.ensures.fact).1,
-    )
+pub bounds-kept-slot : goal.bounds-kept-slot
+bounds-kept-slot c = omega (arith, c.slot_of-slot.ensures.0, slot-low c.requires.by_index.1.moving.hand.stands, c.requires.lent.2)
 
 pub returns-clause-lent_2 : goal.returns-clause-lent_2
 unfolding memory
@@ -114,7 +101,7 @@ returns-clause-lent_2 c =
         has = record { deep = l.has.deep; many = l.has.many; held = l.has.held; numbers = l.has.numbers; bytes = l.has.bytes };
         enough = l.enough;
       },
-      omega (arith, c.keep.ensures.0.size, c.requires.lent.2),
+      simp length-set c.requires.lent.2,
     )
 
 pub returns-clause-by_index_2 : goal.returns-clause-by_index_2
@@ -122,13 +109,12 @@ unfolding memory
 returns-clause-by_index_2 c vs o =
     let st = c.calculate.ensures.by_index_2 _ vs o.moving in
     let slot = c.slot_of-slot.ensures.0 in
-    let spent = rw slot at c.spent_of.ensures in
-    let cost = rw slot at c.cost_of.ensures in
+    let spent = rw slot at c.cells_of-own.ensures.spent in
+    let cost = rw slot at c.cells_of-own.ensures.cost in
     let both = third-words o st slot c.nearest_words-found.ensures.fact in
     let near : ℕ = c.nearest_words-found.result.first.cost in
     let score = score-back _ c.score.ensures.1 ∙ c.score.ensures.0 ∙ ap₂ (λ (n : ℕ) (z : ℤ). neg_ℤ (pos n) -ℤ z) (ap₂ (λ (a b : ℕ). a + b + near) spent cost) (bias-back _ (third-bias o)) in
     let packed = rw (slot, c.number_of.ensures, c.blocks_of.ensures) at c.entry-d.ensures in
     let d = third-packed o st both.0 score packed in
-    let row = rw (slot, spent, cost, rw slot at c.parities_of-parities.ensures) at c.put.ensures in
-    let kept = rw slot at c.keep.ensures in
-    rw c.insert.ensures.order_len_2.1 (third-queued o st both.0 d row, third-kept o both.1 d kept.0 kept.1)
+    let row = rw (slot, spent, cost, rw slot at c.cells_of-own.ensures.parities) at c.put.ensures in
+    rw c.insert.ensures.order_len_2.1 (third-queued o st both.0 d row, rw slot (third-kept o both.1 d (omega (arith, slot-low o.moving.hand.stands, c.requires.lent.2))))

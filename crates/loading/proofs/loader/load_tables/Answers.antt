@@ -42,7 +42,7 @@ returns-in_err-q c =
     let r = c.loop-at.invariant in
     let step = c.obey.ensures _ r.s r.holds in
     let p = err_from_is_err_and c.from_residual.result c.from_residual.ensures.1 in
-    let end = refused-answer _ _ _ _ (reached-refused _ _ _ _ _ r c.loop-at-test.true x.field-0 read _ _ _ (rw c.in_err-q.was at step)) in
+    let end = refused-answer _ _ _ _ (reached-refused _ _ _ _ _ r c.loop-at-test.true x.field-0 read _ _ (rw c.in_err-q.was at step)) in
     rw (p.1, p.2) (record { answer = end.0; filled = end.1 })
 
 pub returns-in-End : goal.returns-in-End

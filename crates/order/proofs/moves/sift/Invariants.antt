@@ -1,10 +1,6 @@
--- The loop invariants of moves.sift, and what falls at each turn.
-use Prim.Native.Nat.{◌-◌, ◌≤◌}
+-- The loop invariant of moves.sift: of the first i entries those with more than b blocks stand first, and the entries from i on are as they were.
 use Rattle.order.proofs.Queues.{Sifted}
 use Rattle.order.proofs.moves.sift.Given as goal
 
 abbrev pub invariant-loop-i : goal.invariant-loop-i
-invariant-loop-i l = (l.i ≤ l.queued) × Sifted l.initial.order l.order l.b l.kept l.i
-
-abbrev pub decreases-loop-i : goal.decreases-loop-i
-decreases-loop-i l = l.queued - l.i
+invariant-loop-i l = Sifted l.initial.order l.order l.b l.kept l.i

@@ -15,7 +15,7 @@ returns c = λ k t e.
     let own : x ≡ opened (k a.setting) a.bound two.first = c.open-x.ensures ∙ ap (λ (z : ℕ). opened z a.bound two.first) (c.key.ensures ∙ e) in
     two-same c.either.ensures.0
     (c.either-2.ensures.0 ∙ ap (λ (y : ℕ). cond (ltb x two.first) two.first y) c.either-second.ensures.0)
-    c.which.ensures
-    (c.which-2.ensures ∙ ap (λ (y : ℕ). cond (ltb x two.first) two.at y) c.which-next.ensures)
+    c.either-3.ensures.0
+    (c.either-4.ensures.0 ∙ ap (λ (y : ℕ). cond (ltb x two.first) two.at y) c.either-next.ensures.0)
     ∙ ap (λ (y : ℕ). merged y a.setting two) own
     ∙ merged-least k a.bound a.setting two t (key-lt c.requires c.ranges.number.fits e) c.either.ensures.1 c.either-second.ensures.1

@@ -18,9 +18,9 @@ use Rattle.reading.proofs.run.finish.Goals as goal
 there : {m D N e i n : ℕ} {x : Memory} {es vs : List ℕ} {last : Block} → Ending m D N x e es vs last → Lent m D N x → i ≡ slot_at e → n ≡ length x.rows → (i < 256) × (i * 16 + 16 ≤ n)
 there h l q z = let low = slot-low h.hand.stands in (omega (arith, low, l.few), omega (arith, low, l.rows))
 
-pub word_of-word-requires : goal.word_of-word-requires
+pub cells_of-own-requires : goal.cells_of-own-requires
 unfolding memory
-word_of-word-requires c = there c.requires.by_index.2 c.requires.lent.0 c.slot_of-slot.ensures.0 refl
+cells_of-own-requires c = there c.requires.by_index.2 c.requires.lent.0 c.slot_of-slot.ensures.0 refl
 
 pub commit-requires-clause-has_arrays : goal.commit-requires-clause-has_arrays
 unfolding memory
@@ -36,20 +36,12 @@ commit-requires-clause-viewed c =
     let h = c.requires.by_index.2 in
     own-viewed h.hand c.requires.lent.0.enough c.slot_of-slot.ensures.0 h.valid h.own
 
-pub spent_of-requires : goal.spent_of-requires
-unfolding memory
-spent_of-requires c = there c.requires.by_index.2 c.requires.lent.0 c.slot_of-slot.ensures.0 c.commit.ensures.has_arrays_2.1.size
-
-pub cost_of-requires : goal.cost_of-requires
-unfolding memory
-cost_of-requires c = there c.requires.by_index.2 c.requires.lent.0 c.slot_of-slot.ensures.0 c.commit.ensures.has_arrays_2.1.size
-
 pub overflow_add-counts-2 : goal.overflow_add-counts-2
 unfolding memory
 overflow_add-counts-2 c =
     let h = c.requires.by_index.2 in
-    let row = end-spent h c.slot_of-slot.ensures.0 c.requires.lent.0.has.deep c.commit.new.memory.rows.now c.commit.ensures.has_arrays_2.1 in
-    record { fits = omega (arith, c.spent_of.ensures, c.cost_of.ensures, row.0, row.1, h.own.fit.total) }
+    let row = end-spent h c.slot_of-slot.ensures.0 in
+    record { fits = omega (arith, c.cells_of-own.ensures.spent, c.cells_of-own.ensures.cost, row.0, row.1, h.own.fit.total) }
 
 pub id_of-requires : goal.id_of-requires
 unfolding memory
@@ -65,8 +57,8 @@ returns-clause-ran c es vs h =
     let slot = c.slot_of-slot.ensures.0 in
     let t = a.stage.tally in
     let y : Memory = memory c.commit.new.memory.rows.now c.commit.new.memory.holders c.commit.new.memory.numbers.now c.commit.new.memory.bytes.now in
-    let row = end-spent h slot l.has.deep c.commit.new.memory.rows.now c.commit.ensures.has_arrays_2.1 in
-    let sum = ap₂ (λ (a b : ℕ). a + b) (c.spent_of.ensures ∙ row.0) (c.cost_of.ensures ∙ row.1) in
-    let seen = commit-seen h.hand l.enough slot h.valid h.own y _ c.word_of-word.ensures c.commit.ensures.step_seen in
+    let row = end-spent h slot in
+    let sum = ap₂ (λ (a b : ℕ). a + b) (c.cells_of-own.ensures.spent ∙ row.0) (c.cells_of-own.ensures.cost ∙ row.1) in
+    let seen = commit-seen h.hand l.enough slot h.valid h.own y _ c.cells_of-own.ensures.word c.commit.ensures.step_seen in
     let w = end-word h slot y seen c.id_of.result c.id_of.ensures in
     (λ i. record { extractions = t.extractions + 1; crowded = t.crowded; outrun = t.outrun; discrepancy = sum i }, w.0, w.1)

@@ -21,7 +21,7 @@ note-requires c =
     let g = c.extractions-stage.ensures.before r in
     let l = stop-left r g in
     let w = stop-room r g c.requires.blocks_in_bounds in
-    (omega (arith, l, w.0), omega (arith, l, w.1), omega (arith, l, w.2), stop-small r g)
+    ((omega (arith, l, w.0), omega (arith, l, w.1), omega (arith, l, w.2)), stop-small r g)
 
 pub block_at-last-requires : goal.block_at-last-requires
 block_at-last-requires c =

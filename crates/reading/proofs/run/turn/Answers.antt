@@ -15,7 +15,7 @@ note-requires c =
     let g = turning-going r c.requires.ranged.alive (omega arith) in
     let l = run-left r.input g in
     let w = c.requires.blocks_in_bounds in
-    (omega (arith, l, w.0), omega (arith, l, w.1), omega (arith, l, w.2), going-small g)
+    ((omega (arith, l, w.0), omega (arith, l, w.1), omega (arith, l, w.2)), going-small g)
 
 pub block_at-last-requires : goal.block_at-last-requires
 block_at-last-requires c =

@@ -8,13 +8,11 @@ use Rattle.sharing.proofs.holders.drop_one.Goals as goal
 pub overflow_sub-holders : goal.overflow_sub-holders
 unfolding held_at
 overflow_sub-holders c =
-    let l = c.lesser in
     let a = c.args in
-    omega (arith, c.requires.3, held-past a.holders.now a.height l.result a.height a.id c.requires.1 c.requires.2)
+    omega (arith, c.requires.3, held-past a.holders.now a.height c.min.result a.height a.id c.requires.1 c.requires.2)
 
 pub returns : goal.returns
 unfolding held_at low_at
 returns c =
-    let l = c.lesser in
     let a = c.args in
-    held-drop a.holders.now a.height a.id l.result c.requires.0 c.requires.1 c.requires.2 c.requires.3 l.ensures.0 l.ensures.1
+    held-drop a.holders.now a.height a.id c.min.result c.requires.0 c.requires.1 c.requires.2 c.requires.3 (omega (arith, c.min.ensures)) (omega (arith, c.min.ensures))

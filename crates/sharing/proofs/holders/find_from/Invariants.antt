@@ -1,10 +1,7 @@
--- The loop invariants of holders.find_from, and what falls at each turn.
-use Prim.Native.Nat.{ℕ, ◌+◌, ◌-◌, ◌≤◌, ◌<◌}
+-- The loop invariant of holders.find_from: each id from 1 on and below `id` is held.
+use Prim.Native.Nat.{ℕ, ◌+◌, ◌≤◌, ◌<◌}
 use Rattle.sharing.specs.Sharing.{held_at}
 use Rattle.sharing.proofs.holders.find_from.Given as goal
 
 abbrev pub invariant-loop-id : goal.invariant-loop-id
 invariant-loop-id l = (1 ≤ l.id) × (l.id ≤ l.arrays + 1) × ((k : ℕ) → 1 ≤ k → k < l.id → 1 ≤ held_at l.holders l.height k)
-
-abbrev pub decreases-loop-id : goal.decreases-loop-id
-decreases-loop-id l = l.arrays + 1 - l.id

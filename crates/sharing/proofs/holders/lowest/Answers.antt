@@ -6,5 +6,6 @@ use Rattle.sharing.proofs.holders.lowest.Goals as goal
 pub returns : goal.returns
 unfolding low_at
 returns c =
-    let f = c.capped.ensures in
-    (f.0, f.1, λ k some b. c.requires.0.below c.args.height k c.requires.1 some (omega (arith, f.1, c.requires.2)) (f.2 k some b))
+    let e = c.clamp.ensures in
+    let p = c.requires in
+    (omega arith, omega arith, λ k some b. p.0.below c.args.height k p.1 some (omega (arith, e, b, p.2)) (omega (arith, e, b, some)))

@@ -5,4 +5,4 @@ use Rattle.short.specs.Short.{word_with}
 use Rattle.short.proofs.bytes.byte_with.Goals as goal
 
 pub returns : goal.returns
-returns c = let a = c.args in c.word_with.ensures ∙ ap (λ (w : ℕ). word_with a.steps.now 8 w a.key) c.setting_of.ensures
+returns c = let a = c.args in c.word_with.ensures ∙ ap (λ (w : ℕ). word_with a.sets.now 8 w a.key) c.setting_of.ensures

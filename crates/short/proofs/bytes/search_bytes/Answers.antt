@@ -4,12 +4,7 @@ use Rattle.short.proofs.Answers.{bytes-answer}
 use Rattle.short.proofs.bytes.search_bytes.Goals as goal
 
 pub returns-then-key : goal.returns-then-key
-returns-then-key c = let f = c.fill_halves in record { halves_len = f.ensures.0; by_index = λ e k. (bytes-answer c.requires.3 f.ensures.1 k c.args.bound _ c.narrow.ensures _ c.least_byte-key.ensures).0 c.if-key.true }
+returns-then-key c = λ e k. (bytes-answer c.requires.1 c.fill_halves.ensures k c.args.bound _ c.narrow.ensures _ c.least_byte-key.ensures).0 c.if-key.true
 
 pub returns : goal.returns
-returns c = let f = c.fill_halves in record {
-  halves_len = f.ensures.0;
-  by_index = λ e k.
-      c.byte_with.ensures
-      ∙ (bytes-answer c.requires.3 f.ensures.1 k c.args.bound _ c.narrow.ensures _ c.least_byte-key.ensures).1 c.if-key.false;
-}
+returns c = λ e k. c.byte_with.ensures ∙ (bytes-answer c.requires.1 c.fill_halves.ensures k c.args.bound _ c.narrow.ensures _ c.least_byte-key.ensures).1 c.if-key.false

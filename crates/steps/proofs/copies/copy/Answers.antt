@@ -25,7 +25,7 @@ other_word-found-requires-clause-has_row c =
     let o = c.requires.by_index.2 in
     let low = slot-low o.hand.stands in
     let few : slot_at c.args.e < 256 = omega (arith, low, l.few) in
-    ((few, omega (arith, low, l.rows)), l.has.deep, copy-low o, copy-id o l.has.many, (few, omega (arith, low, c.requires.lent.1)))
+    ((few, omega (arith, low, l.rows)), l.has.deep, copy-low o, copy-id o l.has.many, omega (arith, low, c.requires.lent.1))
 
 pub other_word-found-requires-clause-searchable : goal.other_word-found-requires-clause-searchable
 unfolding memory

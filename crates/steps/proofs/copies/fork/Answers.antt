@@ -1,10 +1,11 @@
 -- `steps::copies::fork` meets its contract: the copy's entry and row hold what the copy is, so that memory stands for the copy in front of the path
 -- in hand; the array claimed and the insertion then do what the reader does. Forks.antt has each step, for any state that memory stands for; the
 -- contract's own state shows what the calls need. Assumes nothing.
-use mathlib.Core.Path.{◌≡◌, refl}
+use mathlib.Core.Path.{sym, ◌∙◌, ◌≡◌, refl}
 use mathlib.Core.List.{List}
 use Prim.Native.Nat.{ℕ, suc, ◌+◌}
 use native.Mathlib.Omega.{arith}
+use lib.ListN.{length-set}
 use lib.IntN.{pos, neg_ℤ, ◌-ℤ◌}
 use mir.Syntax.{w32}
 use mir.Val.{to_z, of_z}
@@ -12,20 +13,15 @@ use Rattle.std.proofs.lemmas.Int.{ints}
 use Rattle.reader.specs.Paths.{key_of}
 use Rattle.order.specs.Entries.{Packed, queue_of}
 use Rattle.standing.specs.Seen.{memory, contents}
+use Rattle.words.proofs.Kepts.{one_kept, keeps_set}
 use Rattle.steps.specs.Steps.{Forking}
-use Rattle.steps.proofs.Forks.{lent-on, has-held, fork-blocks, fork-total, fork-bias, made, fork-entry, Written, fork-written, fork-viewed, fork-queued, fork-kepts, fork-known, fork-few, fork-shareable, fork-slot, fork-apart, fork-place}
+use Rattle.steps.proofs.Forks.{lent-on, has-held, fork-blocks, fork-total, fork-bias, made, fork-entry, Written, fork-written, fork-viewed, fork-queued, fork-kepts, fork-known, fork-shareable, fork-slot, fork-apart, fork-place}
 use Rattle.steps.proofs.copies.fork.Goals.{After-put}
 use Rattle.steps.proofs.copies.fork.Goals as goal
 
-pub spent_of-spent-requires : goal.spent_of-spent-requires
+pub cells_of-own-requires : goal.cells_of-own-requires
 unfolding memory
-spent_of-spent-requires c = let l = c.requires.lent.0 in
-    let low = fork-slot c.requires.by_index.3 in
-    (omega (arith, low, l.few, c.slot_of-slot.ensures.0), omega (arith, low, l.rows, c.slot_of-slot.ensures.0))
-
-pub earlier_of-earlier-requires : goal.earlier_of-earlier-requires
-unfolding memory
-earlier_of-earlier-requires c = let l = c.requires.lent.0 in
+cells_of-own-requires c = let l = c.requires.lent.0 in
     let low = fork-slot c.requires.by_index.3 in
     (omega (arith, low, l.few, c.slot_of-slot.ensures.0), omega (arith, low, l.rows, c.slot_of-slot.ensures.0))
 
@@ -34,7 +30,7 @@ unfolding memory
 score-requires c =
     let o = c.requires.by_index.3 in
     let at = c.slot_of-slot.ensures.0 in
-    (omega (arith, rw at at c.spent_of-spent.ensures, fork-total o), omega (arith, ints, fork-bias o))
+    (omega (arith, rw at at c.cells_of-own.ensures.spent, fork-total o), omega (arith, ints, fork-bias o))
 
 pub entry-d-requires : goal.entry-d-requires
 entry-d-requires c =
@@ -78,8 +74,8 @@ entry-is : (c : After-put) (b : ℕ) (vs : List ℕ) (o : Fork c b vs) → c.arg
 unfolding memory
 entry-is c b vs o q =
     let a = c.args in
-    let score : to_z w32 (of_z w32 c.score.result) ≡ neg_ℤ (pos (c.spent_of-spent.result + a.found.first.cost)) -ℤ a.last.bias = omega (arith, ints, c.score.ensures, fork-bias o) in
-    fork-entry o c.slot_of-slot.ensures.0 c.spent_of-spent.ensures q score c.entry-d.ensures
+    let score : to_z w32 (of_z w32 c.score.result) ≡ neg_ℤ (pos (c.cells_of-own.result.spent + a.found.first.cost)) -ℤ a.last.bias = omega (arith, ints, c.score.ensures, fork-bias o) in
+    fork-entry o c.slot_of-slot.ensures.0 c.cells_of-own.ensures.spent q score c.entry-d.ensures
 
 written : (c : After-put) (b : ℕ) (vs : List ℕ) (o : Fork c b vs) → c.args.blocks ≡ suc b →
     Written o c.args.number c.entry-d.result (memory c.put.new.rows c.share.new.holders c.args.memory.now.numbers.now c.args.memory.now.bytes.now)
@@ -87,7 +83,7 @@ unfolding memory
 written c b vs o q =
     let l = c.requires.lent.0 in
     let r = c.share.ensures in
-    fork-written o l.enough c.args.number (entry-is c b vs o q) c.share.new.holders c.slot_of-slot.ensures.0 c.spent_of-spent.ensures c.earlier_of-earlier.ensures l r.copied r.more_by c.put.ensures
+    fork-written o l.enough c.args.number (entry-is c b vs o q) c.share.new.holders c.slot_of-slot.ensures.0 c.cells_of-own.ensures.spent c.cells_of-own.ensures.earlier l r.copied r.more_by c.put.ensures
 
 pub claim-requires-clause-has_arrays : goal.claim-requires-clause-has_arrays
 unfolding memory
@@ -104,26 +100,26 @@ claim-requires-clause-viewed c =
     let d = (goal.at.claim-requires-clause-viewed c).After-put in
     fork-viewed p.3 c.requires.lent.0.enough c.args.number (entry-is d p.0 p.2 p.3 p.1) (written d p.0 p.2 p.3 p.1)
 
-pub keep_known-requires : goal.keep_known-requires
-keep_known-requires c =
-    let o = c.requires.by_index.3 in
-    let to = (fork-apart o).1 in
-    ((omega (arith, to, c.requires.lent.0.few), omega (arith, to, c.requires.lent.3)), fork-few o)
+pub bounds-kept-to : goal.bounds-kept-to
+bounds-kept-to c = omega (arith, (fork-apart c.requires.by_index.3).1, c.requires.lent.3)
+
+pub offset_bounds-kept-to : goal.offset_bounds-kept-to
+offset_bounds-kept-to c = omega (arith, (fork-apart c.requires.by_index.3).1, c.requires.lent.0.few)
 
 pub returns-clause-lent_2 : goal.returns-clause-lent_2
 unfolding memory
 returns-clause-lent_2 c =
     let f = c.claim.ensures.has_arrays_2 in
-    (lent-on c.requires.lent.0 (omega (arith, f.1.size, c.put.ensures.size, c.share.ensures.held_2.1)) f.0, refl, omega (arith, c.keep_known.ensures.0.size, c.requires.lent.3))
+    (lent-on c.requires.lent.0 (omega (arith, f.1.size, c.put.ensures.size, c.share.ensures.held_2.1)) f.0, refl, simp length-set c.requires.lent.3)
 
 pub returns-clause-by_index_2 : goal.returns-clause-by_index_2
 unfolding memory
 returns-clause-by_index_2 c = λ b vs o q.
+    let a = c.args in
     let d = (goal.at.returns-clause-by_index_2 c).After-put in
     let f = c.claim.ensures in
-    let g = c.keep_known.ensures in
     let enough = c.requires.lent.0.enough in
     let e = entry-is d b vs o q in (
       rw c.insert.ensures.order_len_2.1 (fork-queued o enough c.args.number e (written d b vs o q) f.has_arrays_2.1 f.step_seen),
-      λ k. rw c.insert.ensures.order_len_2.1 (fork-kepts o enough c.args.number e g.0 (g.1 _ (fork-known o)) k),
+      λ k. rw c.insert.ensures.order_len_2.1 (fork-kepts o enough c.args.number e (one_kept a.to a.kept.now c.then_some.result) (keeps_set a.kept.now (omega (arith, (fork-apart o).1, c.requires.lent.3)) (λ w s. fork-known o w (sym c.then_some.ensures ∙ s))) k),
     )

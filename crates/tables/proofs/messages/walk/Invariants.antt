@@ -1,12 +1,9 @@
--- The loop invariants of settings.walk, and what falls at each turn.
+-- The loop of messages.walk: the directions span the entries of the first i indices.
 use mathlib.Core.Path.{◌≡◌}
-use Prim.Native.Nat.{◌-◌, ◌^◌, ◌≤◌}
-use lib.ListN.{length}
+use Prim.Native.Nat.{◌^◌}
 use Rattle.outer.specs.Search.{settings, entry, Spans}
 use Rattle.tables.proofs.messages.walk.Given as goal
 
 abbrev pub invariant-loop-i : goal.invariant-loop-i
-invariant-loop-i l = (l.i ≤ l.n) × (length l.words ≡ 9) × (length l.sets ≡ 9) × (2 ^ l.free ≡ settings l.kinds l.start l.i) × Spans l.words l.sets l.free (entry l.kinds l.terms l.start l.parities l.i)
-
-abbrev pub decreases-loop-i : goal.decreases-loop-i
-decreases-loop-i l = l.n - l.i
+invariant-loop-i l =
+    (2 ^ l.free ≡ settings l.tables.kinds l.start l.i) × Spans l.directions.words l.directions.sets l.free (entry l.tables.kinds l.tables.terms l.start l.parities l.i)

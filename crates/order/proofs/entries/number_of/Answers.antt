@@ -1,8 +1,0 @@
--- `order::entries::number_of` meets its contract, by the definition. Assumes nothing.
-use mathlib.Core.Path.{refl}
-use Rattle.order.specs.Entries.{key_at}
-use Rattle.order.proofs.entries.number_of.Goals as goal
-
-pub returns : goal.returns
-unfolding key_at
-returns c = refl
