@@ -237,9 +237,6 @@ pub record Reading (ks : List Kind) (u ds : List ℕ) (i next : ℕ) : Type 0 wh
   pub rest : take next ds ++ free_bits (drop i ks) (drop i u) ≡ free_bits ks u
   pub left : next + free_count (drop i ks) ≡ length ds
 
-pub read-start : (ks : List Kind) (u ds : List ℕ) → free_count ks ≡ length ds → Reading ks u ds 0 0
-read-start ks u ds e = record { rest = refl; left = omega arith }
-
 pub read-end : {ks : List Kind} {u ds : List ℕ} {i next : ℕ} → Reading ks u ds i next → length ks ≤ i → ds ≡ free_bits ks u
 unfolding free_bits free_count
 read-end {ks} {u} {ds} {i} {next} r h =
