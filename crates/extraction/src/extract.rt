@@ -58,7 +58,8 @@ fn second(
     ensures same_memory { SameMemory memory.new memory.old }
 {
     let blocks = blocks_of(e);
-    if blocks == 0 {
+    let empty = blocks == 0;
+    if empty {
         return t;
     }
     copy(

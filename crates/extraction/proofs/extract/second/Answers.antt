@@ -9,16 +9,16 @@ use Rattle.order.proofs.Queues.{queue-length}
 use Rattle.extraction.proofs.Seconds.{second_none, second-copying, second-done, second-crowds}
 use Rattle.extraction.proofs.extract.second.Goals as goal
 
-pub returns-then-blocks-eq0-clause-fact : goal.returns-then-blocks-eq0-clause-fact
-returns-then-blocks-eq0-clause-fact c o =
+pub returns-then-empty-clause-fact : goal.returns-then-empty-clause-fact
+returns-then-empty-clause-fact c o =
     let a = c.args in
-    let k = second_none o a.t.crowded (omega (arith, c.blocks_of-blocks.ensures, c.if-blocks-eq0.true)) in
+    let k = second_none o a.t.crowded (omega (arith, c.blocks_of-blocks.ensures, c.if-empty.true)) in
     ((sym (queue-length a.t.queued a.queue.now.order) ∙ k.0, k.1, k.2, k.3, k.4), second-crowds o k.3)
 
 pub copy-requires-clause-by_index : goal.copy-requires-clause-by_index
 copy-requires-clause-by_index c =
     let n = c.blocks_of-blocks.result in
-    let some : n ≡ suc (n - 1) = omega (arith, c.if-blocks-eq0.false) in
+    let some : n ≡ suc (n - 1) = omega (arith, c.if-empty.false) in
     (_, some, second-copying c.requires.seconding c.requires.le_paths.0 (omega (arith, c.blocks_of-blocks.ensures)))
 
 pub returns-clause-fact : goal.returns-clause-fact
@@ -26,7 +26,7 @@ returns-clause-fact c o =
     let a = c.args in
     let two = c.requires.le_paths.0 in
     let n = c.blocks_of-blocks.result in
-    let some : n ≡ suc (n - 1) = omega (arith, c.if-blocks-eq0.false) in
+    let some : n ≡ suc (n - 1) = omega (arith, c.if-empty.false) in
     let blocks : (key_at a.e).blocks ≡ suc (n - 1) = omega (arith, c.blocks_of-blocks.ensures) in
     let k = second-done o two blocks a.t.crowded c.copy.new.kept (c.copy.ensures.by_index_2 _ (second-copying o two blocks) some) in
     (k, second-crowds o k.3)
