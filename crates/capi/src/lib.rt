@@ -113,15 +113,7 @@ pub extern "C" fn saddlemint_decode(
         blocks: walk_blocks,
         score: walk_score,
     };
-    decode_slices(
-        book,
-        s,
-        values,
-        &mut out,
-        &mut workspace,
-        &mut walk,
-        counts,
-    )
+    decode_slices(book, s, values, &mut out, &mut workspace, &mut walk, counts)
 }
 
 // Decodes values, and reads the record of the word's data.
