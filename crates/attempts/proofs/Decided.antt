@@ -1,12 +1,13 @@
 -- What an admitted call comes to once its run is made: by the verdict on the word found it is handed out with its data and its record, or kept back. By the exactness of the
 -- run and the definition of a call. Assumes nothing.
-use mathlib.Core.Path.{◌≡◌, sym, ap, ◌∙◌, subst}
+use mathlib.Core.Path.{◌≡◌, ap, ◌∙◌, subst}
 use mathlib.Core.List.{List, ◌++◌}
-use mathlib.Core.Option.{Option, none, some}
 use Prim.Native.Nat.{ℕ, ◌≤◌}
-use Rattle.std.specs.Prelude.{Ok, Err}
+use Rattle.std.specs.Prelude.{cond, Result, Ok, Err, is_ok}
+use Rattle.polar.specs.Layers.{part}
 use lib.IntN.{ℤ, pos}
 use lib.ListN.{length, drop, replicate}
+use lib.Seq.{take-length}
 use Rattle.polar.specs.Transform.{transform}
 use Rattle.codebook.specs.declared.Refusal.{Refusal}
 use Rattle.codebook.specs.declared.Shape.{Shape}
@@ -24,6 +25,16 @@ use Rattle.machine.specs.Calls.{Lent, numbers_needed, bytes_needed, final_in, ve
 use Rattle.attempts.specs.Reading.{reader_run}
 use Rattle.attempts.specs.Attempt.{Ready, answered, judged_as, judged_final}
 use Rattle.attempts.proofs.Judged.{run_lent, finds, data_are, answered-ok, answered-err, judged-same, reader-same, given-out, given-none, ran-done, ran-refused, ran-lent}
+
+-- what is given where a reading is refused, and where it is not
+pub all-given : {z : Result HookRecord Refusal} {h : HookRecord} {new : List ℕ} (old xs : List ℕ) → z ≡ Ok h →
+    new ≡ cond (is_ok z) (part 0 (length old) xs) old → length old ≡ length xs → new ≡ xs
+unfolding part
+all-given old xs q e l =
+    e ∙ ap (λ (y : Result HookRecord Refusal). cond (is_ok y) (part 0 (length old) xs) old) q ∙ ap (λ n. part 0 n xs) l ∙ take-length xs
+
+pub none-given : {z : Result HookRecord Refusal} {r : Refusal} {new : List ℕ} (old xs : List ℕ) → z ≡ Err r → new ≡ cond (is_ok z) xs old → new ≡ old
+none-given old xs q e = e ∙ ap (λ (y : Result HookRecord Refusal). cond (is_ok y) xs old) q
 
 module _ {x : Shape} {values : List ℤ} {tables : Tables} (r : Ready x values tables) (reads : Reads) (s : Settings) (l : Lent) (ranged : Ranged s) (room : numbers_needed x s ≤ length l.numbers) where
   abbrev run : Run Final

@@ -7,7 +7,7 @@ use mathlib.Core.Option.{Option, none, some}
 use Prim.Native.Nat.{ℕ, ◌+◌, ◌*◌, ◌^◌, ◌≤◌, ◌<◌}
 use native.Mathlib.Nat.{mul-le-mul_left}
 use native.Mathlib.Omega.{arith}
-use Rattle.std.specs.Prelude.{Result, Ok, Err, is_ok}
+use Rattle.std.specs.Prelude.{Ok, Err, is_ok}
 use lib.IntN.{ℤ, pos}
 use lib.ListN.{length, take, drop, replicate}
 use lib.Seq.{take_all, length-take-le}
@@ -16,7 +16,6 @@ use lib.Pow.{pow_mono}
 use borrow.Author.Tests.{le-leb, lt-leb}
 use Rattle.laws.specs.Lists.{All}
 use Rattle.polar.specs.Bits.{Bit}
-use Rattle.polar.specs.Layers.{part}
 use Rattle.polar.specs.Transform.{transform}
 use Rattle.polar.proofs.Transform.{transform-length, transform-bits}
 use Rattle.codebook.specs.declared.Refusal.{Refusal}

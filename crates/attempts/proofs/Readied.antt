@@ -4,14 +4,14 @@ use mathlib.Core.List.{List, [], ◌∷◌, map}
 use mathlib.Core.Option.{Option, none, some}
 use Prim.Native.Nat.{ℕ, ◌^◌, ◌≤◌}
 use native.Mathlib.Omega.{arith}
-use Rattle.std.specs.Prelude.{Result, Ok, Err}
+use Rattle.std.specs.Prelude.{Ok, Err}
 use lib.IntN.{ℤ, pos, nat_abs}
 use lib.ListN.{length, get_or, length-map, get_or-map}
 use lib.Dec.{T, leb, leb→le}
 use lib.Pow.{pow_mono}
 use Rattle.laws.specs.Lists.{All, tab}
 use Rattle.laws.proofs.Tests.{and_left, and_right}
-use Rattle.laws.proofs.Lists.{over-get_d, over-length, length-tab, get_d-tab}
+use Rattle.laws.proofs.Lists.{over-get_d, length-tab, get_d-tab}
 use Rattle.polar.specs.Layers.{Within}
 use Rattle.codebook.specs.declared.Refusal.{Refusal}
 use Rattle.codebook.specs.declared.Shape.{Shape}

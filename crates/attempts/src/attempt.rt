@@ -72,15 +72,14 @@ fn decide(
         word,
     );
     data_of(tables, x.m, word, &mut u[..n], bits);
-    match judge(r, s, counts.discrepancy, bits) {
-        Ok(hook) => {
-            give(word, bits, out);
-            HookDecoded {
-                outcome: Ok(()),
-                counts,
-                hook,
-            }
-        }
+    let read = judge(r, s, counts.discrepancy, bits);
+    give(&read, word, bits, out);
+    match read {
+        Ok(hook) => HookDecoded {
+            outcome: Ok(()),
+            counts,
+            hook,
+        },
         Err(against) => refused(against, counts),
     }
 }

@@ -1,5 +1,6 @@
 // The verdict on the word that a run found, and what is handed out by it. Relies on the crates hooks and checks; machine/specs/Calls has the verdicts in their order.
-ghost use Rattle.std.specs.Prelude.{◌≡◌, length};
+ghost use Rattle.std.specs.Prelude.{◌≡◌, true, cond, ◌≤◌, length, is_ok};
+ghost use Rattle.polar.specs.Layers.{part};
 ghost use Rattle.machine.specs.Calls.{SameOutput};
 ghost use Rattle.attempts.specs.Attempt.{judged_final, judged_as, RecordIn};
 
@@ -23,14 +24,19 @@ pub fn judge(r: Reads, s: Settings, discrepancy: u32, info: &[u8]) -> Result<Hoo
     }
 }
 
-// Word and data become what was found.
-pub fn give(found: &[u8], info: &[u8], out: &mut Output)
-    requires { (length out.old.word.now ≡ length found.now) × (length out.old.bits.now ≡ length info.now) }
-    ensures given { (out.new.word.now ≡ found.now) × (out.new.bits.now ≡ info.now) }
+// Where nothing is refused, word and data become the start of what was found; else they stay.
+pub fn give(read: &Result<HookRecord, Refusal>, found: &[u8], info: &[u8], out: &mut Output)
+    requires { is_ok read.now ≡ true → (length out.old.word.now ≤ length found.now) × (length out.old.bits.now ≤ length info.now) }
+    ensures given { (out.new.word.now ≡ cond (is_ok read.now) (part 0 (length out.old.word.now) found.now) out.old.word.now)
+        × (out.new.bits.now ≡ cond (is_ok read.now) (part 0 (length out.old.bits.now) info.now) out.old.bits.now) }
     ensures same { SameOutput out.new out.old }
 {
-    let word = &mut *out.word;
-    let bits = &mut *out.bits;
-    word.copy_from_slice(found);
-    bits.copy_from_slice(info);
+    if read.is_ok() {
+        let word = &mut *out.word;
+        let bits = &mut *out.bits;
+        let n = word.len();
+        let k = bits.len();
+        word.copy_from_slice(&found[..n]);
+        bits.copy_from_slice(&info[..k]);
+    }
 }

@@ -1,6 +1,7 @@
 -- `attempts::attempt::decide` meets its contract: the run is the reader's on the lent part of the workspace, its word is of the code and the data are that word's, the verdict is the
 -- call's, and so is what is handed out. Assumes nothing.
-use mathlib.Core.Path.{◌≡◌, refl, sym, ◌∙◌}
+use mathlib.Core.Path.{◌≡◌, sym, ◌∙◌}
+use native.Mathlib.Omega.{arith}
 use mathlib.Core.List.{◌++◌}
 use lib.IntN.{pos}
 use lib.ListN.{length, drop, replicate}
@@ -11,7 +12,7 @@ use Rattle.machine.specs.Calls.{Lent, lent_in, final_in, numbers_needed, bytes_n
 use Rattle.attempts.specs.Reading.{arrays_lent}
 use Rattle.attempts.specs.Attempt.{Ready}
 use Rattle.attempts.proofs.Judged.{lent_length, part-cleared, ready-own, ready-size, ready-bits, ready-small, ready-free, ready-running, numbers-room, bytes-room, run_lent, word-size, word-bits, data-size, data-bits, record-in}
-use Rattle.attempts.proofs.Decided.{handed-out, kept-back}
+use Rattle.attempts.proofs.Decided.{all-given, none-given, handed-out, kept-back}
 use Rattle.attempts.proofs.attempt.decide.Goals as goal
 use Rattle.attempts.proofs.attempt.decide.Goals.{After-run_cleared-counts, After-data_of}
 
@@ -80,23 +81,28 @@ read : (c : After-data_of) (r : Ready c.args.x c.args.values.now c.args.tables.n
     → c.data_of.new.bits ≡ free_bits r.book.kinds (transform c.args.x.m c.run_cleared-counts.new.found)
 read c r fit = c.data_of.ensures.bits_after r.book.kinds r.in_tables.booked.tabled.coded fit (sym (ready-bits r) ∙ zeros-part _ (ready-free r))
 
-pub judge-requires : goal.judge-requires
-judge-requires c =
+pub judge-read-requires : goal.judge-read-requires
+judge-read-requires c =
     let a = c.args in
     let p = c.requires in
     let r = p.ready in
-    let w = (goal.at.judge-requires c).After-run_cleared-counts in
-    let ds = read (goal.at.judge-requires c).After-data_of r (kinds-fit w r) in
+    let w = (goal.at.judge-read-requires c).After-run_cleared-counts in
+    let ds = read (goal.at.judge-read-requires c).After-data_of r (kinds-fit w r) in
     record-in a.r a.x p.ranged.1 c.data_of.new.bits (data-size r a.s (buffers w) p.ranged.0 p.workspace_needed.0 (left w r) ds)
     (data-bits r a.s (buffers w) p.ranged.0 p.workspace_needed.0 (left w r) ds)
 
-pub give-requires : goal.give-requires
-give-requires c =
+-- what is found is as long as what is lent for it
+fits : (c : After-data_of) → let a = c.args.out.now in
+    (length a.word.now ≡ length c.run_cleared-counts.new.found) × (length a.bits.now ≡ length c.data_of.new.bits)
+fits c =
     let p = c.requires in
     let r = p.ready in
-    let w = (goal.at.give-requires c).After-run_cleared-counts in
-    let ds = read (goal.at.give-requires c).After-data_of r (kinds-fit w r) in
+    let w = (goal.at.After-data_of c).After-run_cleared-counts in
+    let ds = read c r (kinds-fit w r) in
     (p.ranged.2 ∙ sym (sized w), p.ranged.3 ∙ sym (data-size r c.args.s (buffers w) p.ranged.0 p.workspace_needed.0 (left w r) ds))
+
+pub give-requires : goal.give-requires
+give-requires c = λ q. let f = fits (goal.at.give-requires c).After-data_of in (omega (arith, f.0), omega (arith, f.1))
 
 -- the workspace, cleared at its stated size
 cleared : (c : After-run_cleared-counts) → let a = c.args in
@@ -115,11 +121,13 @@ pub returns-in-Ok-clause-called : goal.returns-in-Ok-clause-called
 unfolding arrays_lent numbers_needed bytes_needed
 returns-in-Ok-clause-called c = λ r.
     let p = c.requires in
+    let f = fits (goal.at.returns-in-Ok-clause-called c).After-data_of in
     let w = (goal.at.returns-in-Ok-clause-called c).After-run_cleared-counts in
     let ds = read (goal.at.returns-in-Ok-clause-called c).After-data_of r (kinds-fit w r) in
     let o = c.run_cleared-counts.ensures.fact (ready-running r) in
     handed-out r c.args.r c.args.s (buffers w) p.ranged.0 p.workspace_needed.0 o.0 (left w r) ds _ (cleared w).0 (cleared w).1 o.2 o.3 o.4
-    c.in-Ok.hook (sym c.in-Ok.is ∙ c.judge.ensures) c.give.ensures.given.0 c.give.ensures.given.1
+    c.in-Ok.hook (sym c.in-Ok.is ∙ c.judge-read.ensures)
+    (all-given _ _ c.in-Ok.is c.give.ensures.given.0 f.0) (all-given _ _ c.in-Ok.is c.give.ensures.given.1 f.1)
 
 pub returns-in-Err-clause-called : goal.returns-in-Err-clause-called
 unfolding arrays_lent numbers_needed bytes_needed
@@ -130,4 +138,4 @@ returns-in-Err-clause-called c = λ r.
     let o = c.run_cleared-counts.ensures.fact (ready-running r) in
     rw c.refused.ensures
     (kept-back r c.args.r c.args.s (buffers w) p.ranged.0 p.workspace_needed.0 o.0 (left w r) ds _ (cleared w).0 (cleared w).1 o.2 o.3 o.4
-    c.in-Err.against (sym c.in-Err.is ∙ c.judge.ensures) refl refl)
+    c.in-Err.against (sym c.in-Err.is ∙ c.judge-read.ensures) (none-given _ _ c.in-Err.is c.give.ensures.given.0) (none-given _ _ c.in-Err.is c.give.ensures.given.1))
