@@ -10,7 +10,8 @@ pub fn load_answer(book: &[u8], shape: &mut [u32]) -> u32
     ensures { let a = load_answer book.now shape.old in (result ≡ a.number) × (shape.new ≡ a.slice) }
 {
     let loaded = load(book);
-    if shape.len() != 3 {
+    let fits = shape.len() == 3;
+    if !fits {
         return length_mismatch(loaded);
     }
     match loaded {

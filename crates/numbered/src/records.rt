@@ -51,7 +51,8 @@ pub fn read_record_answer(book: &[u8], bits: &[u8], hook: &mut [u32]) -> u32
     ensures { let a = read_record_answer book.now bits.now hook.old in
         (result ≡ a.number) × (hook.new ≡ a.slice) }
 {
-    if hook.len() != 4 {
+    let fits = hook.len() == 4;
+    if !fits {
         return length_mismatch(load(book));
     }
     let (number, h) = match read_record(book, bits) {
