@@ -21,7 +21,11 @@ extern "C" {
     fn measured_load(
         book: *const u8,
         book_len: usize,
-        tables: *mut Tables,
+        kinds: *mut u8,
+        terms: *mut u32,
+        heights: *mut u8,
+        starts: *mut u16,
+        biases: *mut i32,
     ) -> u32;
     fn measured_run(
         m: u32,
@@ -30,7 +34,11 @@ extern "C" {
         paths: u32,
         values: *const i16,
         values_len: usize,
-        tables: *const Tables,
+        kinds: *const u8,
+        terms: *const u32,
+        heights: *const u8,
+        starts: *const u16,
+        biases: *const i32,
         numbers: *mut i32,
         numbers_len: usize,
         bytes: *mut u8,
@@ -44,16 +52,15 @@ extern "C" {
     ) -> u32;
 }
 
-/// Room for the loader's tables, 6,144 bytes, which only the proved code reads
-/// and writes.
-#[repr(C, align(8))]
-struct Tables([u8; 8192]);
-
 /// What the proved run is lent.
 struct Proved {
     m: usize,
     blocks: usize,
-    tables: Tables,
+    kinds: [u8; 512],
+    terms: [u32; 512],
+    heights: [u8; 512],
+    starts: [u16; 512],
+    biases: [i32; 512],
     numbers: Vec<i32>,
     bytes: Vec<u8>,
     walk: [Vec<i32>; 3],
@@ -64,7 +71,11 @@ impl Proved {
         Proved {
             m,
             blocks: 0,
-            tables: Tables([0; 8192]),
+            kinds: [0; 512],
+            terms: [0; 512],
+            heights: [0; 512],
+            starts: [0; 512],
+            biases: [0; 512],
             numbers: vec![77; numbers],
             bytes: vec![77; bytes],
             walk: [vec![0; entries], vec![0; entries], vec![0; entries]],
@@ -72,12 +83,16 @@ impl Proved {
     }
 
     fn load(&mut self, book: &[u8]) {
-        // SAFETY: the tables have room for the proved code's.
+        // SAFETY: every array has the length that the function names.
         self.blocks = unsafe {
             measured_load(
                 book.as_ptr(),
                 book.len(),
-                &mut self.tables,
+                self.kinds.as_mut_ptr(),
+                self.terms.as_mut_ptr(),
+                self.heights.as_mut_ptr(),
+                self.starts.as_mut_ptr(),
+                self.biases.as_mut_ptr(),
             )
         } as usize;
     }
@@ -94,7 +109,11 @@ impl Proved {
                 d as u32,
                 values.as_ptr(),
                 values.len(),
-                &self.tables,
+                self.kinds.as_ptr(),
+                self.terms.as_ptr(),
+                self.heights.as_ptr(),
+                self.starts.as_ptr(),
+                self.biases.as_ptr(),
                 self.numbers.as_mut_ptr(),
                 self.numbers.len(),
                 self.bytes.as_mut_ptr(),

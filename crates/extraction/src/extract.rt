@@ -55,6 +55,7 @@ fn second(
         × Removes (step_at c.hand.book s.visits s.paths (moment_in c.hand t.next c.visits)).crowded (Q.numbers key_at (queue_of queue.old.order t.queued))
         (Q.numbers key_at (queue_of queue.new.order result.queued))) }
     ensures rising_2 { Rising queue.new.order result.queued }
+    ensures bytes_as_before { memory.new.bytes.now ≡ memory.old.bytes.now }
     ensures same_memory { SameMemory memory.new memory.old }
 {
     let blocks = blocks_of(e);

@@ -86,16 +86,21 @@ abbrev pub lent_in : Output → Workspace → Walk → Lent
 lent_in out workspace walk =
     lent out.word.now out.bits.now workspace.numbers.now workspace.bytes.now walk.path.now walk.blocks.now walk.score.now
 
--- the same buffers, whatever they hold
+-- the same buffers, as long as they were, whatever they hold
 abbrev pub SameWalk : Walk → Walk → Type 0
 SameWalk new old =
     (new.path.ghost_name ≡ old.path.ghost_name) × (new.blocks.ghost_name ≡ old.blocks.ghost_name) × (new.score.ghost_name ≡ old.score.ghost_name)
+    × (length new.path.now ≡ length old.path.now) × (length new.blocks.now ≡ length old.blocks.now) × (length new.score.now ≡ length old.score.now)
 
 abbrev pub SameOutput : Output → Output → Type 0
-SameOutput new old = (new.word.ghost_name ≡ old.word.ghost_name) × (new.bits.ghost_name ≡ old.bits.ghost_name)
+SameOutput new old =
+    (new.word.ghost_name ≡ old.word.ghost_name) × (new.bits.ghost_name ≡ old.bits.ghost_name)
+    × (length new.word.now ≡ length old.word.now) × (length new.bits.now ≡ length old.bits.now)
 
 abbrev pub SameWorkspace : Workspace → Workspace → Type 0
-SameWorkspace new old = (new.numbers.ghost_name ≡ old.numbers.ghost_name) × (new.bytes.ghost_name ≡ old.bytes.ghost_name)
+SameWorkspace new old =
+    (new.numbers.ghost_name ≡ old.numbers.ghost_name) × (new.bytes.ghost_name ≡ old.bytes.ghost_name)
+    × (length new.numbers.now ≡ length old.numbers.now) × (length new.bytes.now ≡ length old.bytes.now)
 
 -- the lengths of both
 abbrev pub lengths_of : Input → Lent → Lengths

@@ -63,12 +63,6 @@ spread ds from (suc n) w = bit_xor (spread ds from n (w / 2)) (get_or ds (from +
 unfoldable pub Spans : List ℕ → List ℕ → ℕ → (ℕ → Entry) → Type 0
 Spans words sets n e = (w : ℕ) → (spread words 0 n w ≡ (e w).word) × (spread sets 0 n w ≡ (e w).set)
 
--- the tables lent for a search
-pub record Scratch (words sets sums : List ℕ) : Type 0 where
-  pub words_size : length words ≡ 256
-  pub sets-size : length sets ≡ 256
-  pub sums-size : length sums ≡ 128
-
 -- n indices from `start` on lie within the tables, have codes, and at most 256 settings
 pub record Walkable (kinds : List ℕ) (start n : ℕ) : Type 0 where
   pub short : n ≤ 32

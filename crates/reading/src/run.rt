@@ -42,6 +42,7 @@ fn finish(memory: &mut Memory, layout: Layout, s: Settings, stage: Stage, last: 
         → (result.counts ≡ record { extractions = stage.tally.extractions + 1; crowded = stage.tally.crowded; outrun = stage.tally.outrun; discrepancy = c.hand.taken.spent + c.hand.taken.cost })
         × Id layout.arrays result.id
         × (part (spot layout.m result.id layout.m) (2 ^ layout.m) memory.new.bytes.now ≡ sums_of (committed c.hand) layout.m) }
+    ensures numbers_as_before { memory.new.numbers.now ≡ memory.old.numbers.now }
     ensures same_memory { SameMemory memory.new memory.old }
 {
     let slot = slot_of(stage.entry);

@@ -21,10 +21,11 @@ memory rows holders numbers bytes = record { rows = rows; holders = holders; num
 abbrev pub contents : Lending → Memory
 contents x = memory x.rows.now x.holders x.numbers.now x.bytes.now
 
--- it is the same memory, whatever it holds
+-- it is the same memory, of the same size, whatever it holds
 abbrev pub SameMemory : Lending → Lending → Type 0
 SameMemory new old =
     (new.rows.ghost_name ≡ old.rows.ghost_name) × (new.numbers.ghost_name ≡ old.numbers.ghost_name) × (new.bytes.ghost_name ≡ old.bytes.ghost_name)
+    × (length new.rows.now ≡ length old.rows.now) × (length new.numbers.now ≡ length old.numbers.now) × (length new.bytes.now ≡ length old.bytes.now)
 
 -- it holds what it held, but for the holders
 abbrev pub HoldersOnly : Lending → Lending → Type 0

@@ -48,6 +48,7 @@ fn fork(
         × (Kepts c.hand.book c.hand.arrays kept.old (queue_of queue.old.order queued) c.hand.rest
         → Kepts c.hand.book k.arrays kept.new (queue_of queue.new.order (suc queued)) k.queue)) }
     ensures rising_2 { Rising queue.new.order (suc queued) }
+    ensures bytes_as_before { memory.new.bytes.now ≡ memory.old.bytes.now }
     ensures same_memory { SameMemory memory.new memory.old }
 {
     let slot = slot_of(e);
@@ -109,6 +110,7 @@ pub fn copy(
         CopiedTo c.hand.book s.paths layout.arrays e c.hand.taken k t.crowded result.queued result.next result.crowded (contents memory.new)
         (queue_of queue.new.order result.queued) (queue_of queue.new.vacant (s.paths - (result.queued + 1))) kept.new) }
     ensures rising_2 { Rising queue.new.order result.queued }
+    ensures bytes_as_before { memory.new.bytes.now ≡ memory.old.bytes.now }
     ensures same_memory { SameMemory memory.new memory.old }
 {
     let paths = s.paths as usize;

@@ -24,6 +24,7 @@ fn lower(memory: &mut Memory, layout: Layout, slot: usize, h: usize)
     ensures has_arrays_2 { HasArrays layout.m layout.arrays (contents memory.new)
         × IdsOnly layout.m slot memory.old.rows.now memory.new.rows.now }
     ensures step_seen { StepSeen layout.m layout.arrays slot (contents memory.old) (contents memory.new) (Upper (suc h)) (λ others v. by_q others h v) }
+    ensures bytes_as_before { memory.new.bytes.now ≡ memory.old.bytes.now }
     ensures same_memory { SameMemory memory.new memory.old }
 {
     let rows = &mut *memory.rows;
@@ -40,6 +41,7 @@ pub fn go_down(memory: &mut Memory, layout: Layout, slot: usize, top: usize, low
         × IdsOnly layout.m slot memory.old.rows.now memory.new.rows.now }
     ensures step_seen { StepSeen layout.m layout.arrays slot (contents memory.old) (contents memory.new) (Upper top)
         (λ others v. descend others (top - low) top 0 v) }
+    ensures bytes_as_before { memory.new.bytes.now ≡ memory.old.bytes.now }
     ensures same_memory { SameMemory memory.new memory.old }
 {
     for h in (low..top).rev() {
@@ -55,6 +57,7 @@ pub fn turn_over(memory: &mut Memory, layout: Layout, slot: usize, h: usize)
         × IdsOnly layout.m slot memory.old.rows.now memory.new.rows.now }
     ensures step_seen { StepSeen layout.m layout.arrays slot (contents memory.old) (contents memory.new) (Turning h)
         (λ others v. by_p others h v) }
+    ensures bytes_as_before { memory.new.bytes.now ≡ memory.old.bytes.now }
     ensures same_memory { SameMemory memory.new memory.old }
 {
     let rows = &mut *memory.rows;
@@ -90,6 +93,7 @@ pub fn commit(memory: &mut Memory, layout: Layout, slot: usize, j: usize, h: usi
         × IdsOnly layout.m slot memory.old.rows.now memory.new.rows.now }
     ensures step_seen { StepSeen layout.m layout.arrays slot (contents memory.old) (contents memory.new) (Joinable j h)
         (λ others v. put_sums others h (joined (sums_of v) j (h - j) (bits_of (2 ^ j) word)) v) }
+    ensures numbers_as_before { memory.new.numbers.now ≡ memory.old.numbers.now }
     ensures same_memory { SameMemory memory.new memory.old }
 {
     let rows = &mut *memory.rows;
@@ -108,6 +112,7 @@ pub fn claim(memory: &mut Memory, layout: Layout, slot: usize, j: usize, h: usiz
         × IdsOnly layout.m slot memory.old.rows.now memory.new.rows.now }
     ensures step_seen { StepSeen layout.m layout.arrays slot (contents memory.old) (contents memory.new) (Claimable j h)
         (λ others v. claim others j h v) }
+    ensures bytes_as_before { memory.new.bytes.now ≡ memory.old.bytes.now }
     ensures same_memory { SameMemory memory.new memory.old }
 {
     let rows = &mut *memory.rows;

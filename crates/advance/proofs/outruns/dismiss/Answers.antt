@@ -22,7 +22,7 @@ loop-e-init c =
       few = omega arith;
       held = c.requires.rows.1;
       rest = (refl, refl, refl);
-      same = (refl, refl, refl);
+      same = (refl, refl, refl, refl, refl, refl);
       passed = λ arrays x small. rw (z, sub-zero a.queued) (passed_none a.queue.now.order a.b a.queued x.stands);
     }
 

@@ -39,7 +39,7 @@ loop-stage-init c =
         },
         c.requires.rows.2,
       );
-      same = ((refl, refl, refl), (refl, refl, refl));
+      same = ((refl, refl, refl, c.begin.auto.rows, c.receive.auto.numbers, refl), (refl, refl, refl, refl, refl, refl));
       runs = λ r.
           let first =
           run-first r a.s.visits a.s.paths a.arrays c.begin.new.rows c.begin.new.holders c.fill_vacant.new.vacant (received a.x.m a.values.now old.numbers.now) old.bytes.now c.entry.result

@@ -16,7 +16,8 @@ loop-h-init c =
       has = c.requires.has_arrays.0;
       only = record { size = refl; before = λ k b. refl; after = λ k b. refl };
       seen = turned_none _ _ _ _ _;
-      same = (refl, refl, refl);
+      same = (refl, refl, refl, refl, refl, refl);
+      bytes = refl;
     }
 
 pub lower-requires-clause-viewed : goal.lower-requires-clause-viewed
@@ -41,7 +42,8 @@ loop-h-preserved c =
       only = ids-on a.memory.now.rows.now c.loop-h.memory.rows.now i.only c.lower.ensures.has_arrays_2.1;
       seen = turned_more a.layout.m a.layout.arrays a.slot x y _ (omega arith)
           (subst (λ (n : ℕ). StepSeen a.layout.m a.layout.arrays a.slot x y (Upper a.top) (down a.top n)) (sym e) i.seen) c.lower.ensures.step_seen;
-      same = (cc, cc, cc);
+      same = (cc, cc, cc, cc, cc, cc);
+      bytes = cc;
     }
 
 pub returns-clause-has_arrays_2 : goal.returns-clause-has_arrays_2

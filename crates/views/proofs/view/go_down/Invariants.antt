@@ -1,4 +1,5 @@
 -- The loop's invariant in view.go_down: the path sees what the way down to height h makes of what it saw, and the rest of the rows is as it was.
+use mathlib.Core.Path.{◌≡◌}
 use Prim.Native.Nat.{◌≤◌}
 use Rattle.standing.specs.Seen.{contents, SameMemory, HasArrays, StepSeen, IdsOnly}
 use Rattle.views.specs.Steps.{Upper}
@@ -13,4 +14,5 @@ invariant-loop-h l = record {
   only : IdsOnly l.layout.m l.slot l.fn.memory.rows.now l.memory.rows.now;
   seen : StepSeen l.layout.m l.layout.arrays l.slot (contents l.fn.memory) (contents l.memory) (Upper l.top) (down l.top l.h);
   same : SameMemory l.memory l.fn.memory;
+  bytes : l.memory.bytes.now ≡ l.fn.memory.bytes.now;
 }
