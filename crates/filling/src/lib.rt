@@ -81,7 +81,8 @@ pub fn free_bits(tables: &Tables, u: &[u8], bits: &mut [u8])
 {
     let mut next: usize = 0;
     for (i, bit) in u.iter().enumerate() {
-        if tables.kinds[i] == 0 {
+        let free = tables.kinds[i] == 0;
+        if free {
             bits[next] = *bit;
             next += 1;
         }
