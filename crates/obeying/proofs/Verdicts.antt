@@ -8,10 +8,10 @@ use Prim.Native.Nat.{ℕ, zero, suc, ◌+◌, ◌-◌, ◌^◌, ◌≤◌, ◌<�
 use native.Mathlib.Omega.{arith}
 use lib.ListN.{length, take, drop, replicate}
 use lib.IntN.{ℤ}
-use lib.Dec.{leb, ltb, eqb}
-use borrow.Author.Tests.{eq-eqb, ne_eqb, lt-ltb, le-ltb, le-leb, lt-leb}
+use lib.Dec.{T, leb, ltb, eqb, eqb→eq, ltb→lt}
+use borrow.Author.Tests.{ltb-true, eqb-true, eq-eqb, ne_eqb, lt-ltb, le-ltb, le-leb, lt-leb}
 use Rattle.std.specs.Prelude.{Result, Ok, Err}
-use Rattle.laws.proofs.Tests.{lt-or}
+use Rattle.laws.proofs.Tests.{lt-or, and_left, and_right}
 use Rattle.codebook.specs.declared.Refusal.{Refusal}
 use Rattle.codebook.specs.declared.Refusal.TheVariants.{Truncated, Misplaced, OutOfRange, TooManyFree}
 use Rattle.codebook.specs.declared.Command.{Command}
@@ -165,3 +165,27 @@ not-end (Tie i) n = refl
 not-end (Term i) n = refl
 not-end (NextBlock j bias) n = refl
 not-end End n = absurd (n refl)
+
+-- A command that may stand and is not the end is the length where there is none yet, or a term, or an index command where an index is left, or a
+-- block where one is to come.
+pub nowhere : (p : Progress) (k : Command) → stands p k ≡ true → is_end k ≡ false
+    → ((m : ℕ) → p.m ≡ 0 → k ≡ Length m → ⊥)
+    → ((n : ℕ) → k ≡ Free n → ⊥) → ((n : ℕ) → k ≡ Zero n → ⊥) → ((i : ℕ) → k ≡ Term i → ⊥)
+    → ((i : ℕ) → p.filled < p.n → k ≡ Tie i → ⊥)
+    → ((j : ℕ) (bias : ℤ) → p.filled ≡ p.n → p.covered < p.n → k ≡ NextBlock j bias → ⊥)
+    → ⊥
+unfolding stands is_end byte_of
+nowhere p (Length m) e n l f z t i b = l m (eqb-true p.m 0 e) refl
+nowhere p (Free count) e n l f z t i b = f count refl
+nowhere p (Zero count) e n l f z t i b = z count refl
+nowhere p (Tie at) e n l f z t i b = i at (ltb-true p.filled p.n e) refl
+nowhere p (Term at) e n l f z t i b = t at refl
+nowhere p (NextBlock j bias) e n l f z t i b =
+    let both = subst T (sym e) tt in
+    b j bias (eqb→eq p.filled p.n (and_left (eqb p.filled p.n) (ltb p.covered p.n) both)) (ltb→lt p.covered p.n (and_right (eqb p.filled p.n) (ltb p.covered p.n) both)) refl
+nowhere p End e n l f z t i b = subst T n tt
+
+-- before the length there is no index to fill
+pub no-index : (p : Progress) (s : Loading) → CountsLoaded p s → p.m ≡ 0 → p.n ≡ 0
+unfolding total
+no-index p s c e = let z : s.m ≡ 0 = sym c.m ∙ e in c.n ∙ rw z

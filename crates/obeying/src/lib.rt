@@ -3,8 +3,8 @@
 
 #![tactic(auto)]
 
-ghost use Rattle.std.specs.Prelude.{◌≡◌, true, ◌+◌, ◌^◌, ◌<◌, ◌≤◌, ◌==◌, IsTrue, count_by};
-ghost use Rattle.codebook.specs.Progress.{stands, Grows, Obeys, run_command, block_fits};
+ghost use Rattle.std.specs.Prelude.{◌≡◌, true, false, ◌+◌, ◌^◌, ◌<◌, ◌≤◌, ◌==◌, IsTrue, count_by};
+ghost use Rattle.codebook.specs.Progress.{is_end, stands, Grows, Obeys, run_command, block_fits};
 
 use codebook::{Command, FREE, Progress, Refusal, Step, TIED, Tables, ZERO};
 use numerals::word_power;
@@ -150,20 +150,36 @@ fn block(p: Progress, j: u32, bias: i32, tables: &mut Tables) -> Result<Progress
     Ok(q)
 }
 
-// A command that may stand here, with all its operands.
+// A command that may stand here, with all its operands, and is not the end.
 fn grow(c: Command, p: Progress, tables: &mut Tables) -> Result<Progress, Refusal>
-    requires { stands p c ≡ true }
+    requires { (stands p c ≡ true) × (is_end c ≡ false) }
     ensures { Grows p c tables.old tables.new result }
 {
-    match c {
-        Command::Length(m) => begin(p, m, tables),
-        Command::Free(count) => run(p, count, FREE, tables),
-        Command::Zero(count) => run(p, count, ZERO, tables),
-        Command::Tie(i) => tie(p, i, tables),
-        Command::Term(i) => term(p, i, tables),
-        Command::Block(j, bias) => block(p, j, bias, tables),
-        Command::End => Ok(p),
+    if let Command::Free(count) = c {
+        return run(p, count, FREE, tables);
     }
+    if let Command::Zero(count) = c {
+        return run(p, count, ZERO, tables);
+    }
+    if let Command::Term(i) = c {
+        return term(p, i, tables);
+    }
+    if p.m == 0 {
+        let Command::Length(m) = c else {
+            return Err(Refusal::Misplaced);
+        };
+        return begin(p, m, tables);
+    }
+    if p.filled < p.n {
+        let Command::Tie(i) = c else {
+            return Err(Refusal::Misplaced);
+        };
+        return tie(p, i, tables);
+    }
+    let Command::Block(j, bias) = c else {
+        return Err(Refusal::Misplaced);
+    };
+    block(p, j, bias, tables)
 }
 
 // A command after those before it, its operands whole or cut; the end has none.

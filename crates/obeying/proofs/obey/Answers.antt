@@ -13,6 +13,9 @@ returns-then-not-stands c old s h =
     let a = c.args in
     refuse _ _ Misplaced (verdict-misplaced a.p s h.counts a.c a.whole (sym c.stands.ensures ∙ c.if-not-stands.true)) refl
 
+pub grow-requires : goal.grow-requires
+grow-requires c = (sym c.stands.ensures ∙ c.if-not-stands.false, not-end c.args.c c.in_default.not-End)
+
 pub returns-in-End : goal.returns-in-End
 unfolding is_end byte_of next
 returns-in-End c old s h =
