@@ -1,15 +1,15 @@
 -- Signed locals of 32 bits. A local holds bits, so its value z stands in a need as what is read back from them, `back z`; these laws say that a
--- test, a sum, a difference, a negation and a cast of such readings fit and are those of the values. Bounds are facts on `nat_abs z`, which
+-- test, a sum, a difference and a negation of such readings fit and are those of the values. Bounds are facts on `nat_abs z`, which
 -- omega reads. Assumes nothing.
 use mathlib.Core.Path.{◌≡◌, refl, sym, ap, ap₂, ◌∙◌, subst}
 use mathlib.Core.Bool.{true, false, not}
-use Prim.Native.Nat.{ℕ, ◌+◌, ◌≤◌, ◌<◌}
+use Prim.Native.Nat.{◌+◌, ◌≤◌, ◌<◌}
 use native.Mathlib.Omega.{arith}
 use lib.IntN.{ℤ, pos, negsuc, neg_ℤ, nat_abs, ◌+ℤ◌, ◌-ℤ◌, +ℤ_idl}
 use lib.Signed.{mag, lt_z, non_neg}
 use lib.Dec.{T}
 use mir.Syntax.{w32}
-use mir.Val.{Fits, SFits, to_z, of_z}
+use mir.Val.{SFits, to_z, of_z}
 use mir.Facts.{to_z-of_z}
 use borrow.Author.Tests.{le-ltb, not-false}
 use Rattle.laws.proofs.Integers.{neg-abs, add-abs}
@@ -74,13 +74,5 @@ module _ {a : ℤ} (fa : SFits w32 a) (h : nat_abs a < 2147483648) where
   zero-fits : SFits w32 (pos 0)
   zero-fits = abs-fits (pos 0) (omega arith)
 
-  pub neg-fits : SFits w32 (pos 0 -ℤ back a)
-  neg-fits = sub-fits zero-fits fa (omega arith)
-
   pub neg_is : back (pos 0 -ℤ back a) ≡ neg_ℤ a
   neg_is = sub_is zero-fits fa (omega arith) ∙ +ℤ_idl (neg_ℤ a)
-
--- ---- a cast to u32 of what is not below 0
-
-pub unsigned : {y : ℤ} (n : ℕ) → y ≡ pos n → n < 2147483648 → T (non_neg y) × Fits w32 (nat_abs y)
-unsigned n e h = subst (λ (x : ℤ). T (non_neg x) × Fits w32 (nat_abs x)) (sym e) (tt, record { fits = omega arith })
