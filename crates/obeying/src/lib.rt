@@ -121,7 +121,13 @@ fn fits(covered: u32, n: u32, j: u32, bias: i32) -> bool
 fn count_free(kinds: &[u8]) -> usize
     ensures { result ≡ count_by (λ kind. kind == FREE) kinds.now }
 {
-    kinds.iter().filter(|kind| **kind == FREE).count()
+    let mut free = 0;
+    for kind in kinds {
+        if *kind == FREE {
+            free += 1;
+        }
+    }
+    free
 }
 
 // The next block, at the first index that is in none.
