@@ -7,7 +7,7 @@
  * A buffer is a pointer and a length in entries. All that is asked of the caller is what C asks of any: each pointer leads to that many
  * entries, never null (also where the length is 0), and a buffer that is written overlaps no other. No length and no value is taken on the
  * caller's word. Nothing is kept between calls, nothing is allocated; the calls share nothing, so that any number may run at once on buffers of their own.
- * A decoding call needs some 44 KB of stack (42 as measured, and 2 that came since), the others at most 11 KB.
+ * A decoding call needs some 44 KB of stack, the others at most 11 KB, as measured.
  *
  * Words and data are bits, one to a byte, 0 or 1. A word has n entries and data k, where n and k are the book's.
  *

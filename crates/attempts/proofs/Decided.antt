@@ -3,7 +3,7 @@
 use mathlib.Core.Path.{◌≡◌, ap, ◌∙◌, subst}
 use mathlib.Core.List.{List, ◌++◌}
 use Prim.Native.Nat.{ℕ, ◌≤◌}
-use Rattle.std.specs.Prelude.{cond, Result, Ok, Err, is_ok}
+use Rattle.std.specs.Prelude.{Bool, true, cond, Result, Ok, Err, is_ok}
 use Rattle.polar.specs.Layers.{part}
 use lib.IntN.{ℤ, pos}
 use lib.ListN.{length, drop, replicate}
@@ -27,11 +27,9 @@ use Rattle.attempts.specs.Attempt.{Ready, answered, judged_as, judged_final}
 use Rattle.attempts.proofs.Judged.{run_lent, finds, data_are, answered-ok, answered-err, judged-same, reader-same, given-out, given-none, ran-done, ran-refused, ran-lent}
 
 -- what is given where a reading is refused, and where it is not
-pub all-given : {z : Result HookRecord Refusal} {h : HookRecord} {new : List ℕ} (old xs : List ℕ) → z ≡ Ok h →
-    new ≡ cond (is_ok z) (part 0 (length old) xs) old → length old ≡ length xs → new ≡ xs
+pub all-given : {b : Bool} {new : List ℕ} (old xs : List ℕ) → new ≡ cond b (part 0 (length old) xs) old → length old ≡ length xs → b ≡ true → new ≡ xs
 unfolding part
-all-given old xs q e l =
-    e ∙ ap (λ (y : Result HookRecord Refusal). cond (is_ok y) (part 0 (length old) xs) old) q ∙ ap (λ n. part 0 n xs) l ∙ take-length xs
+all-given old xs e l q = e ∙ ap (λ y. cond y (part 0 (length old) xs) old) q ∙ ap (λ n. part 0 n xs) l ∙ take-length xs
 
 pub none-given : {z : Result HookRecord Refusal} {r : Refusal} {new : List ℕ} (old xs : List ℕ) → z ≡ Err r → new ≡ cond (is_ok z) xs old → new ≡ old
 none-given old xs q e = e ∙ ap (λ (y : Result HookRecord Refusal). cond (is_ok y) xs old) q

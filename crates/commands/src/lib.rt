@@ -2,8 +2,8 @@
 
 #![tactic(auto)]
 
-ghost use Rattle.std.specs.Prelude.{◌≡◌, ◌<◌, ◌≤◌, length, IsTrue, SomeIff};
-ghost use Rattle.codebook.specs.Loading.{listed, width, command};
+ghost use Rattle.std.specs.Prelude.{◌≡◌, ◌*◌, ◌^◌, ◌<◌, ◌≤◌, length, IsTrue, SomeIff};
+ghost use Rattle.codebook.specs.Loading.{listed, width, big_endian, command};
 ghost use Rattle.codebook.specs.Progress.{read_at};
 
 use codebook::{Command, Found};
@@ -23,6 +23,19 @@ fn width_of(byte: u8) -> Option<usize>
     }
 }
 
+// The number that these bytes make. Where they are as many as a command of this kind has, which they are unless they are cut off, their number is known
+// to the compiler, and no loop goes by it.
+fn operand<const N: usize>(bytes: &[u8]) -> u32
+    requires { (N ≤ 4) × (length bytes.now ≤ 4) }
+    ensures value { result ≡ big_endian 0 bytes.now }
+    ensures bound { result < 2 ^ (8 * length bytes.now) }
+{
+    match bytes.as_array::<N>() {
+        Some(whole) => number(whole),
+        None => number(bytes),
+    }
+}
+
 // The command that a listed byte and its operands make; without them, they are taken to be 0.
 #[tactic(auto, using(std::proofs::lemmas::Bool::Decides::nat_tests), unfolding(codebook::specs::Loading::command, codebook::specs::Loading::width))]
 fn command_of(byte: u8, operands: &[u8]) -> Command
@@ -30,14 +43,14 @@ fn command_of(byte: u8, operands: &[u8]) -> Command
     ensures { result ≡ command byte operands.now }
 {
     match byte {
-        0x10 => Command::Length(number(operands)),
-        0x01 => Command::Free(number(operands)),
-        0x02 => Command::Zero(number(operands)),
-        0x03 => Command::Tie(number(operands)),
-        0x04 => Command::Term(number(operands)),
+        0x10 => Command::Length(operand::<1>(operands)),
+        0x01 => Command::Free(operand::<2>(operands)),
+        0x02 => Command::Zero(operand::<2>(operands)),
+        0x03 => Command::Tie(operand::<2>(operands)),
+        0x04 => Command::Term(operand::<2>(operands)),
         0x05 => {
             let (j, bias) = operands.split_at(operands.len().min(1));
-            Command::Block(number(j), number(bias).cast_signed())
+            Command::Block(operand::<1>(j), operand::<4>(bias).cast_signed())
         }
         _ => Command::End,
     }

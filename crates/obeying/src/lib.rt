@@ -3,7 +3,7 @@
 
 #![tactic(auto)]
 
-ghost use Rattle.std.specs.Prelude.{◌≡◌, true, false, ◌+◌, ◌^◌, ◌<◌, ◌≤◌, ◌==◌, IsTrue, count_by};
+ghost use Rattle.std.specs.Prelude.{◌≡◌, true, false, ◌+◌, ◌^◌, ◌<◌, ◌≤◌, ◌==◌, IsTrue, count_by, length};
 ghost use Rattle.codebook.specs.Progress.{is_end, stands, Grows, Obeys, run_command, block_fits};
 
 use codebook::{Command, FREE, Progress, Refusal, Step, TIED, Tables, ZERO};
@@ -118,10 +118,17 @@ fn fits(covered: u32, n: u32, j: u32, bias: i32) -> bool
 }
 
 // How many of these codes are those of free indices.
-fn count_free(kinds: &[u8]) -> usize
+fn count_free(kinds: &[u8]) -> u32
+    requires { length kinds.now ≤ 512 }
     ensures { result ≡ count_by (λ kind. kind == FREE) kinds.now }
 {
-    kinds.iter().filter(|kind| **kind == FREE).count()
+    let mut free = 0;
+    for kind in kinds {
+        if *kind == FREE {
+            free += 1;
+        }
+    }
+    free
 }
 
 // The next block, at the first index that is in none.
@@ -146,7 +153,7 @@ fn block(p: Progress, j: u32, bias: i32, tables: &mut Tables) -> Result<Progress
     q.tying = false;
     q.blocks = p.blocks + 1;
     q.covered = end;
-    q.free = p.free + free as u32;
+    q.free = p.free + free;
     Ok(q)
 }
 

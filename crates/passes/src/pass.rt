@@ -103,12 +103,13 @@ fn candidate(key: u64, at: usize, directions: &Directions) -> Candidate
     }
 }
 
-// The word of least key from a bound on, of a block with these values and directions, and the one of least key after it.
+// The word of least key from a bound on, of a block with these values and directions, and the one of least key after it. The sets are not touched.
 pub fn find_two(values: &[i32], bound: u64, directions: &Directions, scratch: &mut Scratch) -> Pair
     requires { (length values.now ≤ 32) × All (Within 1048064) values.now }
-    ensures { (e : ℕ → Entry) → Spans directions.now.words directions.now.sets directions.now.free e → ((w : ℕ) → (e w).word < 4294967296)
+    ensures found { (e : ℕ → Entry) → Spans directions.now.words directions.now.sets directions.now.free e → ((w : ℕ) → (e w).word < 4294967296)
         → (let n = 2 ^ directions.now.free in
         (result.first ≡ answer e values.now (least_from (setting_key e values.now) bound n)) × (result.second ≡ answer e values.now (after_first (setting_key e values.now) bound n))) }
+    ensures sets_as_before { scratch.new.sets ≡ scratch.old.sets }
 {
     let count = double_all(&mut scratch.words, directions);
     let runs = prepare(values, &mut scratch.sums);

@@ -43,6 +43,7 @@ pub fn nearest_pair(
         → (result.first ≡ candidate_of B (nearest B values.now x b))
         × ((w : Word) → nearest B values.now x b ≡ some w
         → result.second ≡ candidate_of B (next_after w B values.now x b)) }
+    ensures sets_as_before { scratch.new.sets ≡ scratch.old.sets }
 {
     let mut directions = Directions::new();
     walk(tables, start, power(j as usize), parities, &mut directions);

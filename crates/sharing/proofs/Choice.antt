@@ -86,7 +86,7 @@ module _ {holders : List ℕ} {h N i : ℕ} (x : Shared holders h N i) where
         x.counted o (own-most N i x.others x.low x.few) ∙ times_none o (i ∷ x.others) (other, new)
 
     -- the first id from 1 on that none holds is that one
-    takes : (r : ℕ) → 1 ≤ r → ((k : ℕ) → 1 ≤ k → k < r → 1 ≤ held_at holders h k) → (r ≤ N → held_at holders h r ≡ 0) → r ≡ own_of i x.others
+    pub takes : (r : ℕ) → 1 ≤ r → ((k : ℕ) → 1 ≤ k → k < r → 1 ≤ held_at holders h k) → (r ≤ N → held_at holders h r ≡ 0) → r ≡ own_of i x.others
     unfolding All
     takes r some full free =
         let o : ℕ = own_of i x.others in

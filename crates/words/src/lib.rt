@@ -70,6 +70,7 @@ pub fn nearest_words(
         → (let vs = part (spot m (id_at memory.now.rows.now slot at.height) at.height) (2 ^ at.height) memory.now.numbers.now in
         (result.first ≡ candidate_of B (W.nearest B vs x b))
         × ((w : Word) → W.nearest B vs x b ≡ some w → result.second ≡ candidate_of B (W.next_after w B vs x b))) }
+    ensures sets_as_before { scratch.new.sets ≡ scratch.old.sets }
 {
     let values = values_of(memory, m, slot, at.height);
     let parities = cells_of(memory.rows, slot).parities;

@@ -9,5 +9,5 @@ pub returns-in-5 : goal.returns-in-5
 unfolding command
 returns-in-5 c =
     let bytes = c.args.operands.now in
-    let bias = c.number-in-5-2 in
-    rw (c.in-5.is, to_z-of_z w32 c.cast_signed.result (record { sfits = c.cast_signed.type_inv }), c.cast_signed.ensures, signed-is bias.result bias.type_inv, bias.ensures.value, c.number-in-5.ensures.value, c.split_at.ensures.front, c.split_at.ensures.back, c.min.ensures, first-byte bytes, other-bytes bytes)
+    let bias = c.operand-in-5-2 in
+    rw (c.in-5.is, to_z-of_z w32 c.cast_signed.result (record { sfits = c.cast_signed.type_inv }), c.cast_signed.ensures, signed-is bias.result bias.type_inv, bias.ensures.value, c.operand-in-5.ensures.value, c.split_at.ensures.front, c.split_at.ensures.back, c.min.ensures, first-byte bytes, other-bytes bytes)

@@ -32,6 +32,12 @@ returns-then-not-light c old s h =
     let count = c.count_free-free.ensures ∙ block-free a.p a.tables.now old s h a.j a.bias _ (omega (arith, c.word_power.ensures)) c.requires.0 (omega (arith, c.word_power.ensures, c.fits.ensures.within c.if-not-fits.false)) in
     refuse _ _ TooManyFree (block_fit a.p s h.counts a.j a.bias fit ∙ rw (lt-leb (free_count (take (2 ^ a.j) (drop s.covered s.kinds))) 8 (rw count at c.if-not-light.true))) refl
 
+pub count_free-free-requires : goal.count_free-free-requires
+count_free-free-requires c =
+    let p = c.args.p in
+    let size = p.covered + c.word_power.result - p.covered in
+    omega (arith, p.small, c.word_power.ensures, c.fits.ensures.within c.if-not-fits.false, length-take size (drop p.covered c.args.tables.now.kinds))
+
 pub invariant_of-q-clause-room : goal.invariant_of-q-clause-room
 invariant_of-q-clause-room c = omega (arith, c.args.p.room, c.word_power.ensures, pow_pos c.args.j)
 

@@ -1,8 +1,10 @@
 -- `attempts::attempt::decide` meets its contract: the run is the reader's on the lent part of the workspace, its word is of the code and the data are that word's, the verdict is the
 -- call's, and so is what is handed out. Assumes nothing.
-use mathlib.Core.Path.{◌≡◌, sym, ◌∙◌}
+use mathlib.Core.Path.{◌≡◌, sym, ap, ◌∙◌}
 use native.Mathlib.Omega.{arith}
+use Rattle.std.specs.Prelude.{is_ok}
 use mathlib.Core.List.{◌++◌}
+use borrow.Author.Rules.{rules}
 use lib.IntN.{pos}
 use lib.ListN.{length, drop, replicate}
 use Rattle.polar.specs.Transform.{transform}
@@ -125,9 +127,10 @@ returns-in-Ok-clause-called c = λ r.
     let w = (goal.at.returns-in-Ok-clause-called c).After-run_cleared-counts in
     let ds = read (goal.at.returns-in-Ok-clause-called c).After-data_of r (kinds-fit w r) in
     let o = c.run_cleared-counts.ensures.fact (ready-running r) in
+    let good = ap is_ok c.in-Ok.is in
     handed-out r c.args.r c.args.s (buffers w) p.ranged.0 p.workspace_needed.0 o.0 (left w r) ds _ (cleared w).0 (cleared w).1 o.2 o.3 o.4
     c.in-Ok.hook (sym c.in-Ok.is ∙ c.judge-read.ensures)
-    (all-given _ _ c.in-Ok.is c.give.ensures.given.0 f.0) (all-given _ _ c.in-Ok.is c.give.ensures.given.1 f.1)
+    (search (rules, all-given)) (search (rules, all-given))
 
 pub returns-in-Err-clause-called : goal.returns-in-Err-clause-called
 unfolding arrays_lent numbers_needed bytes_needed

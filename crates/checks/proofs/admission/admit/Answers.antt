@@ -1,11 +1,13 @@
 -- `checks::admission::admit` meets its contract: by the outcome of each test, in their order. Assumes nothing.
 use mathlib.Core.Path.{◌≡◌, refl, sym, ap, ◌∙◌}
 use mathlib.Core.Bool.{Bool, true}
+use native.Mathlib.Omega.{arith}
 use Rattle.std.specs.Prelude.{Ok, Err}
 use Rattle.std.proofs.lemmas.Result.{err_from_is_err_and}
+use Rattle.codebook.specs.declared.Refusal.TheVariants.{BadSetting}
 use Rattle.codebook.specs.declared.Shape.{Shape}
 use Rattle.settings.specs.declared.Settings.{Settings}
-use Rattle.settings.specs.Settings.{settings_ok}
+use Rattle.settings.specs.Settings.{settings_ok, checked_as}
 use Rattle.settings.proofs.Ranges.{settings-tell, none_made, these-made}
 use Rattle.machine.specs.declared.Manner.{Manner}
 use Rattle.machine.specs.declared.Lengths.{Lengths}
@@ -16,19 +18,20 @@ use Rattle.checks.proofs.admission.admit.Goals.{In_ok-s}
 
 -- the settings were made, and are those asked
 settled : (c : In_ok-s) → (settings_ok c.args.asked ≡ true) × (c.in_ok-s.s ≡ c.args.asked)
-settled c = these-made c.args.asked c.in_ok-s.s (sym c.in_ok-s.ensures)
+settled c = these-made c.args.asked c.in_ok-s.s (grind arith)
 
 -- what fits is tested of them
 fitted : (k : Manner) (x : Shape) (l : Lengths) (s asked : Settings) (b : Bool) → s ≡ asked → b ≡ fitting k x s l → fitting k x asked l ≡ b
 fitted k x l s asked b e f = sym (f ∙ ap (λ (s : Settings). fitting k x s l) e)
 
 pub returns-in_err-s : goal.returns-in_err-s
-unfolding admitted_by
+unfolding admitted_by checked_as
 returns-in_err-s c =
     let a = c.args in
     let p = err_from_is_err_and c.from_residual.result c.from_residual.ensures.1 in
-    let n = none_made a.asked c.in_err-s.field-0.0 (sym c.in_err-s.ensures) in
-    rw (p.1, p.2) (ap Err n.1 ∙ admitted a.k a.x a.asked a.l a.values.now n.0 refl refl)
+    let none = none_made a.asked BadSetting (grind arith) in
+    let bad : c.in_err-s.field-0.0 ≡ BadSetting = grind arith in
+    rw (p.1, p.2) (ap Err bad ∙ admitted a.k a.x a.asked a.l a.values.now none.0 refl refl)
 
 pub all_fit-requires : goal.all_fit-requires
 all_fit-requires c =

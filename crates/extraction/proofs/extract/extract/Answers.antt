@@ -25,7 +25,7 @@ outrun-requires-clause-paths_bound c =
       c.third.ensures.lent_2.0.few,
       f.2,
       omega (arith, c.blocks_of.ensures, extract-blocks c.requires.extracting),
-      c.requires.by_index c.blocks_of.result,
+      c.requires.by_index _,
       omega (arith, f.1, c.requires.le_paths.4),
     )
 

@@ -57,8 +57,8 @@ candidate-requires-2 c =
     let e = taken w.result (2 ^ n) w.new.table w.ensures.1 (omega (arith, w.ensures.0, few n c.args.directions.now.few)) in
     (two-within _ c.args.bound _ c.pass-two.result c.pass-two.ensures (omega (arith, e, few n c.args.directions.now.few))).1
 
-pub returns : goal.returns
-returns c = λ e h l.
+pub returns-clause-found : goal.returns-clause-found
+returns-clause-found c = λ e h l.
     let a = c.args in
     let d = a.directions.now in
     let n = 2 ^ d.free in

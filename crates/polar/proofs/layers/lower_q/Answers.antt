@@ -8,7 +8,9 @@ use Rattle.polar.proofs.Writes.{q-small, q-next, q-written}
 use Rattle.polar.proofs.layers.lower_q.Goals as goal
 
 pub q-requires : goal.q-requires
-q-requires c = q-small c.requires.clear c.requires.all c.loop-i.i c.loop-i.invariant (omega arith)
+q-requires c =
+    let s = q-small c.requires.clear c.requires.all c.loop-i.i c.loop-i.invariant (omega arith) in
+    (omega (arith, s), omega (arith, s))
 
 pub loop-i-preserved : goal.loop-i-preserved
 loop-i-preserved c =

@@ -25,8 +25,8 @@ find_two-requires c =
     let s = c.requires.searchable in
     (omega (arith, s.count, s.walk.short), s.small)
 
-pub returns-in-Some : goal.returns-in-Some
-returns-in-Some c =
+pub returns-in-Some-clause-first_value : goal.returns-in-Some-clause-first_value
+returns-in-Some-clause-first_value c =
     let a = c.args in
     let t = a.tables.now in
     let s = c.requires.searchable in
@@ -38,13 +38,11 @@ returns-in-Some c =
     let r = c.pair_free.ensures (entry t.kinds t.terms a.start a.parities 8) (all-bytes t.kinds t.terms a.start a.parities c.power.result d.free d.words d.sets q w.ensures.0 w.ensures.1 f) in
     let settings-are : 256 ≡ settings t.kinds a.start 8 = sym (count-of t.kinds t.terms a.start a.parities c.power.result d.free d.words d.sets q w.ensures.0 w.ensures.1 8 f) in
     let is = pair-among t.kinds t.terms a.start a.parities a.j 8 256 c.in-Some.octet.now (sym q ∙ c.power.ensures) settings-are c.pair_free.result r.0 r.1 in
-    record {
-      first_value = λ B b x o h e.
-          pair-nearest t.kinds t.terms a.start a.parities a.j a.values.now s.count B b x o h e c.pair_free.result (is ∙ ap (found_pair t.kinds t.terms a.start a.parities (2 ^ a.j)) chunk.same);
-    }
+    λ B b x o h e.
+    pair-nearest t.kinds t.terms a.start a.parities a.j a.values.now s.count B b x o h e c.pair_free.result (is ∙ ap (found_pair t.kinds t.terms a.start a.parities (2 ^ a.j)) chunk.same)
 
-pub returns-in-Some-2 : goal.returns-in-Some-2
-returns-in-Some-2 c =
+pub returns-in-Some-2-clause-first_value : goal.returns-in-Some-2-clause-first_value
+returns-in-Some-2-clause-first_value c =
     let a = c.args in
     let t = a.tables.now in
     let s = c.requires.searchable in
@@ -57,19 +55,17 @@ returns-in-Some-2 c =
     let r = c.pair_checked.ensures (entry t.kinds t.terms a.start a.parities 8) z.1 in
     let settings-are : 128 ≡ settings t.kinds a.start 8 = sym (count-of t.kinds t.terms a.start a.parities c.power.result d.free d.words d.sets q w.ensures.0 w.ensures.1 7 f) in
     let is = pair-among t.kinds t.terms a.start a.parities a.j 8 128 c.in-Some.octet.now (sym q ∙ c.power.ensures) settings-are c.pair_checked.result r.0 r.1 in
-    record {
-      first_value = λ B b x o h e.
-          pair-nearest t.kinds t.terms a.start a.parities a.j a.values.now s.count B b x o h e c.pair_checked.result (is ∙ ap (found_pair t.kinds t.terms a.start a.parities (2 ^ a.j)) chunk.same);
-    }
+    λ B b x o h e.
+    pair-nearest t.kinds t.terms a.start a.parities a.j a.values.now s.count B b x o h e c.pair_checked.result (is ∙ ap (found_pair t.kinds t.terms a.start a.parities (2 ^ a.j)) chunk.same)
 
-pub returns-in_default : goal.returns-in_default
-returns-in_default c =
+pub returns-in_default-clause-first_value : goal.returns-in_default-clause-first_value
+returns-in_default-clause-first_value c =
     let a = c.args in
     let t = a.tables.now in
     let s = c.requires.searchable in
     let w = c.walk in
     let n = c.power.result in
     let short : n ≤ 32 = omega (arith, c.power.ensures, s.walk.short) in
-    let r = c.find_two.ensures (entry t.kinds t.terms a.start a.parities n) w.ensures.1 (entry-word t.kinds t.terms a.start a.parities n short) in
+    let r = c.find_two.ensures.found (entry t.kinds t.terms a.start a.parities n) w.ensures.1 (entry-word t.kinds t.terms a.start a.parities n short) in
     let is = pair-passed t.kinds t.terms a.start a.parities a.j n (2 ^ w.new.directions.free) a.values.now c.power.ensures w.ensures.0 c.find_two.result r.0 r.1 in
-    record { first_value = λ B b x o h e. pair-nearest t.kinds t.terms a.start a.parities a.j a.values.now s.count B b x o h e c.find_two.result is }
+    λ B b x o h e. pair-nearest t.kinds t.terms a.start a.parities a.j a.values.now s.count B b x o h e c.find_two.result is

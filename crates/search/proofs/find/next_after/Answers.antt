@@ -59,7 +59,7 @@ returns-in_default c =
     let bound = c.after-bound.result in
     let short : n ≤ 32 = omega (arith, c.power.ensures, s.walk.short) in
     let two = c.find_two-two in
-    let r = two.ensures (entry t.kinds t.terms a.start a.parities n) w.ensures.1 (entry-word t.kinds t.terms a.start a.parities n short) in
+    let r = two.ensures.found (entry t.kinds t.terms a.start a.parities n) w.ensures.1 (entry-word t.kinds t.terms a.start a.parities n short) in
     let first = r.0 ∙ found_among t.kinds t.terms a.start a.parities a.j n (2 ^ w.new.directions.free) a.values.now c.power.ensures w.ensures.0 bound in
     let next : Next = record { first = two.result.first; second = two.result.second; known = true } in
     record {

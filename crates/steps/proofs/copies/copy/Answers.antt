@@ -93,7 +93,7 @@ fork-requires-clause-lent c =
       lent-on l (ap length others.0) (record { deep = has.deep; many = has.many; held = f.held.0; numbers = rw others.1 has.numbers; bytes = rw others.2 has.bytes }),
       apart.1,
       f.held.2,
-      c.requires.le_paths.2,
+      omega arith,
       c.requires.lent.1,
     )
 

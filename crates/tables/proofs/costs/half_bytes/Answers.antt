@@ -1,24 +1,28 @@
 -- `tables::costs::half_bytes` meets its contract: a half byte's cost is the sum of those of two pairs of bits. Assumes nothing.
-use mathlib.Core.Path.{refl, ap, ap₂, ◌∙◌}
-use Prim.Native.Nat.{◌+◌, ◌*◌, ◌/◌, ◌%◌, ◌≤◌}
+use mathlib.Core.Path.{◌≡◌, refl, ap, ap₂, ◌∙◌}
+use mathlib.Core.List.{List}
+use Prim.Native.Nat.{ℕ, ◌+◌, ◌*◌, ◌/◌, ◌%◌, ◌≤◌}
 use native.Mathlib.Omega.{arith}
+use lib.IntN.{ℤ, pos, nat_abs}
 use lib.ListN.{get_or}
+use borrow.Author.Rules.{rules}
 use Rattle.std.proofs.lemmas.Nat.{mul-le}
+use Rattle.laws.specs.Lists.{All}
+use Rattle.laws.proofs.Signed.{back}
 use Rattle.laws.proofs.Stores.{stored_more}
+use Rattle.polar.specs.Layers.{Within}
 use Rattle.outer.proofs.Sums.{two-pairs, read_back, four-back}
 use Rattle.tables.proofs.costs.half_bytes.Goals as goal
 
+-- a value that was read is small
+small_back : {r : ℤ} (l : List ℤ) (i : ℕ) → All (Within 1048064) l → r ≡ get_or l i (pos 0) → nat_abs (back r) ≤ 1048064
+small_back l i h e = (read_back l i h e).1
+
 pub pairs-low-requires : goal.pairs-low-requires
-pairs-low-requires g c =
-    let vs = c.args.values.now in
-    let h = c.requires.small.0 in
-    ((read_back vs c.args.from h c.value.ensures).1, (read_back vs (c.args.from + 1) h c.value-2.ensures).1)
+pairs-low-requires g c = (search (rules, small_back), search (rules, small_back))
 
 pub pairs-high-requires : goal.pairs-high-requires
-pairs-high-requires g c =
-    let vs = c.args.values.now in
-    let h = c.requires.small.0 in
-    ((read_back vs (c.args.from + 2) h c.value-3.ensures).1, (read_back vs (c.args.from + 3) h c.value-4.ensures).1)
+pairs-high-requires g c = (search (rules, small_back), search (rules, small_back))
 
 pub overflow_mul-table : goal.overflow_mul-table
 overflow_mul-table g c =
@@ -44,4 +48,4 @@ returns-clause-costs g c = λ v l.
     let low = c.pairs-low.ensures (v % 4) (omega arith) in
     let high = c.pairs-high.ensures (v / 4) (omega arith) in
     c.loop-v.invariant.done v (omega arith)
-    ∙ ap (λ x. x * g.row.SCALE + v * g.row.STEP) (ap₂ ◌+◌ low.0 high.0 ∙ two-pairs v _ _ _ _ ∙ four-back v c.args.from c.args.values.now c.requires.small.0 c.value.ensures c.value-2.ensures c.value-3.ensures c.value-4.ensures)
+    ∙ ap (λ x. x * g.row.SCALE + v * g.row.STEP) (ap₂ ◌+◌ low.0 high.0 ∙ two-pairs v _ _ _ _ ∙ search (rules, four-back))

@@ -4,7 +4,7 @@ use Prim.Native.Nat.{ℕ}
 use native.Mathlib.Omega.{arith}
 use borrow.Author.Tests.{eq-eqb, ne_eqb}
 use Rattle.reader.specs.Arrays.{store, claim}
-use Rattle.heights.specs.Workspace.{Parts}
+use Rattle.heights.specs.Workspace.{Id, Parts}
 use Rattle.standing.specs.Seen.{memory, StepSeen}
 use Rattle.views.specs.Steps.{Claimable}
 use Rattle.views.proofs.Seeing.{took, has_on, ids-only, store-self, seen-id, seen-some, seen-shared, seen-take, seen-put}
@@ -25,8 +25,9 @@ copy_half-requires c =
     let p = c.requires.has_arrays in
     let w = c.requires.viewed in
     let e = c.take-to.ensures in
-    let t = took e.held_2 e.rows_after e.exchanged e.value in
-    (p.0.deep, p.2, p.0.many, p.0.numbers, rw c.id_of-from.ensures (seen-some w.seen p.2 (w.met (omega arith))), t.id)
+    let old : Id c.args.layout.arrays c.id_of-from.result = rw c.id_of-from.ensures (seen-some w.seen p.2 (w.met (omega arith))) in
+    let new = (took e.held_2 e.rows_after e.exchanged e.value).id in
+    (p.0.deep, p.2, p.0.many, p.0.numbers, search, search)
 
 pub returns-then-from-to-clause-has_arrays_2 : goal.returns-then-from-to-clause-has_arrays_2
 unfolding memory

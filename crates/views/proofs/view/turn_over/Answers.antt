@@ -7,7 +7,7 @@ use native.Mathlib.Omega.{arith}
 use lib.ListN.{take, drop}
 use Rattle.polar.specs.Soft.{Ps}
 use Rattle.reader.specs.Arrays.{store}
-use Rattle.heights.specs.Workspace.{Parts}
+use Rattle.heights.specs.Workspace.{Id, Parts}
 use Rattle.standing.specs.Seen.{memory, StepSeen}
 use Rattle.views.proofs.Seeing.{took, has_on, ids-only, seen-id, seen-some, seen-vals, seen-shared, seen-put}
 use Rattle.views.proofs.view.turn_over.Goals as goal
@@ -27,9 +27,11 @@ second_half-requires c =
     let w = c.requires.viewed in
     let above = rw add-one at c.id_of-from.ensures in
     let e = c.take-to.ensures in
-    let t = took e.held_2 e.rows_after e.exchanged e.value in record {
+    let up : Id c.args.layout.arrays c.id_of-from.result = rw above (seen-some w.seen p.2 w.met.upper) in
+    let here : Id c.args.layout.arrays c.id_of-word.result = rw c.id_of-word.ensures (seen-some w.seen (omega arith) w.met.has) in
+    let new = (took e.held_2 e.rows_after e.exchanged e.value).id in record {
       m_bound = (p.0.deep, p.2, p.0.many, p.0.numbers, p.0.bytes);
-      id = (rw above (seen-some w.seen p.2 w.met.upper), rw c.id_of-word.ensures (seen-some w.seen (omega arith) w.met.has), t.id);
+      id = (search, search, search);
       all = rw (above, seen-vals w.seen p.2 w.met.upper) w.met.range;
     }
 
